@@ -130,16 +130,19 @@ def class_words(codes):
     return " / ".join(name for name in names if name)
 
 
-def function_class_words(codes):
-    """Class 00 is a device's; of an interface or a function it is reserved."""
-    return class_words(codes) if codes[0] else "reserved class"
+# Class 00 is a device's: for an interface it is reserved, and an association can't have it.
+ZERO_CLASS = {"bInterface": "reserved class", "bFunction": "class not allowed"}
+
+
+def function_class_words(stem, codes):
+    return class_words(codes) if codes[0] else ZERO_CLASS[stem]
 
 
 def class_fields(stem, codes):
     for i, name in enumerate(("Class", "SubClass", "Protocol")):
         meaning = CLASSES.get(tuple(codes[: i + 1]))
-        if i == 0 and codes[0] == 0 and stem != "bDevice":
-            meaning = "reserved class"
+        if i == 0 and codes[0] == 0:
+            meaning = ZERO_CLASS.get(stem, meaning)
         yield f"{stem}{name}", with_meaning(byte(codes[i]), meaning)
 
 
@@ -396,8 +399,19 @@ def row_of(d, codes):
         wanted = (class_, subclass, protocol)
         mine = codes or (None, None, None)
         if kind == d[1] and all(w is None or w == m for w, m in zip(wanted, mine)):
-            if all(w is None or d[i : i + 1] == bytes([w]) for i, w in ((2, first), (3, second))):
+            zero = zero_place(fields)
+            if all(w is None or d[i : i + 1] == bytes([w]) for i, w in ((2, first), (3, second), (zero, zero and 0))):
                 return name, fields, group
+    return None
+
+
+def zero_place(fields):
+    """Where the field is that the row wants to be 0, or None."""
+    at = 2
+    for field in fields:
+        if field.endswith("=0"):
+            return at
+        at += size_of(field)
     return None
 
 
@@ -438,8 +452,13 @@ def field_words(form, b, index):
     return with_meaning(byte(b[0]), {0x22: "report", 0x23: "physical"}.get(b[0]))
 
 
+def form_of(field):
+    """The form of a field, of which the row may ask that it is 0."""
+    return field.split(":")[1].removesuffix("=0")
+
+
 def size_of(field):
-    form = field.split(":")[1]
+    form = form_of(field)
     sizes = {"bcd": 2, "index": 1, "interval": 4, "guid": 16, **dict.fromkeys(TERMINALS, 2), **dict.fromkeys(BITS, 1)}
     return sizes.get(form) or int(form.lstrip("abcdefghijklmnopqrstuvwxyz"))
 
@@ -449,11 +468,10 @@ def raw_fields(d, row, index):
     _, fields, group = row or (None, [], [])
     rest = d[2:]
     for field in fields:
-        name, form = field.split(":")
         size = size_of(field)
         if size > len(rest):
             break
-        yield name, field_words(form, rest[:size], index)
+        yield field.split(":")[0], field_words(form_of(field), rest[:size], index)
         rest = rest[size:]
     else:
         sizes = [size_of(field) for field in group]
@@ -690,17 +708,18 @@ class Explanation:
     def of_association(self, d, at, place):
         first, n = d[2], d[3]
         bound = "no interface" if n == 0 else f"interface {first}" if n == 1 else f"interfaces {first} to {first + n - 1}"
-        self.heading(2, f"association {place[2]} of {bound}, {function_class_words(d[4:7])}", at, len(d))
+        self.heading(2, f"association {place[2]} of {bound}, {function_class_words('bFunction', d[4:7])}", at, len(d))
         wrong = "it binds an interface that the set hasn't" if n else "it binds no interface"
         self.findings(2, [(13, wrong)], *place)
-        self.remarks(2, [*class_remarks(d[4]), *association_remarks(self.qualifier or self.device)])
+        forbidden = [] if d[4] else ["class 0x00 is not allowed"]
+        self.remarks(2, [*forbidden, *association_remarks(self.qualifier or self.device)])
         fields = [("bFirstInterface", first), ("bInterfaceCount", n), *class_fields("bFunction", d[4:7])]
         self.fields(2, [*fields, ("iFunction", self.index(d[7])), *tail(d[8:])])
 
     def of_interface(self, d, at, place, associations, endpoints, own):
         bound = [k for k, a in enumerate(associations) if a[2] <= d[2] < a[2] + a[3]]
         of = f" of association {bound[0]}" if bound else ""
-        text = f"interface {d[2]} alternate {d[3]}{of}, {function_class_words(d[5:8])}, {count(d[4], 'endpoint')}"
+        text = f"interface {d[2]} alternate {d[3]}{of}, {function_class_words('bInterface', d[5:8])}, {count(d[4], 'endpoint')}"
         self.heading(2, text, at, len(d))
         texts = [
             (3, "this interface has this alternate setting already"),
@@ -748,7 +767,7 @@ class Explanation:
 
     def of_string(self, d, at):
         units = [little(d[i : i + 2]) for i in range(2, len(d), 2)]
-        if self.languages is None:
+        if self.languages is None and (self.device is not None or names_languages(d)):
             self.languages = units
             self.heading(0, " ".join(["languages", *map(word, units)]), at, len(d))
             return
@@ -767,7 +786,7 @@ class Explanation:
             (d[1] == 1 and len(d) == 18 and at == 0)
             or (d[1] == 6 and len(d) == 10 and self.device is not None)
             or (d[1] in (2, 7) and len(d) >= 9)
-            or (d[1] == 3 and len(d) % 2 == 0 and (len(d) >= 4 or self.languages is not None))
+            or (d[1] == 3 and len(d) % 2 == 0 and (len(d) >= 4 or self.languages is not None or self.device is None))
         )
 
     # What a broken input looks like
@@ -779,14 +798,14 @@ class Explanation:
             return
         if not b:
             yield "there are no bytes"
-        elif all(chr(x) in TEXT for x in b):
+        elif len(b) > 1 and all(chr(x) in TEXT for x in b):
             yield "this is text; explain reads the bytes of descriptors, or their hexadecimal digits"
-        elif line.startswith("file fault 5 ") and is_dump(b[:place]):
+        elif line.startswith("file fault 5 ") and is_dump(b[:place]) and b[place : place + 2] != b"\x02\x03":
             follow = len(b) - place
             yield f"the dump ends here, and {count(follow, 'byte')} follow{'s' if follow == 1 else ''}"
         elif len(b) >= 5 and b[:2] == bytes([5, 15]):
             yield "this looks like a BOS descriptor alone"
-        elif b[:2] == bytes([len(b) % 256, 3]) and len(b) < 256 and len(b) % 2 == 0:
+        elif b[:2] == bytes([len(b) % 256, 3]) and len(b) < 256 and len(b) % 2 == 0 and not names_languages(b):
             yield "this looks like a string descriptor alone"
         elif REPORT.match(b):
             yield "this looks like a report descriptor"
@@ -821,6 +840,12 @@ class Explanation:
         if not self.fault:
             self.lines.append(count(len(self.found), "finding") if self.found else "no findings")
         return "".join(line + "\n" for line in self.lines)
+
+
+def names_languages(d):
+    """Whether a string descriptor may be a language list: primary languages are below 256, and sublanguages not 0."""
+    uppers = d[3::2]
+    return bool(uppers) and all(x & 3 == 0 and x >= 4 for x in uppers)
 
 
 def is_dump(data):

@@ -91,12 +91,27 @@ def bit_tables():
         yield from table(static_name(group, "bits"), "&str", [f'"{name}"' for name in names], named)
 
 
+def form_code(form):
+    """The form and the width of a field."""
+    kind = form.rstrip("0123456789")
+    return FORMS.get(kind) or ({"hex": "Hexadecimal", "dec": "Decimal", "type": "ReportType"}[kind], int(form[len(kind) :]))
+
+
 def field_code(field):
     """A field as the macro row! takes it: its name, its form and its width."""
-    name, form = field.split(":")
-    kind = form.rstrip("0123456789")
-    kind, width = FORMS.get(kind) or ({"hex": "Hexadecimal", "dec": "Decimal", "type": "ReportType"}[kind], form[len(kind) :])
+    name, form = field.removesuffix("=0").split(":")
+    kind, width = form_code(form)
     return f'"{name}" {kind} {width}'
+
+
+def zero_code(fields):
+    """The place of the field that is 0 by its row, if there is one: that of its first byte after bDescriptorType."""
+    place = 0
+    for field in fields.split():
+        if field.endswith("=0"):
+            return place
+        place += form_code(field.split(":")[1])[1]
+    return "_"
 
 
 def row_code(line):
@@ -104,7 +119,7 @@ def row_code(line):
     _, *codes = head.split()[:6]
     keys = " ".join("_" if code == "--" else f"0x{code}" for code in codes)
     lists = " ".join(f"[{', '.join(map(field_code, part.split()))}]" for part in parts)
-    return f'row!({keys} "{" ".join(head.split()[6:])}" {lists})'
+    return f'row!({keys} {zero_code(parts[0])} "{" ".join(head.split()[6:])}" {lists})'
 
 
 def row_tables():

@@ -39,10 +39,10 @@ fn put_class(text: &mut Text, codes: &[u8]) {
     }
 }
 
-/// The same of an interface or a function, of which class 00 is reserved.
-fn put_function_class(text: &mut Text, codes: &[u8]) {
+/// The same of an interface or a function, with what class 00 is called.
+fn put_function_class(text: &mut Text, codes: &[u8], zero: &str) {
     if codes[0] == 0 {
-        text.put("reserved class");
+        text.put(zero);
     } else {
         put_class(text, codes);
     }
@@ -272,10 +272,10 @@ impl<'a> Explainer<'a> {
         }
     }
 
-    fn class_fields(&mut self, depth: usize, names: [&str; 3], codes: &[u8], is_device: bool) {
+    fn class_fields(&mut self, depth: usize, names: [&str; 3], codes: &[u8], zero: Option<&'static str>) {
         for (place, name) in names.into_iter().enumerate() {
-            let is_reserved = place == 0 && codes[0] == 0 && !is_device;
-            let meaning = if is_reserved { Some("reserved class") } else { class_name(&codes[..=place]) };
+            let own = class_name(&codes[..=place]);
+            let meaning = if place == 0 && codes[0] == 0 { zero.or(own) } else { own };
             let text = self.field(depth, name);
             text.byte(codes[place]);
             text.meaning(meaning);
@@ -305,7 +305,7 @@ impl<'a> Explainer<'a> {
             self.text.end();
         }
         self.release_field(0, "bcdUSB", usb);
-        self.class_fields(0, ["bDeviceClass", "bDeviceSubClass", "bDeviceProtocol"], codes, true);
+        self.class_fields(0, ["bDeviceClass", "bDeviceSubClass", "bDeviceProtocol"], codes, None);
         let text = self.field(0, "bMaxPacketSize0");
         text.number(usize::from(packet));
         if usb >= 0x0300 {
@@ -345,7 +345,7 @@ impl<'a> Explainer<'a> {
             self.text.end();
         }
         self.release_field(0, "bcdUSB", usb);
-        self.class_fields(0, ["bDeviceClass", "bDeviceSubClass", "bDeviceProtocol"], codes, true);
+        self.class_fields(0, ["bDeviceClass", "bDeviceSubClass", "bDeviceProtocol"], codes, None);
         self.number_field(0, "bMaxPacketSize0", item[7]);
         self.number_field(0, "bNumConfigurations", item[8]);
         self.field(0, "bReserved").byte(item[9]);
@@ -477,23 +477,24 @@ impl<'a> Explainer<'a> {
             text.number(first + count - 1);
         }
         text.put(", ");
-        put_function_class(text, codes);
+        put_function_class(text, codes, "class not allowed");
         self.end_heading(at, item.len());
         let binds = count > 0;
         let words = if binds { "it binds an interface that the set hasn't" } else { "it binds no interface" };
         self.finding(2, 13, place, words);
-        self.class_remark(codes[0]);
+        if codes[0] == 0 {
+            self.remark(2).put("class 0x00 is not allowed\n");
+        }
         self.number_field(2, "bFirstInterface", item[2]);
         self.number_field(2, "bInterfaceCount", item[3]);
-        self.class_fields(2, ["bFunctionClass", "bFunctionSubClass", "bFunctionProtocol"], codes, false);
+        self.class_fields(
+            2,
+            ["bFunctionClass", "bFunctionSubClass", "bFunctionProtocol"],
+            codes,
+            Some("class not allowed"),
+        );
         self.index_field(2, "iFunction", item[7]);
         self.tail_field(2, &item[8..]);
-    }
-
-    fn class_remark(&mut self, class: u8) {
-        if class == 0 {
-            self.remark(2).put("class 0x00 is reserved for future use\n");
-        }
     }
 
     fn of_interface(&mut self, item: &[u8], at: usize, place: Place) {
@@ -509,7 +510,7 @@ impl<'a> Explainer<'a> {
             text.number(bound);
         }
         text.put(", ");
-        put_function_class(text, codes);
+        put_function_class(text, codes, "reserved class");
         text.put(", ");
         text.count(usize::from(item[4]), "endpoint");
         self.end_heading(at, item.len());
@@ -524,11 +525,18 @@ impl<'a> Explainer<'a> {
             self.text.count(own.filter(|(_, it)| it[1] == ENDPOINT).count(), "endpoint");
             self.text.end();
         }
-        self.class_remark(codes[0]);
+        if codes[0] == 0 {
+            self.remark(2).put("class 0x00 is reserved for future use\n");
+        }
         self.number_field(2, "bInterfaceNumber", number);
         self.number_field(2, "bAlternateSetting", item[3]);
         self.number_field(2, "bNumEndpoints", item[4]);
-        self.class_fields(2, ["bInterfaceClass", "bInterfaceSubClass", "bInterfaceProtocol"], codes, false);
+        self.class_fields(
+            2,
+            ["bInterfaceClass", "bInterfaceSubClass", "bInterfaceProtocol"],
+            codes,
+            Some("reserved class"),
+        );
         self.index_field(2, "iInterface", item[8]);
         self.tail_field(2, &item[9..]);
     }

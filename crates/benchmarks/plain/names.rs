@@ -25,6 +25,8 @@ pub struct Row {
     codes: [Option<u8>; 3],
     kind: u8,
     body: [Option<u8>; 2],
+    /// Where a byte is that is 0.
+    zero: Option<usize>,
     pub name: &'static str,
     pub fields: Vec<Field>,
     pub group: Vec<Field>,
@@ -99,6 +101,7 @@ fn read_bits(text: &'static str) -> Vec<(String, Vec<&'static str>)> {
 
 fn read_field(text: &'static str, bits: &[(String, Vec<&'static str>)]) -> Option<Field> {
     let (name, word) = text.split_once(':')?;
+    let word = word.trim_end_matches("=0");
     let plain = word.trim_end_matches(|c: char| c.is_ascii_digit());
     let number = word[plain.len()..].parse().unwrap_or(0);
     let (form, size) = match plain {
@@ -126,7 +129,11 @@ fn read_row(line: &'static str, bits: &[(String, Vec<&'static str>)]) -> Option<
     let body = [next()?, next()?];
     let fields = |part: &'static str| part.split_whitespace().filter_map(|it| read_field(it, bits)).collect();
     let name = words.next()?;
-    Some(Row { codes, kind, body, name, fields: fields(parts.next()?), group: fields(parts.next()?) })
+    let (own, group) = (parts.next()?, parts.next()?);
+    let own_fields: Vec<Field> = fields(own);
+    let zero = own.split_whitespace().position(|it| it.ends_with("=0"));
+    let zero = zero.map(|count| 2 + own_fields[..count].iter().map(|it| it.size).sum::<usize>());
+    Some(Row { codes, kind, body, zero, name, fields: own_fields, group: fields(group) })
 }
 
 fn read_rows(text: &'static str, bits: &[(String, Vec<&'static str>)]) -> Vec<Vec<&'static Row>> {
@@ -157,6 +164,7 @@ pub fn row_of(item: &[u8], codes: Option<[u8; 3]>) -> Option<&'static Row> {
     rows.iter().copied().find(|row| {
         row.kind == item[1]
             && (0..2).all(|at| row.body[at].is_none_or(|it| item.get(2 + at) == Some(&it)))
+            && row.zero.is_none_or(|at| item.get(at) == Some(&0))
             && (1..3).all(|at| row.codes[at].is_none_or(|it| codes.is_some_and(|codes| codes[at] == it)))
     })
 }

@@ -8,7 +8,7 @@ use Rattle.usb_names.specs.Bits.{abstract_control_bits, call_management_bits, fi
 use Rattle.usb_names.specs.Classes.{ClassRow, class_name, class_row, classes, protocol_name, subclass_name}
 use Rattle.usb_names.specs.declared.codes.ClassCodes.{ClassCodes}
 use Rattle.usb_names.specs.Named.{Named, name_of, name_where}
-use Rattle.usb_names.specs.Rows.{application_rows, audio_rows, cdc_data_rows, class_rows, communications_rows, first_row, hid_rows, mass_storage_rows, other_rows, rows_behind, rows_of_class, smart_card_rows, standard_rows, video_rows}
+use Rattle.usb_names.specs.Rows.{application_rows, audio_rows, cdc_data_rows, class_rows, communications_rows, first_row, further_rows, further_rows_of_class, further_video_rows, hid_rows, mass_storage_rows, newer_audio_rows, other_rows, rows_behind, rows_of_class, smart_card_rows, standard_rows, video_rows}
 use Rattle.usb_names.specs.Shown.{Row}
 use Rattle.usb_names.specs.Terminals.{audio_terminals, video_terminals}
 use Rattle.usb_text.specs.Written.{is_words}
@@ -144,6 +144,7 @@ same false x = refl
 
 pub record AllRows (p : Row → Bool) : Type 0 where
   pub standard : list_all p standard_rows ≡ true
+  pub newer_audio : list_all p newer_audio_rows ≡ true
   pub audio : list_all p audio_rows ≡ true
   pub communications : list_all p communications_rows ≡ true
   pub hid : list_all p hid_rows ≡ true
@@ -151,19 +152,27 @@ pub record AllRows (p : Row → Bool) : Type 0 where
   pub cdc_data : list_all p cdc_data_rows ≡ true
   pub smart_card : list_all p smart_card_rows ≡ true
   pub video : list_all p video_rows ≡ true
+  pub further_video : list_all p further_video_rows ≡ true
   pub application : list_all p application_rows ≡ true
   pub other : list_all p other_rows ≡ true
 
 all_of_class : (p : Row → Bool) → AllRows p → (class : ℕ) → list_all p (class_rows class) ≡ true
 all_of_class p all class =
-    simp (either_all p, all.audio, all.communications, all.hid, all.mass_storage, all.cdc_data, all.smart_card, all.video, all.application, same) refl
+    simp (either_all p, all.newer_audio, all.communications, all.hid, all.mass_storage, all.cdc_data, all.smart_card, all.video, all.application, same) refl
 
 all_of_interface : (p : Row → Bool) → AllRows p → (interface : Option ClassCodes) → list_all p (rows_of_class interface) ≡ true
 all_of_interface p all None = refl
 all_of_interface p all (Some codes) = all_of_class p all codes.class
 
+all_of_further : (p : Row → Bool) → AllRows p → (class : ℕ) → list_all p (further_rows class) ≡ true
+all_of_further p all class = simp (either_all p, all.audio, all.further_video, same) refl
+
+all_further : (p : Row → Bool) → AllRows p → (interface : Option ClassCodes) → list_all p (further_rows_of_class interface) ≡ true
+all_further p all None = refl
+all_further p all (Some codes) = all_of_further p all codes.class
+
 all_behind : (p : Row → Bool) → AllRows p → (interface : Option ClassCodes) → list_all p (rows_behind interface) ≡ true
-all_behind p all interface = simp (list_all-append p, all.standard, all_of_interface p all interface, all.other) refl
+all_behind p all interface = simp (list_all-append p, all.standard, all_of_interface p all interface, all_further p all interface, all.other) refl
 
 pub row_passes : (p : Row → Bool) → AllRows p → (interface : Option ClassCodes) (type : ℕ) (body : List ℕ)
     → IfSome (first_row (rows_behind interface) interface type body) (λ row. IsTrue (p row))
@@ -173,9 +182,10 @@ abbrev row_has_words : Row → Bool
 row_has_words row = is_words row.name && layout_has_words (row_layout row)
 
 all_words : AllRows row_has_words
-unfolding standard_rows audio_rows communications_rows hid_rows mass_storage_rows cdc_data_rows smart_card_rows video_rows application_rows other_rows
+unfolding standard_rows newer_audio_rows audio_rows communications_rows hid_rows mass_storage_rows cdc_data_rows smart_card_rows video_rows further_video_rows application_rows other_rows
 all_words = record {
   standard = refl;
+  newer_audio = refl;
   audio = refl;
   communications = refl;
   hid = refl;
@@ -183,6 +193,7 @@ all_words = record {
   cdc_data = refl;
   smart_card = refl;
   video = refl;
+  further_video = refl;
   application = refl;
   other = refl;
 }

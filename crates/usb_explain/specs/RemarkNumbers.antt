@@ -28,3 +28,4 @@ remark_number remarks.EmptyReport = 20
 remark_number remarks.NoFunctionalHeader = 21
 remark_number (remarks.ShortFunctional least found) = 22
 remark_number remarks.OneDirection = 23
+remark_number remarks.ForbiddenClass = 24

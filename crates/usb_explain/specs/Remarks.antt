@@ -121,9 +121,13 @@ attributes_remark speed transfer attributes =
 
 -- ---- descriptors
 
--- class 00 of an interface or of a function
+-- class 00 of an interface, which is reserved for future use (9.6.5)
 abbrev pub class_remark : ℕ → Option Remark
 class_remark class = remark_if (class == 0) remarks.ReservedClass
+
+-- class 00 of an association, which isn't allowed (its ECN, 9.X.Y)
+abbrev pub association_class_remark : ℕ → Option Remark
+association_class_remark class = remark_if (class == 0) remarks.ForbiddenClass
 
 -- the remarks on an endpoint: by its speed and transfer type, and by its setting
 unfoldable pub endpoint_remarks : Described → List Remark
@@ -154,7 +158,7 @@ remarks_on roles.Device d =
     ++ there (count_remark (slice_index d.bytes 17) d.findings)
 remarks_on roles.Qualifier d = there (release_remark (little_endian_at d.bytes 2)) ++ there (count_remark (slice_index d.bytes 8) d.findings)
 remarks_on roles.Configuration d = there (power_remark d.speed (slice_index d.bytes 8))
-remarks_on roles.Association d = there (class_remark (slice_index d.bytes 4)) ++ there (association_remark d.device)
+remarks_on roles.Association d = there (association_class_remark (slice_index d.bytes 4)) ++ there (association_remark d.device)
 remarks_on roles.Interface d = there (class_remark (slice_index d.bytes 5)) ++ there (setting_remark d.bytes d.rest)
 remarks_on roles.Endpoint d = endpoint_remarks d
 remarks_on roles.Raw d = raw_remarks d

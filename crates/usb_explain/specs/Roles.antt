@@ -1,7 +1,8 @@
 -- What a descriptor is at its place (USB 2.0, table 9-5 and 9.6).
-use Rattle.std.specs.Prelude.{ℕ, List, length, slice_index, Bool, nat_le, ◌==◌, ◌&&◌, ◌%◌, take, true, false, ◌||◌, Option, Some, None, option_and_then, if◌then◌else◌}
+use Rattle.std.specs.Prelude.{ℕ, List, length, slice_index, Bool, not, nat_le, ◌==◌, ◌&&◌, ◌%◌, take, true, false, ◌||◌, Option, Some, None, option_and_then, if◌then◌else◌}
 use Rattle.std.specs.Option.{option_map}
 use Rattle.usb_fields.specs.Bytes.{little_endian_at}
+use Rattle.usb_file_data.specs.Likeness.{names_languages}
 use Rattle.usb_explain.specs.Trees.{descriptor_length}
 use Rattle.usb_explain.specs.declared.role.Role.{Role}
 use Rattle.usb_explain.specs.declared.role.Role.TheVariants.{Device, Qualifier, Configuration, Association, Interface, Endpoint, Raw, Languages, Text}
@@ -39,6 +40,10 @@ abbrev pub string_role : Bool → ℕ → Option Role
 string_role true n = role_if (n % 2 == 0) Text
 string_role false n = role_if ((n % 2 == 0) && nat_le 4 n) Languages
 
+-- a string descriptor is a string though no language list came: after no device, and where it names no languages itself
+abbrev pub is_alone : Position → List ℕ → Bool
+is_alone p d = not p.has_device && not (names_languages d)
+
 -- outside of a set: the device at the first byte, a qualifier after it, the first descriptor of a set, and strings
 unfoldable pub outer_role : Position → List ℕ → Option Role
 outer_role p d =
@@ -46,7 +51,7 @@ outer_role p d =
     if kind == 1 then role_if ((p.at == 0) && (length d == 18)) Device
     else if kind == 6 then role_if (p.has_device && (length d == 10)) Qualifier
     else if (kind == 2) || (kind == 7) then role_if (nat_le 9 (length d) && nat_le (length d) (little_endian_at d 2)) Configuration
-    else if kind == 3 then string_role p.has_languages (length d)
+    else if kind == 3 then string_role (p.has_languages || is_alone p d) (length d)
     else None
 
 -- in a set

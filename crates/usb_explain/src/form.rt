@@ -51,7 +51,7 @@ pub(crate) fn put_form<P: Page>(
         Form::CallManagement => put_bits(page, call_management_bits(), byte),
         Form::FirmwareUpgrade => put_bits(page, firmware_upgrade_bits(), byte),
         Form::Class => put_class(page, byte),
-        Form::FunctionClass => put_function_class(page, byte),
+        Form::FunctionClass => put_function_class(page, byte_at(b, 1), byte),
         Form::Subclass => put_subclass(page, byte_before(b, field.place, 1), byte),
         Form::Protocol => {
             put_protocol(

@@ -10,7 +10,7 @@ use crate::table_names::{
     audio_terminal, class_name, protocol_name, subclass_name, video_terminal,
 };
 use std::alloc::AllocError;
-use usb_fields::{after, prefix};
+use usb_fields::{after, descriptor_type, prefix};
 use usb_text::Page;
 
 /// Puts the names of a class, its subclass and its protocol: `HID / boot interface / mouse`. A class without a name is
@@ -34,10 +34,22 @@ pub(crate) fn put_class_words<P: Page>(
     put_further(page, protocol_name(class, subclass, protocol))
 }
 
-/// Puts the same of an interface or a function: class 0 is `reserved class`.
+/// What class 0 is called of a descriptor of this type: it is reserved for an interface (USB 2.0, 9.6.5), and no class of an
+/// association (its ECN, 9.X.Y).
+fn zero_class_words(kind: u8) -> &'static str
+    ensures { IsTrue (is_words result.now) }
+{
+    match kind {
+        descriptor_type::INTERFACE_ASSOCIATION => "class not allowed",
+        _ => "reserved class",
+    }
+}
+
+/// Puts the same of an interface or an association, by the type of its descriptor: class 0 is no class of either.
 #[tactic(auto, unfolding(crate::specs::Names::function_class_names))]
 pub(crate) fn put_function_class_words<P: Page>(
     page: &mut P,
+    kind: u8,
     class: u8,
     subclass: u8,
     protocol: u8,
@@ -45,7 +57,7 @@ pub(crate) fn put_function_class_words<P: Page>(
     ensures { OnOk result (P.seen page.new ≡ showing_all P.showing (function_class_names class subclass protocol) (P.seen page.old)) }
 {
     if class == 0 {
-        page.put("reserved class")
+        page.put(zero_class_words(kind))
     } else {
         put_class_words(page, class, subclass, protocol)
     }
@@ -89,14 +101,19 @@ pub(crate) fn put_class<P: Page>(page: &mut P, class: u8) -> Result<(), AllocErr
     put_code(page, class, class_name(class))
 }
 
-/// Puts the class code of an interface or a function: `0x00 (reserved class)`.
+/// Puts the class code of an interface or an association, by the type of its descriptor: `0x00 (reserved class)`.
 #[inline(never)]
-pub(crate) fn put_function_class<P: Page>(page: &mut P, class: u8) -> Result<(), AllocError>
+pub(crate) fn put_function_class<P: Page>(
+    page: &mut P,
+    kind: u8,
+    class: u8,
+) -> Result<(), AllocError>
     ensures { OnOk result (P.seen page.new ≡ showing_all P.showing (function_class_field class) (P.seen page.old)) }
 {
     if class == 0 {
-        page.put_byte_code(class)?;
-        page.put(" (reserved class)")
+        page.begin_byte_meaning(class)?;
+        page.put(zero_class_words(kind))?;
+        page.put(")")
     } else {
         put_class(page, class)
     }

@@ -2,7 +2,7 @@
 ghost use Rattle.std.specs.Prelude.{◌≡◌};
 ghost use Rattle.usb_explain.specs.RemarkNumbers.{remark_number};
 ghost use Rattle.usb_explain.specs.RemarkValues.{is_eight_to_64, is_size, remark_if};
-ghost use Rattle.usb_explain.specs.Remarks.{attributes_remark, class_remark, counts_transactions, multiple_remark, size_remark, sizes_at, type_bits_remark};
+ghost use Rattle.usb_explain.specs.Remarks.{association_class_remark, attributes_remark, class_remark, counts_transactions, multiple_remark, size_remark, sizes_at, type_bits_remark};
 
 use crate::speed::SetSpeed;
 use usb_set::TransferType;
@@ -56,7 +56,7 @@ pub enum Remark {
     TypeBits,
     /// Bits 7 to 6 of bmAttributes are not zero.
     HighBits,
-    /// The class of an interface or of a function is 00.
+    /// The class of an interface is 00.
     ReservedClass,
     /// wTotalLength of a class header isn't the length of the class descriptors that it begins.
     TotalLength {
@@ -111,6 +111,8 @@ pub enum Remark {
     },
     /// A mass storage interface of bulk transfers lacks a bulk endpoint of one direction.
     OneDirection,
+    /// The class of an association is 00.
+    ForbiddenClass,
 }
 
 impl Remark {
@@ -146,6 +148,7 @@ impl Remark {
             Remark::NoFunctionalHeader => 21,
             Remark::ShortFunctional { .. } => 22,
             Remark::OneDirection => 23,
+            Remark::ForbiddenClass => 24,
         }
     }
 }
@@ -278,9 +281,16 @@ pub(crate) fn attributes_remark(
     }
 }
 
-/// A remark on the class of an interface or of a function (USB 2.0, 9.6.5, and the association's ECN).
+/// A remark on the class of an interface (USB 2.0, 9.6.5).
 pub(crate) fn class_remark(class: u8) -> Option<Remark>
     ensures { result ≡ class_remark class }
 {
     remark_if(class == 0, Remark::ReservedClass)
+}
+
+/// A remark on the class of an association (its ECN, 9.X.Y).
+pub(crate) fn association_class_remark(class: u8) -> Option<Remark>
+    ensures { result ≡ association_class_remark class }
+{
+    remark_if(class == 0, Remark::ForbiddenClass)
 }

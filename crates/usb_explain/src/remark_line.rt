@@ -138,6 +138,7 @@ fn plain_words(remark: Remark) -> &'static str
             "a communications interface has a header functional descriptor"
         }
         Remark::OneDirection => "a bulk-only interface has a bulk endpoint of each direction",
+        Remark::ForbiddenClass => "class 0x00 is not allowed",
         _ => "",
     }
 }

@@ -14,7 +14,10 @@ use crate::device_remark::{
 };
 use crate::header::header_remark;
 use crate::interval::interval_remark;
-use crate::remark::{Remark, attributes_remark, class_remark, multiple_remark, size_remark};
+use crate::remark::{
+    Remark, association_class_remark, attributes_remark, class_remark, multiple_remark,
+    size_remark,
+};
 use crate::role::Role;
 use crate::setting_remark::{default_remark, empty_remark, setting_remark};
 use usb_fields::{byte_at, word_at};
@@ -45,7 +48,10 @@ impl Descriptor<'_> {
                 count_remark(byte_at(b, 8), self.findings),
             ),
             Role::Configuration => two(power_remark(self.speed, byte_at(b, 8)), None),
-            Role::Association => two(class_remark(byte_at(b, 4)), association_remark(self.device)),
+            Role::Association => two(
+                association_class_remark(byte_at(b, 4)),
+                association_remark(self.device),
+            ),
             Role::Interface => two(class_remark(byte_at(b, 5)), setting_remark(b, self.rest)),
             Role::Endpoint => self.endpoint_remarks(),
             Role::Raw => self.raw_remarks(),

@@ -1,11 +1,12 @@
 //! What a descriptor is at its place.
 ghost use Rattle.std.specs.Prelude.{◌≡◌, length};
-ghost use Rattle.usb_explain.specs.Roles.{inner_role, outer_role, role_if, role_of, string_role, typed_role};
+ghost use Rattle.usb_explain.specs.Roles.{inner_role, is_alone, outer_role, role_if, role_of, string_role, typed_role};
 ghost use Rattle.std.specs.Prelude.{◌≡◌};
 ghost use Rattle.usb_explain.specs.Roles.{is_association, is_endpoint, is_interface, is_of_type};
 
 use crate::position::Position;
 use usb_fields::{byte_at, descriptor_length, descriptor_type, word_at};
+use usb_file_data::names_languages;
 
 impl Position {
     /// What the descriptor is, where one can be here.
@@ -44,9 +45,18 @@ impl Position {
                     && length <= usize::from(word_at(d, 2)),
                 Role::Configuration,
             ),
-            descriptor_type::STRING => string_role(self.has_languages, length),
+            descriptor_type::STRING => {
+                string_role(self.has_languages || self.is_alone(d), length)
+            }
             _ => None,
         }
+    }
+
+    /// Whether a string descriptor is a string though none came before it: after no device, and no language list.
+    fn is_alone(&self, d: &[u8]) -> bool
+        ensures { result ≡ is_alone self.now d.now }
+    {
+        !self.has_device && !names_languages(d)
     }
 
     #[tactic(auto, unfolding(crate::specs::Roles::inner_role))]

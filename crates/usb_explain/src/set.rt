@@ -58,7 +58,13 @@ pub(crate) fn put_association_words<P: Page>(
     page.put(" of ")?;
     put_bound(page, byte_at(b, 2), byte_at(b, 3))?;
     page.put(", ")?;
-    put_function_class_words(page, byte_at(b, 4), byte_at(b, 5), byte_at(b, 6))
+    put_function_class_words(
+        page,
+        byte_at(b, 1),
+        byte_at(b, 4),
+        byte_at(b, 5),
+        byte_at(b, 6),
+    )
 }
 
 /// Puts which interfaces it binds. Their numbers don't wrap: the last may be one that no interface can have.
@@ -92,7 +98,13 @@ pub(crate) fn put_interface_words<P: Page>(
     put_setting(page, byte_at(b, 2), byte_at(b, 3))?;
     put_binding(page, association)?;
     page.put(", ")?;
-    put_function_class_words(page, byte_at(b, 5), byte_at(b, 6), byte_at(b, 7))?;
+    put_function_class_words(
+        page,
+        byte_at(b, 1),
+        byte_at(b, 5),
+        byte_at(b, 6),
+        byte_at(b, 7),
+    )?;
     page.put(", ")?;
     page.put_count(u64::from(byte_at(b, 4)), "endpoint")
 }

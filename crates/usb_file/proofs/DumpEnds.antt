@@ -1,9 +1,9 @@
 -- Where bytes look like a dump and more, those before their fault are a dump.
 use Rattle.std.proofs.Common.{◌≡◌, ℕ, zero, suc, ◌+◌, ◌==◌, ◌||◌, Bool, true, false, if◌then◌else◌, List, [], ◌∷◌, ◌++◌, length, take, drop, slice_index, Option, Some, None, refl, ap, sym, subst, ◌∙◌, arith, inl, inr, ◌⊎◌, append_assoc, append-nil, length-append}
-use Rattle.std.specs.Prelude.{is_some, nat_lt}
-use Rattle.std.specs.List.{list_all}
+use Rattle.std.specs.Prelude.{◌&&◌, is_some, nat_le, nat_lt, not}
 use Rattle.std.proofs.Math.Seq.{drop-append_seam, take-append_seam}
 use Rattle.std.proofs.lemmas.List.{take-append-drop}
+use Rattle.std.proofs.lemmas.Bool.{and_parts}
 use Rattle.std.proofs.lemmas.Bool.Decides.{nat_tests}
 use Rattle.usb_fields.specs.Bytes.{AreBytes, little_endian_at}
 use Rattle.usb_fields.specs.Device.{device_bytes, device_fault, qualifier_fault}
@@ -24,7 +24,7 @@ use Rattle.usb_file_data.specs.declared.likeness.Likeness.{Likeness}
 use Rattle.usb_file_data.specs.declared.likeness.Likeness.TheVariants as likes
 use Rattle.usb_file_data.specs.Inputs.{Dump}
 use Rattle.usb_file_data.specs.FileFaults.{FaultyPart, FileFaulty, IsNext, LanguagesAreNext, MissesString, NextPart, PartFaulty, a_qualifier, a_set, a_string, is_no_string, the_end, the_languages}
-use Rattle.usb_file_data.specs.Likeness.{DumpGoesOn, DumpsAreSeen, DumpsEndAtFaults, after_sets, file_likeness, goes_on_after_dump, is_bos, is_of_text, is_report, is_string}
+use Rattle.usb_file_data.specs.Likeness.{DumpGoesOn, DumpsAreSeen, DumpsEndAtFaults, after_sets, file_likeness, goes_on_after_dump, is_bos, is_empty_string, is_report, is_string, is_text}
 use Rattle.usb_file.proofs.Dumps.{is_dump}
 use Rattle.usb_file.proofs.Paths.{behind, device_first}
 use Rattle.usb_file_data.proofs.Longest.{set_count}
@@ -185,8 +185,9 @@ dump_before f b rest at fits splits at_is due goes =
     let before : take at b ≡ file_bytes f = ap (λ n. take n b) at_is ∙ ap (λ l. take (length (file_bytes f)) l) splits.parts ∙ take-append_seam (file_bytes f) rest in
     let sets : after_sets (slice_index b 17) (drop 18 b) ≡ other_bytes f.other ++ (strings_bytes f.strings ++ rest) =
     ap (λ l. after_sets (slice_index l 17) (drop 18 l)) is ∙ sets_behind f rest all in
+    let same = (and_parts (length (drop at b) == length (after_sets (slice_index b 17) (drop 18 b))) (not (is_empty_string (drop at b))) goes).0 in
     let nothing = no_length (other_bytes f.other) (strings_bytes f.strings) rest
-    (ap length (sym left) ∙ same_numbers (length (drop at b)) (length (after_sets (slice_index b 17) (drop 18 b))) goes ∙ ap length sets) in
+    (ap length (sym left) ∙ same_numbers (length (drop at b)) (length (after_sets (slice_index b 17) (drop 18 b))) same ∙ ap length sets) in
     record {
       file = f;
       dump = subst (λ l. Dump f l) (sym before) (dump_of f b rest fits splits due (no_other f.other nothing.0) (no_strings f.strings nothing.1));
@@ -221,7 +222,7 @@ likened fault [] n e = absurd (nothing_apart e)
     nothing_apart e = cc
 likened fault (x ∷ rest) n e =
     let b = x ∷ rest in
-    chosen (list_all is_of_text b) (goes_on_after_dump fault.why fault.at b) (is_bos b) (is_string b) (is_report b) (length (drop fault.at b)) n e
+    chosen (is_text b) (goes_on_after_dump fault.why fault.at b) (is_bos b) (is_string b) (is_report b) (length (drop fault.at b)) n e
 
 untrue : false ≡ true → ⊥
 untrue e = cc
@@ -245,15 +246,27 @@ dumps_end b fault n fits faulty e =
 
 -- ---- a dump is seen
 
-goes_where : (at : ℕ) (d rest : List ℕ) (goes : Bool) (more : Option Likeness) → goes ≡ true → (if goes then Some (likes.DumpAndMore (length (drop at d))) else more) ≡ Some (likes.DumpAndMore (length (drop at d)))
-goes_where at d rest true more e = refl
-goes_where at d rest false more e = absurd (untrue e)
+goes_where : (n : ℕ) (text goes : Bool) (more : Option Likeness) → text ≡ false → goes ≡ true
+    → (if text then Some likes.Text else if goes then Some (likes.DumpAndMore n) else more) ≡ Some (likes.DumpAndMore n)
+goes_where n false true more none e = refl
+goes_where n false false more none e = absurd (untrue e)
+goes_where n true goes more none e = absurd (untrue (sym none))
+
+-- a device descriptor is no text: its first byte is none
+never_text : (long : Bool) → (long && false) ≡ false
+never_text true = refl
+never_text false = refl
 
 equal_numbers : (m n : ℕ) → m ≡ n → (m == n) ≡ true
 equal_numbers m n e = grind (arith, nat_tests)
 
+both_true : (p q : Bool) → p ≡ true → q ≡ false → (p && not q) ≡ true
+both_true true false e h = refl
+both_true true true e h = absurd (untrue (sym h))
+both_true false q e h = absurd (untrue e)
+
 pub dumps_are_seen : DumpsAreSeen
-dumps_are_seen f b at dump =
+dumps_are_seen f b at dump filled =
     let rest = drop at b in
     let more = sets_bytes f.sets ++ rest in
     let l = device_bytes f.device ++ more in
@@ -261,4 +274,7 @@ dumps_are_seen f b at dump =
     let left : after_sets f.device.configurations more ≡ rest = ap (λ n. after_sets n more) (sym dump.counts) ∙ past_sets f.sets rest in
     let same : length (drop at l) ≡ length (after_sets f.device.configurations more) = ap (λ a. length (drop at a)) (sym is) ∙ ap length (sym left) in
     subst (λ a. file_likeness (record { at = at; why = files.Text }) a ≡ Some (likes.DumpAndMore (length (drop at a)))) (sym is)
-    (goes_where at l rest (length (drop at l) == length (after_sets f.device.configurations more)) _ (equal_numbers (length (drop at l)) (length (after_sets f.device.configurations more)) same))
+    (goes_where (length (drop at l)) (is_text l) ((length (drop at l) == length (after_sets f.device.configurations more)) && not (is_empty_string (drop at l))) _
+    (never_text (nat_le 2 (length l)))
+    (both_true _ (is_empty_string (drop at l)) (equal_numbers (length (drop at l)) (length (after_sets f.device.configurations more)) same)
+    (ap (λ a. is_empty_string (drop at a)) (sym is) ∙ filled)))

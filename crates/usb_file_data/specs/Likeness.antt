@@ -1,5 +1,5 @@
 -- What bytes that are no input look like.
-use Rattle.std.specs.Prelude.{◌≡◌, ℕ, zero, suc, ◌+◌, ◌%◌, List, [], ◌∷◌, length, take, drop, slice_index, Bool, false, nat_le, ◌==◌, ◌&&◌, ◌||◌, Option, Some, None, if◌then◌else◌}
+use Rattle.std.specs.Prelude.{◌≡◌, ℕ, zero, suc, ◌+◌, ◌%◌, List, [], ◌∷◌, length, take, drop, slice_index, Bool, true, false, not, nat_le, ◌==◌, ◌&&◌, ◌||◌, Option, Some, None, if◌then◌else◌}
 use Rattle.std.specs.List.{list_all}
 use Rattle.usb_fields.specs.Bytes.{AreBytes, little_endian_at}
 use Rattle.usb_file_data.specs.declared.file.DescriptorFile.{DescriptorFile}
@@ -17,24 +17,48 @@ use Rattle.usb_file_data.specs.FileFaults.{FileFaulty}
 abbrev pub is_of_text : ℕ → Bool
 is_of_text byte = (nat_le 0x20 byte && nat_le byte 0x7e) || (byte == 9) || (byte == 10) || (byte == 13)
 
+-- text has two bytes or more
+abbrev pub is_text : List ℕ → Bool
+is_text b = nat_le 2 (length b) && list_all is_of_text b
+
 -- the bytes after so many sets, each as long as its wTotalLength says (USB 2.0, 9.6.3)
 unfoldable pub after_sets : ℕ → List ℕ → List ℕ
 after_sets zero b = b
 after_sets (suc n) b = let rest = after_sets n b in drop (little_endian_at rest 2) rest
 
+-- the bytes begin with a string descriptor without units (USB 2.0, 9.6.7)
+abbrev pub is_empty_string : List ℕ → Bool
+is_empty_string b = (slice_index b 0 == 2) && (slice_index b 1 == 3)
+
 -- Bytes go on after a dump: no string descriptor is at the place of the fault, where the sets end that bNumConfigurations
 -- of the device counts (USB 2.0, 9.6.1). So the language list was due there.
 abbrev pub goes_on_after_dump : FileWhy → ℕ → List ℕ → Bool
-goes_on_after_dump files.Text at b = length (drop at b) == length (after_sets (slice_index b 17) (drop 18 b))
+goes_on_after_dump files.Text at b =
+    (length (drop at b) == length (after_sets (slice_index b 17) (drop 18 b))) && not (is_empty_string (drop at b))
 goes_on_after_dump why at b = false
 
 -- a BOS descriptor is of type 15 and has 5 bytes (USB 3.2, 9.6.2)
 abbrev pub is_bos : List ℕ → Bool
 is_bos b = (slice_index b 1 == 15) && (slice_index b 0 == 5) && nat_le 5 (length b)
 
--- a string descriptor is of type 3 and has an even number of bytes (USB 2.0, 9.6.7)
+-- The upper byte of a unit is that of a language's number: bits 9 to 0 of it are a primary language, which in USB's list is below
+-- 256, and bits 15 to 10 a sublanguage, which isn't 0 (Language Identifiers 1.0).
+abbrev pub is_of_language : ℕ → Bool
+is_of_language high = (high % 4 == 0) && nat_le 4 high
+
+-- the units of bytes may all be numbers of languages
+abbrev pub are_languages : List ℕ → Bool
+are_languages [] = true
+are_languages (low ∷ []) = false
+are_languages (low ∷ high ∷ rest) = is_of_language high && are_languages rest
+
+-- a string descriptor may be a language list, which names one language at least (USB 2.0, 9.6.7)
+abbrev pub names_languages : List ℕ → Bool
+names_languages b = nat_le 4 (length b) && are_languages (drop 2 b)
+
+-- a string descriptor is of type 3 and has an even number of bytes; it is a string where it names no languages (USB 2.0, 9.6.7)
 abbrev pub is_string : List ℕ → Bool
-is_string b = (slice_index b 1 == 3) && (slice_index b 0 == length b) && (length b % 2 == 0)
+is_string b = (slice_index b 1 == 3) && (slice_index b 0 == length b) && (length b % 2 == 0) && not (names_languages b)
 
 -- the bytes begin with a Usage item, 09 and one byte or 0a and two (HID 1.11, 6.2.2.8)
 abbrev pub begins_usage : List ℕ → Bool
@@ -55,7 +79,7 @@ abbrev pub file_likeness : FileFault → List ℕ → Option Likeness
 file_likeness fault [] = Some likes.Nothing
 file_likeness fault (x ∷ rest) =
     let b = x ∷ rest in
-    if list_all is_of_text b then Some likes.Text
+    if is_text b then Some likes.Text
     else if goes_on_after_dump fault.why fault.at b then Some (likes.DumpAndMore (length (drop fault.at b)))
     else if is_bos b then Some likes.Bos
     else if is_string b then Some likes.StringDescriptor
@@ -82,5 +106,5 @@ DumpsEndAtFaults =
 -- each dump that is followed by no string descriptor is seen
 abbrev pub DumpsAreSeen : Type 0
 DumpsAreSeen =
-    (f : DescriptorFile) (b : List ℕ) (at : ℕ) → Dump f (take at b) →
+    (f : DescriptorFile) (b : List ℕ) (at : ℕ) → Dump f (take at b) → is_empty_string (drop at b) ≡ false →
     likeness_of (faults.File (record { at = at; why = files.Text })) b ≡ Some (likes.DumpAndMore (length (drop at b)))

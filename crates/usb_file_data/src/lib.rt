@@ -45,7 +45,7 @@ pub use fault::{FileFault, FileWhy, InputFault};
 pub use file::{DescriptorFile, Input, Other, Strings};
 pub use finding::{Finding, Part, findings_text};
 pub use laws::FILE_LIMIT;
-pub use likeness::{Likeness, after_sets, likeness_of};
+pub use likeness::{Likeness, after_sets, likeness_of, names_languages};
 pub use refusal::{
     WriteFault, are_wrong_strings, has_wrong_count, has_wrong_kind, is_other_kind, write_refusal,
 };

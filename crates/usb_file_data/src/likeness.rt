@@ -1,10 +1,10 @@
 //! What bytes that are no input look like.
 ghost use Rattle.std.specs.Prelude.{◌≡◌};
 ghost use Rattle.std.specs.List.{list_all};
-ghost use Rattle.usb_file_data.specs.Likeness.{after_sets, begins_usage, file_likeness, goes_on_after_dump, is_bos, is_of_text, is_report, is_string, likeness_of};
+ghost use Rattle.usb_file_data.specs.Likeness.{after_sets, are_languages, begins_usage, file_likeness, goes_on_after_dump, is_bos, is_empty_string, is_of_language, is_of_text, is_report, is_string, is_text, likeness_of, names_languages};
 
 use crate::fault::{FileFault, FileWhy, InputFault};
-use usb_fields::{after, byte_at, descriptor_type, word_at};
+use usb_fields::{after, byte_at, descriptor_length, descriptor_type, word_at};
 
 /// The type of a BOS descriptor (USB 3.2, table 9-6).
 const BOS: u8 = 15;
@@ -26,13 +26,13 @@ const WIDE_USAGE: u8 = 0x0a;
 pub enum Likeness {
     /// There are no bytes.
     Nothing,
-    /// Text: each byte is printable ASCII, a tab, a line feed or a carriage return.
+    /// Text: two bytes or more, each printable ASCII, a tab, a line feed or a carriage return.
     Text,
     /// A dump of Linux, and so many bytes after it.
     DumpAndMore(usize),
     /// A BOS descriptor alone (USB 3.2, 9.6.2).
     Bos,
-    /// A string descriptor alone (USB 2.0, 9.6.7).
+    /// A string descriptor alone that is no language list (USB 2.0, 9.6.7).
     StringDescriptor,
     /// A report descriptor, by its first two items: a Usage Page and a Usage (HID 1.11, 6.2.2).
     Report,
@@ -84,9 +84,22 @@ fn is_of_text(byte: u8) -> bool
 }
 
 fn is_text(b: &[u8]) -> bool
+    ensures { result ≡ is_text b.now }
+{
+    b.len() >= 2 && are_of_text(b)
+}
+
+fn are_of_text(b: &[u8]) -> bool
     ensures { result ≡ list_all is_of_text b.now }
 {
     b.iter().all(|byte| is_of_text(*byte))
+}
+
+/// Whether the bytes begin with a string descriptor without units (USB 2.0, 9.6.7).
+fn is_empty_string(b: &[u8]) -> bool
+    ensures { result ≡ is_empty_string b.now }
+{
+    byte_at(b, 0) == descriptor_length::HEAD && byte_at(b, 1) == descriptor_type::STRING
 }
 
 /// Whether the fault is that something else follows the sets of a dump where the language list was due.
@@ -95,8 +108,9 @@ fn goes_on_after_dump(fault: FileFault, b: &[u8]) -> bool
 {
     match fault.why {
         FileWhy::Text => {
-            let rest = after_sets(byte_at(b, 17), after(b, 18));
-            after(b, fault.at).len() == rest.len()
+            let due = after_sets(byte_at(b, 17), after(b, 18));
+            let rest = after(b, fault.at);
+            rest.len() == due.len() && !is_empty_string(rest)
         }
         _ => false,
     }
@@ -121,13 +135,39 @@ fn is_bos(b: &[u8]) -> bool
     byte_at(b, 1) == BOS && byte_at(b, 0) == 5 && b.len() >= 5
 }
 
-/// Whether the bytes are as many as the bLength of a string descriptor says (USB 2.0, 9.6.7).
+/// Whether a string descriptor may be a language list: it names one language at least, and bits 9 to 0 of each number are below
+/// 256, as those of primary languages in USB's list, and bits 15 to 10 not 0, as those of sublanguages (USB 2.0, 9.6.7).
+pub fn names_languages(b: &[u8]) -> bool
+    ensures { result ≡ names_languages b.now }
+{
+    b.len() >= 4 && are_languages(after(b, 2))
+}
+
+fn are_languages(units: &[u8]) -> bool
+    ensures { result ≡ are_languages units.now }
+{
+    match units {
+        [_, high, rest @ ..] => is_of_language(*high) && are_languages(rest),
+        [_] => false,
+        [] => true,
+    }
+}
+
+/// Whether the upper byte of a unit is that of a language's number.
+fn is_of_language(high: u8) -> bool
+    ensures { result ≡ is_of_language high }
+{
+    high % 4 == 0 && high >= 4
+}
+
+/// Whether the bytes are as many as the bLength of a string descriptor says, which is no language list (USB 2.0, 9.6.7).
 fn is_string(b: &[u8]) -> bool
     ensures { result ≡ is_string b.now }
 {
     byte_at(b, 1) == descriptor_type::STRING
         && usize::from(byte_at(b, 0)) == b.len()
         && b.len() % 2 == 0
+        && !names_languages(b)
 }
 
 /// Whether the bytes begin with a Usage Page item and then a Usage item (HID 1.11, 6.2.2).

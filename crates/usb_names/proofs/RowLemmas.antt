@@ -1,4 +1,4 @@
--- The first row that holds, of three tables one after another.
+-- The first row that holds, of four tables one after another.
 use Rattle.std.proofs.Common.{◌≡◌, ◌∙◌, refl, ap, Bool, true, false, List, [], ◌∷◌, ◌++◌, map, find, Option, Some, option_map}
 use Rattle.std.specs.Option.{option_or}
 use Rattle.std.specs.Prelude.{cond}
@@ -20,3 +20,8 @@ find_mapped p f (x ∷ xs) =
 pub find_in_three : {X : Type 0} (p : X → Bool) (xs ys zs : List X)
     → find p (xs ++ ys ++ zs) ≡ option_or (option_or (find p xs) (find p ys)) (find p zs)
 find_in_three p xs ys zs = find-append p (xs ++ ys) zs ∙ ap (λ found. option_or found (find p zs)) (find-append p xs ys)
+
+-- the same in four lists
+pub find_in_four : {X : Type 0} (p : X → Bool) (ws xs ys zs : List X)
+    → find p (ws ++ xs ++ ys ++ zs) ≡ option_or (option_or (option_or (find p ws) (find p xs)) (find p ys)) (find p zs)
+find_in_four p ws xs ys zs = find-append p (ws ++ xs ++ ys) zs ∙ ap (λ found. option_or found (find p zs)) (find_in_three p ws xs ys)

@@ -4,14 +4,18 @@ use Rattle.std.specs.Prelude.{ℕ, List, [], ◌++◌, Option, Some, None, optio
 use Rattle.std.specs.List.{find}
 use Rattle.usb_names.specs.declared.codes.ClassCodes.{ClassCodes}
 use Rattle.usb_names.specs.declared.row.ClassDescriptor.{ClassDescriptor}
-use Rattle.usb_names.specs.declared.rows.TheConstants.{STANDARD_ROWS, AUDIO_ROWS, COMMUNICATIONS_ROWS, HID_ROWS, MASS_STORAGE_ROWS, CDC_DATA_ROWS, SMART_CARD_ROWS, VIDEO_ROWS, APPLICATION_ROWS, OTHER_ROWS}
+use Rattle.usb_names.specs.declared.rows.TheConstants.{STANDARD_ROWS, NEWER_AUDIO_ROWS, AUDIO_ROWS, COMMUNICATIONS_ROWS, HID_ROWS, MASS_STORAGE_ROWS, CDC_DATA_ROWS, SMART_CARD_ROWS, VIDEO_ROWS, FURTHER_VIDEO_ROWS, APPLICATION_ROWS, OTHER_ROWS}
 use Rattle.usb_names.specs.Shown.{Row, of_constant}
 
 -- standard types of USB 2.0 (9.4, table 9-5), OTG 2.0 and USB 3.2 (9.6.7, 9.6.8), wherever they are
 unfoldable pub standard_rows : List Row
 standard_rows = map of_constant STANDARD_ROWS
 
--- audio: audio 1.0 and 2.0, MIDI 1.0
+-- audio 2.0 and 3.0
+unfoldable pub newer_audio_rows : List Row
+newer_audio_rows = map of_constant NEWER_AUDIO_ROWS
+
+-- audio 1.0 and MIDI 1.0
 unfoldable pub audio_rows : List Row
 audio_rows = map of_constant AUDIO_ROWS
 
@@ -35,9 +39,13 @@ cdc_data_rows = map of_constant CDC_DATA_ROWS
 unfoldable pub smart_card_rows : List Row
 smart_card_rows = map of_constant SMART_CARD_ROWS
 
--- video: UVC 1.5
+-- video control, and streams without compression and as MJPEG: UVC 1.5
 unfoldable pub video_rows : List Row
 video_rows = map of_constant VIDEO_ROWS
+
+-- other streams of video: UVC 1.5
+unfoldable pub further_video_rows : List Row
+further_video_rows = map of_constant FURTHER_VIDEO_ROWS
 
 -- application specific: DFU 1.1
 unfoldable pub application_rows : List Row
@@ -47,10 +55,10 @@ application_rows = map of_constant APPLICATION_ROWS
 unfoldable pub other_rows : List Row
 other_rows = map of_constant OTHER_ROWS
 
--- the rows of a class
+-- the first rows of a class
 abbrev pub class_rows : ℕ → List Row
 class_rows class =
-    if class == 1 then audio_rows
+    if class == 1 then newer_audio_rows
     else if class == 2 then communications_rows
     else if class == 3 then hid_rows
     else if class == 8 then mass_storage_rows
@@ -60,14 +68,26 @@ class_rows class =
     else if class == 254 then application_rows
     else []
 
--- the rows of the class of an interface; before any interface there are none
+-- the rows of a class after those
+abbrev pub further_rows : ℕ → List Row
+further_rows class =
+    if class == 1 then audio_rows
+    else if class == 14 then further_video_rows
+    else []
+
+-- the first rows of the class of an interface; before any interface there are none
 abbrev pub rows_of_class : Option ClassCodes → List Row
 rows_of_class None = []
 rows_of_class (Some codes) = class_rows codes.class
 
+-- the rows of that class after those
+abbrev pub further_rows_of_class : Option ClassCodes → List Row
+further_rows_of_class None = []
+further_rows_of_class (Some codes) = further_rows codes.class
+
 -- the rows after an interface of these codes, in their order
 abbrev pub rows_behind : Option ClassCodes → List Row
-rows_behind interface = standard_rows ++ rows_of_class interface ++ other_rows
+rows_behind interface = standard_rows ++ rows_of_class interface ++ further_rows_of_class interface ++ other_rows
 
 -- a row's code is any code, or this one
 abbrev pub agrees : Option ℕ → Option ℕ → Bool
@@ -75,10 +95,15 @@ agrees None code = true
 agrees (Some wanted) None = false
 agrees (Some wanted) (Some code) = wanted == code
 
+-- a body has 0 at this place, where a row asks for one
+abbrev pub has_zero : Option ℕ → List ℕ → Bool
+has_zero None body = true
+has_zero (Some place) body = agrees (Some 0) (slice_get body place)
+
 -- a row holds of a descriptor of this type and this body after an interface of these codes
 abbrev pub holds : {Name Fields : Type 0} → ClassDescriptor Name Fields → Option ClassCodes → ℕ → List ℕ → Bool
 holds row interface type body =
-    row.descriptor_type == type && agrees row.first (slice_get body 0) && agrees row.second (slice_get body 1) && agrees row.subclass (option_map (λ (c : ClassCodes). c.subclass) interface)
+    row.descriptor_type == type && agrees row.first (slice_get body 0) && agrees row.second (slice_get body 1) && has_zero row.zero_at body && agrees row.subclass (option_map (λ (c : ClassCodes). c.subclass) interface)
     && agrees row.protocol (option_map (λ (c : ClassCodes). c.protocol) interface)
 
 -- the first of the rows that holds

@@ -25,6 +25,7 @@ row_with name fields r = record {
   descriptor_type = r.descriptor_type;
   first = r.first;
   second = r.second;
+  zero_at = r.zero_at;
   name = name r.name;
   fields = fields r.fields;
   group = fields r.group;

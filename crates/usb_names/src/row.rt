@@ -1,12 +1,12 @@
 //! Class descriptors by name.
 ghost use Rattle.std.specs.Prelude.{◌≡◌, find, map, option_map};
 ghost use Rattle.std.specs.Option.{option_copied};
-ghost use Rattle.usb_names.specs.Rows.{agrees, first_row, holds, rows_behind, rows_of_class};
+ghost use Rattle.usb_names.specs.Rows.{agrees, first_row, has_zero, holds, further_rows_of_class, rows_behind, rows_of_class};
 ghost use Rattle.usb_names.specs.Shown.{row_of};
 
 use crate::codes::ClassCodes;
 use crate::field::ClassField;
-use crate::rows::{class_rows, other_rows, standard_rows};
+use crate::rows::{class_rows, further_rows, other_rows, standard_rows};
 
 /// A descriptor that a class defines: what it is known by, its name and its fields.
 #[derive(Clone, Copy, Debug)]
@@ -21,6 +21,8 @@ pub struct ClassDescriptor<Name = &'static str, Fields = &'static [ClassField]> 
     pub first: Option<u8>,
     /// The byte after that one; none is any.
     pub second: Option<u8>,
+    /// The place after bDescriptorType of a byte that is 0; none is any.
+    pub zero_at: Option<usize>,
     /// The name.
     pub name: Name,
     /// The fields after bDescriptorType, in order.
@@ -40,6 +42,16 @@ fn agrees(wanted: Option<u8>, code: Option<u8>) -> bool
     }
 }
 
+/// A body has 0 at this place, where a row asks for one.
+fn has_zero(place: Option<usize>, body: &[u8]) -> bool
+    ensures { result ≡ has_zero place body.now }
+{
+    match place {
+        None => true,
+        Some(place) => agrees(Some(0), body.get(place).copied()),
+    }
+}
+
 impl<Name, Fields> ClassDescriptor<Name, Fields> {
     fn holds(&self, interface: Option<ClassCodes>, descriptor_type: u8, body: &[u8]) -> bool
         ensures { result ≡ holds self.now interface descriptor_type body.now }
@@ -47,6 +59,7 @@ impl<Name, Fields> ClassDescriptor<Name, Fields> {
         self.descriptor_type == descriptor_type
             && agrees(self.first, body.first().copied())
             && agrees(self.second, body.get(1).copied())
+            && has_zero(self.zero_at, body)
             && agrees(self.subclass, interface.map(|codes| codes.subclass))
             && agrees(self.protocol, interface.map(|codes| codes.protocol))
     }
@@ -87,7 +100,7 @@ fn first_row(
 ///     assert_eq!(rt; descriptor.name, "HID");
 /// }
 /// ```
-#[tactic(auto, using(crate::proofs::RowLemmas::find_in_three))]
+#[tactic(auto, using(crate::proofs::RowLemmas::find_in_four))]
 pub fn class_descriptor(
     interface: Option<ClassCodes>,
     descriptor_type: u8,
@@ -101,15 +114,33 @@ pub fn class_descriptor(
     if let Some(row) = first_row(rows_of_class(interface), interface, descriptor_type, body) {
         return Some(row);
     }
+    if let Some(row) = first_row(
+        further_rows_of_class(interface),
+        interface,
+        descriptor_type,
+        body,
+    ) {
+        return Some(row);
+    }
     first_row(other_rows(), interface, descriptor_type, body)
 }
 
-/// The rows of the class of an interface, if there is one.
+/// The first rows of the class of an interface, if there is one.
 fn rows_of_class(interface: Option<ClassCodes>) -> &'static [ClassDescriptor]
     ensures { map row_of result.now ≡ rows_of_class interface }
 {
     match interface {
         Some(codes) => class_rows(codes.class),
+        None => &[],
+    }
+}
+
+/// The rows of that class after those.
+fn further_rows_of_class(interface: Option<ClassCodes>) -> &'static [ClassDescriptor]
+    ensures { map row_of result.now ≡ further_rows_of_class interface }
+{
+    match interface {
+        Some(codes) => further_rows(codes.class),
         None => &[],
     }
 }

@@ -117,7 +117,7 @@ strings_few k running m n (Some strings) behind spoken onward s e =
     let more = each_string_bytes strings.texts ++ behind in
     subst (λ l. EndsFew k running s l) (sym (append_assoc (units_bytes u) (each_string_bytes strings.texts) behind))
     (λ fs nil. out_goes (few k) running (outside true false m n) (outside true true m n) roles.Languages (units_bytes u) more [] []
-    (length_is (2 + 2 * length u) 3 (flat_map little_endian u) more (units_length u)) (λ t is. languages_step running u more true m n t spoken is)
+    (length_is (2 + 2 * length u) 3 (flat_map little_endian u) more (units_length u)) (λ t is. languages_step running u more m n t spoken is)
     (λ v is t gs same rear. texts_few k running m n strings.texts behind onward t (ap (λ v. out v) same ∙ is) gs (nil_of_rear gs rear)) (seen s) e s fs refl (rear_of_nil fs [] nil))
 
 spoken_in : (f : DescriptorFile) (other : Option Other) (strings : Option Strings) → IsInOrder f other strings → AreSpoken strings

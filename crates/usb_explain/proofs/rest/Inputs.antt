@@ -1,5 +1,5 @@
 -- A walk over an input leaves nothing, tells each finding, and shows the input's tree.
-use Rattle.std.proofs.Common.{◌≡◌, ◌<◌, ℕ, ◌+◌, ◌-◌, ◌*◌, ◌%◌, ◌==◌, Bool, true, false, if◌then◌else◌, List, [], ◌∷◌, ◌++◌, length, map, take, Option, Some, None, refl, sym, ap, subst, ◌∙◌, arith, append_assoc, append-nil}
+use Rattle.std.proofs.Common.{◌≡◌, ◌<◌, ℕ, ◌+◌, ◌-◌, ◌*◌, ◌%◌, ◌==◌, ◌&&◌, ◌||◌, Bool, true, false, not, if◌then◌else◌, List, [], ◌∷◌, ◌++◌, length, map, take, Option, Some, None, refl, sym, ap, subst, ◌∙◌, arith, append_assoc, append-nil}
 use Rattle.std.specs.List.{flat_map, list_any}
 use Rattle.std.proofs.Math.Seq.{drop-nil}
 use Rattle.std.proofs.lemmas.Bool.{eq-eqb, le-leb, or_parts}
@@ -43,7 +43,8 @@ use Rattle.usb_explain.specs.Owners.{of_set, owner_of}
 use Rattle.usb_explain.specs.SetStart.{entered}
 use Rattle.usb_explain.specs.Positions.{noted}
 use Rattle.usb_explain.specs.Standings.{passed, start}
-use Rattle.usb_explain.specs.Roles.{outer_role, role_if, role_of, string_role}
+use Rattle.usb_explain.specs.Roles.{is_alone, outer_role, role_if, role_of, string_role}
+use Rattle.usb_file_data.specs.Likeness.{names_languages}
 use Rattle.usb_explain.proofs.Spans.{Aim, adding}
 use Rattle.usb_explain.proofs.rest.Walks.{Ends, ShowsAll, Tells, all_tells, ends_here, nothing_left}
 use Rattle.usb_explain.proofs.rest.Steps.{behind_one, goes_on, left_one, length_is}
@@ -190,26 +191,28 @@ even n k e = eq-eqb (n % 2) 0 (omega (arith, e))
 holds : (a : Bool) (role : Role) → a ≡ true → role_if a role ≡ Some role
 holds a role h = rw h refl
 
-languages_role : (s : Standing) (u : List ℕ) → s.position.has_languages ≡ false → 0 < length u → outer_role s.position (units_bytes u) ≡ Some roles.Languages
+languages_role : (s : Standing) (u : List ℕ) → s.position.has_device ≡ true → s.position.has_languages ≡ false → 0 < length u
+    → outer_role s.position (units_bytes u) ≡ Some roles.Languages
 unfolding outer_role
-languages_role s u e some =
-    ap (λ b. string_role b (length (units_bytes u))) e
+languages_role s u known e some =
+    ap (λ b. string_role (b || is_alone s.position (units_bytes u)) (length (units_bytes u))) e
+    ∙ ap (λ k. string_role (not k && not (names_languages (units_bytes u))) (length (units_bytes u))) known
     ∙ both_hold _ _ roles.Languages (even (length (units_bytes u)) (length u) (length-units_bytes u))
     (le-leb 4 (length (units_bytes u)) (omega (arith, length-units_bytes u, some)))
 
 text_role : (s : Standing) (u : List ℕ) → s.position.has_languages ≡ true → outer_role s.position (units_bytes u) ≡ Some roles.Text
 unfolding outer_role
 text_role s u e =
-    ap (λ b. string_role b (length (units_bytes u))) e
+    ap (λ b. string_role (b || is_alone s.position (units_bytes u)) (length (units_bytes u))) e
     ∙ holds _ roles.Text (even (length (units_bytes u)) (length u) (length-units_bytes u))
 
-pub languages_step : (running : Option SetSpeed) (u behind : List ℕ) (known : Bool) (m n : ℕ) (s : Standing) → 0 < length u → out (seen s) ≡ outside known false m n
-    → OutStep running s roles.Languages (units_bytes u) behind [] (outside known true m n)
+pub languages_step : (running : Option SetSpeed) (u behind : List ℕ) (m n : ℕ) (s : Standing) → 0 < length u → out (seen s) ≡ outside true false m n
+    → OutStep running s roles.Languages (units_bytes u) behind [] (outside true true m n)
 unfolding noted depth_of owner_of
-languages_step running u behind known m n s some e = record {
-  is = outer_at s (units_bytes u) (ap (λ (o : Out). o.left) e) ∙ languages_role s u (ap (λ (o : Out). o.spoken) e) some;
+languages_step running u behind m n s some e = record {
+  is = outer_at s (units_bytes u) (ap (λ (o : Out). o.left) e) ∙ languages_role s u (ap (λ (o : Out). o.known) e) (ap (λ (o : Out). o.spoken) e) some;
   own = tt;
-  after = ap (λ (o : Out). record o { spoken = true }) (nothing_less (outside known false m n) s (length (units_bytes u)) refl e);
+  after = ap (λ (o : Out). record o { spoken = true }) (nothing_less (outside true false m n) s (length (units_bytes u)) refl e);
   deep = refl;
   belongs = refl;
 }
@@ -238,15 +241,15 @@ texts_go E running known m n (u ∷ texts) aimed =
     (λ s e. text_step running u (each_string_bytes texts) known m n s e) (texts_go (adding E (text_descriptor u ∷ [])) running known m n texts aimed)
 
 -- a language list has one language at least, as the walk asks of it
-strings_go : (E : Aim) (running : Option SetSpeed) (known : Bool) (m n count : ℕ) (strings : Option Strings) → are_wrong_strings count strings ≡ false → E [] (string_descriptors strings)
-    → GoesOut E running (outside known false m n) [] (strings_bytes strings)
-strings_go E running known m n count None right aimed = at_end E running (outside known false m n) aimed
-strings_go E running known m n count (Some strings) right aimed =
+strings_go : (E : Aim) (running : Option SetSpeed) (m n count : ℕ) (strings : Option Strings) → are_wrong_strings count strings ≡ false → E [] (string_descriptors strings)
+    → GoesOut E running (outside true false m n) [] (strings_bytes strings)
+strings_go E running m n count None right aimed = at_end E running (outside true false m n) aimed
+strings_go E running m n count (Some strings) right aimed =
     let u = strings.languages in
-    out_goes E running (outside known false m n) (outside known true m n) roles.Languages (units_bytes u) (each_string_bytes strings.texts) [] []
+    out_goes E running (outside true false m n) (outside true true m n) roles.Languages (units_bytes u) (each_string_bytes strings.texts) [] []
     (length_is (2 + 2 * length u) 3 (flat_map little_endian u) (each_string_bytes strings.texts) (units_length u))
-    (λ s e. languages_step running u (each_string_bytes strings.texts) known m n s (all_strings count strings right).follow.spoken e)
-    (texts_go (adding E (tree_descriptor roles.Languages 0 None (units_bytes u) ∷ [])) running known m n strings.texts aimed)
+    (λ s e. languages_step running u (each_string_bytes strings.texts) m n s (all_strings count strings right).follow.spoken e)
+    (texts_go (adding E (tree_descriptor roles.Languages 0 None (units_bytes u) ∷ [])) running true m n strings.texts aimed)
 
 -- ---- inputs
 
@@ -304,7 +307,7 @@ file_leaves running f b file =
     (device_goes goal running (file_in_order false f) f.device f.sets false (sets ++ (other ++ strings)) (two ++ (three ++ []))
     (sets_go with_device running kinds.Configuration f.sets f.sets 0 (outside true false 0 0) (other ++ strings) (three ++ []) refl layouts.0 right.0
     (λ m. other_goes with_main running false m f.other strings [] right.1 layouts.1
-    (λ n. strings_go with_other running true m n (length (named_indices f)) f.strings file.texts (refl, ap (λ l. tree_descriptor roles.Device 0 None d ∷ l) joined))))
+    (λ n. strings_go with_other running m n (length (named_indices f)) f.strings file.texts (refl, ap (λ l. tree_descriptor roles.Device 0 None d ∷ l) joined))))
     (rear_of_all (file_in_order false f) (one ++ (two ++ (three ++ []))) in_parts))
 
 dump_leaves : (running : Option SetSpeed) (f : DescriptorFile) (b : List ℕ) → Dump f b → Ends (ShowsAll (inputs.Dump f)) running start (file_in_order true f) b
