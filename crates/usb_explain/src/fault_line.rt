@@ -109,6 +109,11 @@ fn put_likeness_words<P: Page>(page: &mut P, likeness: Likeness) -> Result<(), A
             page.put_count(count as u64, "byte")?;
             page.put(if count == 1 { " follows" } else { " follow" })
         }
+        Likeness::UsbmonFrame(count) => {
+            page.put("this looks like a frame of usbmon: a header, and ")?;
+            page.put_count(count as u64, "byte")?;
+            page.put(" at its end")
+        }
         Likeness::Bos => page.put("this looks like a BOS descriptor alone"),
         Likeness::StringDescriptor => page.put("this looks like a string descriptor alone"),
         Likeness::Report => page.put("this looks like a report descriptor"),

@@ -74,6 +74,17 @@ is_report b =
     else if slice_index b 0 == 0x06 then begins_usage (drop 3 b)
     else false
 
+-- A frame of usbmon as Wireshark copies it begins with a header of 64 bytes, which has the event at 8, `S`, `C` or `E`, the type
+-- of transfer at 9, 0 to 3, and at 36 in four bytes how many bytes of data follow, here below 65536 (Linux, usbmon.rst).
+abbrev pub is_usbmon_frame : List ℕ → Bool
+is_usbmon_frame b =
+    nat_le 64 (length b) && ((slice_index b 8 == 0x53) || (slice_index b 8 == 0x43) || (slice_index b 8 == 0x45))
+    && nat_le (slice_index b 9) 3 && (little_endian_at b 36 == length (drop 64 b)) && (little_endian_at b 38 == 0)
+
+-- such a frame, where the bytes look like one
+abbrev pub frame_likeness : List ℕ → Option Likeness
+frame_likeness b = if is_usbmon_frame b then Some (likes.UsbmonFrame (length (drop 64 b))) else None
+
 -- what bytes look like that are read as a file
 abbrev pub file_likeness : FileFault → List ℕ → Option Likeness
 file_likeness fault [] = Some likes.Nothing
@@ -81,15 +92,16 @@ file_likeness fault (x ∷ rest) =
     let b = x ∷ rest in
     if is_text b then Some likes.Text
     else if goes_on_after_dump fault.why fault.at b then Some (likes.DumpAndMore (length (drop fault.at b)))
+    else if is_usbmon_frame b then Some (likes.UsbmonFrame (length (drop 64 b)))
     else if is_bos b then Some likes.Bos
     else if is_string b then Some likes.StringDescriptor
     else if is_report b then Some likes.Report
     else None
 
--- What bytes with this fault look like: nothing else, where they are read as a set by their second byte.
+-- What bytes with this fault look like: a frame or nothing, where they are read as a set by their second byte.
 abbrev pub likeness_of : InputFault → List ℕ → Option Likeness
 likeness_of (faults.File fault) b = file_likeness fault b
-likeness_of fault b = None
+likeness_of fault b = frame_likeness b
 
 -- the bytes before this place are a dump, and so many follow
 pub record DumpGoesOn (b : List ℕ) (at n : ℕ) : Type 0 where

@@ -1,7 +1,7 @@
 //! What bytes that are no input look like.
 ghost use Rattle.std.specs.Prelude.{◌≡◌};
 ghost use Rattle.std.specs.List.{list_all};
-ghost use Rattle.usb_file_data.specs.Likeness.{after_sets, are_languages, begins_usage, file_likeness, goes_on_after_dump, is_bos, is_empty_string, is_of_language, is_of_text, is_report, is_string, is_text, likeness_of, names_languages};
+ghost use Rattle.usb_file_data.specs.Likeness.{after_sets, are_languages, begins_usage, file_likeness, frame_likeness, goes_on_after_dump, is_bos, is_empty_string, is_of_language, is_of_text, is_report, is_string, is_text, is_usbmon_frame, likeness_of, names_languages};
 
 use crate::fault::{FileFault, FileWhy, InputFault};
 use usb_fields::{after, byte_at, descriptor_length, descriptor_type, word_at};
@@ -21,6 +21,9 @@ const USAGE: u8 = 0x09;
 /// The first byte of one with two bytes of data.
 const WIDE_USAGE: u8 = 0x0a;
 
+/// The length of the header of a frame of usbmon (Linux, Documentation/usb/usbmon.rst).
+const USBMON_HEADER: usize = 64;
+
 /// What bytes that are no input look like.
 #[derive(Clone, Copy, Debug, Drop, PartialEq, Eq, Hash)]
 pub enum Likeness {
@@ -30,6 +33,9 @@ pub enum Likeness {
     Text,
     /// A dump of Linux, and so many bytes after it.
     DumpAndMore(usize),
+    /// A frame of usbmon as Wireshark copies it: a header of 64 bytes, with `S`, `C` or `E` at 8, 0 to 3 at 9, and at 36 how many
+    /// bytes follow it, below 65536.
+    UsbmonFrame(usize),
     /// A BOS descriptor alone (USB 3.2, 9.6.2).
     Bos,
     /// A string descriptor alone that is no language list (USB 2.0, 9.6.7).
@@ -38,7 +44,8 @@ pub enum Likeness {
     Report,
 }
 
-/// What bytes with this fault look like, where they aren't read as a set: the first of the likenesses that they have.
+/// What bytes with this fault look like: a frame of usbmon where they are read as a set, and else the first of the likenesses
+/// that they have.
 ///
 /// ```rust
 /// let bos = [5, 15, 5, 0, 0];
@@ -51,7 +58,7 @@ pub fn likeness_of(fault: InputFault, b: &[u8]) -> Option<Likeness>
 {
     match fault {
         InputFault::File(fault) => file_likeness(fault, b),
-        _ => None,
+        _ => frame_likeness(b),
     }
 }
 
@@ -65,6 +72,8 @@ fn file_likeness(fault: FileFault, b: &[u8]) -> Option<Likeness>
         Some(Likeness::Text)
     } else if goes_on_after_dump(fault, b) {
         Some(Likeness::DumpAndMore(after(b, fault.at).len()))
+    } else if is_usbmon_frame(b) {
+        Some(Likeness::UsbmonFrame(after(b, USBMON_HEADER).len()))
     } else if is_bos(b) {
         Some(Likeness::Bos)
     } else if is_string(b) {
@@ -74,6 +83,29 @@ fn file_likeness(fault: FileFault, b: &[u8]) -> Option<Likeness>
     } else {
         None
     }
+}
+
+/// A frame of usbmon, where the bytes look like one.
+fn frame_likeness(b: &[u8]) -> Option<Likeness>
+    ensures { result ≡ frame_likeness b.now }
+{
+    if is_usbmon_frame(b) {
+        Some(Likeness::UsbmonFrame(after(b, USBMON_HEADER).len()))
+    } else {
+        None
+    }
+}
+
+/// Whether the bytes are a frame of usbmon: its header has the event at 8, the type of transfer at 9 and the count of the bytes
+/// after it at 36.
+fn is_usbmon_frame(b: &[u8]) -> bool
+    ensures { result ≡ is_usbmon_frame b.now }
+{
+    b.len() >= USBMON_HEADER
+        && matches!(byte_at(b, 8), b'S' | b'C' | b'E')
+        && byte_at(b, 9) <= 3
+        && usize::from(word_at(b, 36)) == after(b, USBMON_HEADER).len()
+        && word_at(b, 38) == 0
 }
 
 /// Whether the byte is one of text: printable ASCII, a tab, a line feed or a carriage return.
