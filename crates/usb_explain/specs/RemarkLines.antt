@@ -1,5 +1,5 @@
 -- The lines of remarks.
-use Rattle.std.specs.Prelude.{ℕ, List, [], ◌∷◌}
+use Rattle.std.specs.Prelude.{ℕ, List, [], ◌∷◌, ◌++◌}
 use Rattle.std.specs.List.{flat_map}
 use Rattle.usb_text.specs.Shown.{Shown, Number}
 use Rattle.usb_explain.specs.declared.remark.PacketSizes.{PacketSizes}
@@ -16,17 +16,25 @@ sizes_shown (Only size) = Number size ∷ []
 sizes_shown (UpTo most) = Number most ∷ []
 sizes_shown _ = []
 
--- the numbers of a remark: the values that bInterval has, the sizes, the length that is said and the one that there is, the
--- current that is needed and the greatest one, or the length that is due and the one that there is
+-- the numbers of a remark on what a speed has: the values of bInterval, or sizes
+abbrev pub speed_shown : Remark → List Shown
+speed_shown (remarks.Interval transfer speed range) = Number range.least ∷ Number range.most ∷ []
+speed_shown (remarks.Packet transfer speed sizes) = sizes_shown sizes
+speed_shown (remarks.FirstPacket speed sizes) = sizes_shown sizes
+speed_shown _ = []
+
+-- those of one on a length or a current: what is said and what there is, what is needed and the most that there is, or the length
+-- that is due and the one that there is
+abbrev pub length_shown : Remark → List Shown
+length_shown (remarks.TotalLength declared found) = Number declared ∷ Number found ∷ []
+length_shown (remarks.Current needed most) = Number needed ∷ Number most ∷ []
+length_shown (remarks.HidLength due found) = Number due ∷ Number found ∷ []
+length_shown (remarks.ShortFunctional least found) = Number least ∷ Number found ∷ []
+length_shown _ = []
+
+-- the numbers of a remark, which are of one of the two kinds if there are any
 abbrev pub remark_shown : Remark → List Shown
-remark_shown (remarks.Interval transfer speed range) = Number range.least ∷ Number range.most ∷ []
-remark_shown (remarks.Packet transfer speed sizes) = sizes_shown sizes
-remark_shown (remarks.TotalLength declared found) = Number declared ∷ Number found ∷ []
-remark_shown (remarks.FirstPacket speed sizes) = sizes_shown sizes
-remark_shown (remarks.Current needed most) = Number needed ∷ Number most ∷ []
-remark_shown (remarks.HidLength due found) = Number due ∷ Number found ∷ []
-remark_shown (remarks.ShortFunctional least found) = Number least ∷ Number found ∷ []
-remark_shown _ = []
+remark_shown remark = speed_shown remark ++ length_shown remark
 
 -- its line, below a heading of this depth
 unfoldable pub remark_line : ℕ → Remark → List Shown

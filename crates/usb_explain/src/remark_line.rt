@@ -4,7 +4,7 @@ ghost use Rattle.std.specs.List.{flat_map};
 ghost use Rattle.usb_text.specs.Shown.{showing_all};
 ghost use Rattle.usb_text.specs.Written.{is_words};
 ghost use Rattle.usb_explain.specs.Outline.{described};
-ghost use Rattle.usb_explain.specs.RemarkLines.{remark_line, remark_lines, remark_shown, sizes_shown};
+ghost use Rattle.usb_explain.specs.RemarkLines.{length_shown, remark_line, remark_lines, remark_shown, sizes_shown, speed_shown};
 ghost use Rattle.usb_explain.specs.RemarkValues.{there};
 
 use crate::descriptor::Descriptor;
@@ -56,8 +56,18 @@ fn put_line<P: Page>(page: &mut P, depth: u8, remark: Remark) -> Result<(), Allo
     page.end_line()
 }
 
+#[tactic(auto, using(usb_text::proofs::ShownLines::showing_joined))]
 fn put_words<P: Page>(page: &mut P, remark: Remark) -> Result<(), AllocError>
     ensures { OnOk result (P.seen page.new ≡ showing_all P.showing (remark_shown remark) (P.seen page.old)) }
+{
+    put_speed_words(page, remark)?;
+    put_length_words(page, remark)?;
+    page.put(plain_words(remark))
+}
+
+/// Puts the words of a remark on what a speed has.
+fn put_speed_words<P: Page>(page: &mut P, remark: Remark) -> Result<(), AllocError>
+    ensures { OnOk result (P.seen page.new ≡ showing_all P.showing (speed_shown remark) (P.seen page.old)) }
 {
     match remark {
         Remark::Interval {
@@ -84,6 +94,15 @@ fn put_words<P: Page>(page: &mut P, remark: Remark) -> Result<(), AllocError>
             page.put(" at ")?;
             page.put(speed.words())
         }
+        _ => Ok(()),
+    }
+}
+
+/// Puts the words of a remark on a length or a current.
+fn put_length_words<P: Page>(page: &mut P, remark: Remark) -> Result<(), AllocError>
+    ensures { OnOk result (P.seen page.new ≡ showing_all P.showing (length_shown remark) (P.seen page.old)) }
+{
+    match remark {
         Remark::TotalLength { declared, found } => {
             page.put("wTotalLength is ")?;
             page.put_decimal(u64::from(declared))?;
@@ -109,11 +128,11 @@ fn put_words<P: Page>(page: &mut P, remark: Remark) -> Result<(), AllocError>
             page.put(" bytes, and bLength is ")?;
             page.put_decimal(found as u64)
         }
-        _ => page.put(plain_words(remark)),
+        _ => Ok(()),
     }
 }
 
-/// The words of a remark that has no numbers.
+/// The words of a remark that has no numbers; of one that has some there are none.
 fn plain_words(remark: Remark) -> &'static str
     ensures { IsTrue (is_words result.now) }
 {
