@@ -9,4 +9,6 @@ pub mod Facts
 pub mod Hosts
 pub mod Texts
 pub mod Transfers
+pub mod WalkedEndpoints
+pub mod WalkedTrees
 pub mod inside
