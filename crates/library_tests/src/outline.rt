@@ -64,7 +64,7 @@ fn a_file_is_its_descriptors(rt: HostRuntime) {
     assert!(rt; outline.next().is_none());
 }
 
-/// A descriptor of a class extends the interface or the endpoint before it (USB 2.0, 9.5), and after an association the set.
+/// A descriptor of a class extends the nearest configuration, interface or endpoint before it (USB 2.0, 9.5).
 #[test]
 fn each_descriptor_has_its_owner(rt: HostRuntime) {
     let endpoint = DescriptorOwner {

@@ -1,6 +1,7 @@
 mod DecoderValues
 mod DeviceValues
 mod Due
+mod EndpointWalks
 mod Faults
 pub mod Following
 mod HandleValues
@@ -12,6 +13,7 @@ mod Reasons
 pub mod Named
 mod Taking
 mod TransferValues
+mod TreeWalks
 pub mod Walking
 mod InputStrings
 mod NamedIndices

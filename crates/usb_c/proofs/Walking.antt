@@ -1,5 +1,5 @@
 -- The walk over descriptors as numbers is that over their positions.
-use Rattle.std.proofs.Common.{◌≡◌, ℕ, zero, suc, ◌+◌, if◌then◌else◌, List, [], ◌∷◌, length, drop, Option, Some, None, unwrap_or, ◌-◌, Bool, true, false, slice_index, refl, sym, ap, subst, ◌∙◌, arith, length-drop}
+use Rattle.std.proofs.Common.{◌≡◌, ℕ, zero, suc, ◌+◌, List, [], ◌∷◌, length, drop, Option, Some, None, unwrap_or, ◌-◌, Bool, true, false, slice_index, refl, sym, ap, subst, ◌∙◌, arith, length-drop}
 use Rattle.std.specs.Option.{option_map}
 use Rattle.std.proofs.lemmas.Bool.{cond-false, cond-true, le-leb}
 use Rattle.std.proofs.lemmas.List.{drop-drop, length-take-le}

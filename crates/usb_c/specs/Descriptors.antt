@@ -1,5 +1,5 @@
 -- Descriptors as numbers, and the walk from one to the next.
-use Rattle.std.specs.Prelude.{◌≡◌, ◌≤◌, ℕ, zero, suc, ◌+◌, ◌-◌, ◌*◌, ◌/◌, ◌%◌, ◌^◌, ◌==◌, ◌&&◌, ◌||◌, nat_le, nat_lt, List, [], ◌∷◌, length, fold, filter, take, drop, slice_index, slice_set, Bool, true, false, Option, Some, None, unwrap_or, if◌then◌else◌}
+use Rattle.std.specs.Prelude.{◌≡◌, ◌≤◌, ℕ, zero, suc, ◌+◌, ◌-◌, ◌*◌, ◌/◌, ◌%◌, ◌^◌, ◌==◌, ◌&&◌, nat_le, nat_lt, List, [], ◌∷◌, length, fold, filter, take, drop, slice_index, slice_set, Bool, Option, Some, None, unwrap_or, if◌then◌else◌}
 use Rattle.std.specs.Int.RustNames.{bit_or}
 use Rattle.std.specs.List.{range_with_len}
 use Rattle.std.specs.Option.{option_map}
@@ -41,14 +41,11 @@ part_of_role roles.Languages is_other = 0
 part_of_role roles.Text is_other = 0
 part_of_role role is_other = set_part is_other
 
--- the role of what an extra belongs to: the endpoint, interface or configuration that came last
-abbrev pub holder_in : Position → ℕ
-holder_in p = if p.settings == 0 then 2 else if p.endpoints == 0 then 3 else 4
-
--- that of an association and a raw descriptor; others are no extras
+-- the role of what an association and a raw descriptor belong to, which is the depth below it: 2 a configuration, 3 an
+-- interface, 4 an endpoint; others are no extras
 abbrev pub holder_of_role : Role → Position → ℕ
-holder_of_role roles.Association p = holder_in p
-holder_of_role roles.Raw p = holder_in p
+holder_of_role roles.Association p = p.below
+holder_of_role roles.Raw p = p.below
 holder_of_role role p = 0
 
 -- The strings that descriptors name.

@@ -10,4 +10,6 @@ pub mod Hosts
 pub mod Strings
 pub mod Texts
 pub mod Transfers
+pub mod WalkedEndpoints
+pub mod WalkedTrees
 pub mod inside

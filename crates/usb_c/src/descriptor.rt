@@ -22,7 +22,7 @@ pub struct NzgDescriptor {
     pub kind: u8,
     /// The number of its role; 0 before the first descriptor.
     pub role: u8,
-    /// Of an association or a raw descriptor the role of what it belongs to: the last configuration, interface or endpoint.
+    /// Of an association or a raw descriptor the role of what it belongs to: the nearest configuration, interface or endpoint.
     pub owner: u8,
     /// How deep it is.
     pub depth: u8,

@@ -1,12 +1,26 @@
 //! What holds of the descriptors as numbers. The functions of these laws do nothing: their contracts are the laws.
 ghost use Rattle.usb_c.specs.Descriptors.{AllGoOn, WalkIsNumbered};
 ghost use Rattle.usb_c.specs.Strings.{WalkHasStrings, WalkIsAsExplained};
+ghost use Rattle.usb_c.specs.WalkedEndpoints.{WalkHasEndpoints};
+ghost use Rattle.usb_c.specs.WalkedTrees.{WalkIsTree};
 
 /// From `{0}` on `nzg_next` gives the descriptors of the outline of the bytes, each as the numbers of its position: by
 /// `usb_explain::laws` that is each byte once and in order, of a set, a file or a dump to its end, of other bytes up to their
 /// fault, with the roles, depths and owners of the tree.
 pub fn a_walk_is_the_outline()
     ensures { WalkIsNumbered }
+{}
+
+/// Of a set, a file or a dump `nzg_next` gives, from `{0}` on, the descriptors of its tree in their order: each with its role, its
+/// depth and its part, and an association or a raw one with the role of what has it among its extras.
+pub fn a_walk_is_the_tree()
+    ensures { WalkIsTree }
+{}
+
+/// The endpoints among them are those of the sets, set after set and in their order: the position of each has the number of its set,
+/// its interface and alternate setting and its address.
+pub fn a_walk_has_the_endpoints()
+    ensures { WalkHasEndpoints }
 {}
 
 /// From any struct `nzg_next` gives a descriptor at the position of the struct, of two bytes at least and within the bytes, and goes

@@ -2,7 +2,7 @@
 ghost use Rattle.std.specs.Prelude.{◌≡◌, ◌≤◌, ◌+◌, ◌<◌, ◌^◌, is_some, length, unwrap_or};
 ghost use Rattle.usb_explain.specs.Numbered.{numbered_next};
 ghost use Rattle.usb_explain.specs.inside.Walking.{Counted};
-ghost use Rattle.usb_c.specs.Descriptors.{holder_in, is_counted, next_of, role_number, set_part, string_of_role, as_numbers, next_as_numbers, with_role};
+ghost use Rattle.usb_c.specs.Descriptors.{is_counted, next_of, role_number, set_part, string_of_role, as_numbers, next_as_numbers, with_role};
 
 use crate::descriptor::NzgDescriptor;
 use crate::string_place::{NO_STRING, StringPlace, name_string, string_among};
@@ -92,12 +92,12 @@ impl NzgDescriptor {
             Role::Qualifier => self.part = 2,
             Role::Configuration => name_string(&mut self.named, byte_at(d, 6)),
             Role::Association => {
-                self.owner = holder_in(&self.position);
+                self.owner = self.position.below;
                 name_string(&mut self.named, byte_at(d, 7));
             }
             Role::Interface => name_string(&mut self.named, byte_at(d, 8)),
             Role::Endpoint => {}
-            Role::Raw => self.owner = holder_in(&self.position),
+            Role::Raw => self.owner = self.position.below,
             Role::Languages => {
                 self.part = 0;
                 self.languages_place = self.place;
@@ -137,16 +137,4 @@ fn set_part(is_other: bool) -> u8
     ensures { result ≡ set_part is_other }
 {
     if is_other { 2 } else { 1 }
-}
-
-fn holder_in(position: &Position) -> u8
-    ensures { result ≡ holder_in position.now }
-{
-    if position.settings == 0 {
-        2
-    } else if position.endpoints == 0 {
-        3
-    } else {
-        4
-    }
 }
