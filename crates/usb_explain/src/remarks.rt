@@ -15,8 +15,7 @@ use crate::device_remark::{
 use crate::header::header_remark;
 use crate::interval::interval_remark;
 use crate::remark::{
-    Remark, association_class_remark, attributes_remark, class_remark, multiple_remark,
-    size_remark,
+    Remark, association_class_remark, attributes_remark, class_remark, multiple_remark, size_remark,
 };
 use crate::role::Role;
 use crate::setting_remark::{default_remark, empty_remark, setting_remark};

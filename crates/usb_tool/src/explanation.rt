@@ -70,11 +70,13 @@ fn explain_text<W: Write>(
     match parse(alloc, bytes) {
         Ok(found) => explain_found(alloc, &found, w, manner),
         Err(HexFault::Memory) => Err(ToolFault::Memory),
-        Err(HexFault::Text {
-            line,
-            column,
-            found,
-        }) => {
+        Err(
+            HexFault::Text {
+                line,
+                column,
+                found,
+            },
+        ) => {
             if hex {
                 return Err(ToolFault::Hex { line, column });
             }
