@@ -21,13 +21,16 @@ use Rattle.usb_set.specs.declared.fault.SetWhy.TheVariants as sets
 
 -- A text or other items in the caller's buffer.
 
--- The items begin the buffer, whose rest is as it was, and this is reported with their count. Or the buffer is as
--- it was: it is shorter than the items, whose count is wanted, or out of memory.
+-- The items begin the buffer, whose rest is as it was, and this is reported with their count. Or the buffer is shorter than
+-- the items and as it was, and their count is wanted.
+abbrev pub Puts : {A : Type 0} → (ℕ → Verdict) → List A → List A → List A → Verdict → Type 0
+Puts reported items old new verdict =
+    ((verdict ≡ reported (length items)) × (new ≡ items ++ drop (length items) old))
+    ⊎ ((verdict ≡ verdicts.NoRoom (length items)) × (length old < length items) × (new ≡ old))
+
+-- or out of memory, and the buffer is as it was
 abbrev pub Fills : {A : Type 0} → (ℕ → Verdict) → List A → List A → List A → Verdict → Type 0
-Fills told items old new verdict =
-    ((verdict ≡ told (length items)) × (new ≡ items ++ drop (length items) old))
-    ⊎ (((verdict ≡ verdicts.NoRoom (length items)) × (length old < length items) × (new ≡ old))
-    ⊎ ((verdict ≡ verdicts.NoMemory) × (new ≡ old)))
+Fills reported items old new verdict = Puts reported items old new verdict ⊎ ((verdict ≡ verdicts.NoMemory) × (new ≡ old))
 
 -- Answers as numbers.
 

@@ -21,7 +21,7 @@ use Rattle.usb_c.specs.declared.answer.Verdict.{Verdict}
 use Rattle.usb_c.specs.declared.answer.Verdict.TheVariants as verdicts
 use Rattle.usb_c.specs.declared.descriptor.NzgDescriptor.{NzgDescriptor}
 use Rattle.usb_c.specs.declared.finding.NzgFinding.{NzgFinding}
-use Rattle.usb_c.specs.Answers.{Fills}
+use Rattle.usb_c.specs.Answers.{Fills, Puts}
 use Rattle.usb_c.specs.Descriptors.{role_number}
 use Rattle.usb_c.specs.Hosts.{PutsFile}
 use Rattle.usb_c.specs.Texts.{Refuses, TellsInput}
@@ -73,7 +73,7 @@ rule_message rule = get_or (map (λ message. message.now) MESSAGES) (rule_number
 -- the words of a rule that there is
 abbrev pub TellsRule : Option Rule → List ℕ → List ℕ → Verdict → Type 0
 TellsRule None old new verdict = (verdict ≡ verdicts.BadArgument 5) × (new ≡ old)
-TellsRule (Some rule) old new verdict = Fills verdicts.Done (rule_message rule) old new verdict
+TellsRule (Some rule) old new verdict = Puts verdicts.Done (rule_message rule) old new verdict
 
 -- The strings that stand in them (USB 2.0, 9.6.7).
 

@@ -1,6 +1,6 @@
 //! The caller's buffers.
 ghost use Rattle.std.specs.Prelude.{◌≡◌, ◌<◌, ◌++◌, drop, length, true, false};
-ghost use Rattle.usb_c.specs.Answers.{Fills};
+ghost use Rattle.usb_c.specs.Answers.{Puts};
 ghost use Rattle.usb_c.specs.declared.answer.Verdict.TheVariants as verdicts;
 ghost use Rattle.usb_c.specs.Answers.{AnswersOn};
 ghost use Rattle.usb_c.specs.Enumerations.{Enumerates};
@@ -28,7 +28,7 @@ pub(crate) fn fill(text: &[u8], out: &mut [u8]) -> bool
 
 /// Puts a text into the buffer, and answers its length.
 pub(crate) fn fill_done(text: &[u8], out: &mut [u8]) -> Verdict
-    ensures { Fills verdicts.Done text.now out.old out.new result }
+    ensures { Puts verdicts.Done text.now out.old out.new result }
 {
     if fill(text, out) {
         Verdict::Done(text.len())
@@ -39,7 +39,7 @@ pub(crate) fn fill_done(text: &[u8], out: &mut [u8]) -> Verdict
 
 /// Puts the explanation of broken bytes into the buffer, and answers its length and the fault.
 pub(crate) fn fill_broken(fault: InputFault, text: &[u8], out: &mut [u8]) -> Verdict
-    ensures { Fills (verdicts.Broken fault) text.now out.old out.new result }
+    ensures { Puts (verdicts.Broken fault) text.now out.old out.new result }
 {
     if fill(text, out) {
         Verdict::Broken(fault, text.len())

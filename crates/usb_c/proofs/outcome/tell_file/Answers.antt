@@ -7,5 +7,5 @@ returns-in-Ok c =
     inl (record {
       bytes = c.as_slice.result.now;
       file = subst (λ (b : List ℕ). File c.args.file.now b) (sym c.as_slice.ensures.value) c.in-Ok.ensures.ok;
-      fills = c.fill_done.ensures;
+      fills = inl c.fill_done.ensures;
     })
