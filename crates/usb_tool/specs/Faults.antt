@@ -1,14 +1,16 @@
 -- The numbers and the lines of the program's faults.
-use Rattle.std.specs.Prelude.{ℕ, List, ◌++◌, codes, Result, Ok, Err}
+use Rattle.std.specs.Prelude.{ℕ, List, [], ◌++◌, codes, Result, Ok, Err}
 use Rattle.std.specs.Fmt.{decimal}
-use Rattle.usb_set.specs.Numbers.{why_number as set_why_number}
+use Rattle.usb_set.specs.Numbers.{why_message as set_why_message, why_number as set_why_number}
 use Rattle.usb_set.specs.declared.fault.SetFault.{SetFault}
 use Rattle.usb_set.specs.declared.fault.SetWhy.{SetWhy}
 use Rattle.usb_set.specs.declared.fault.SetWhy.TheVariants as whys
 use Rattle.usb_tool.specs.declared.fault.ToolFault.{ToolFault}
 use Rattle.usb_tool.specs.contracts.fault.ToolFault.{the_type as tool_faults}
 use Rattle.usb_tool.specs.declared.fault.ToolFault.TheVariants as faults
-use Rattle.usb_file_data.specs.FileFaults.{why_number}
+use Rattle.usb_tool.specs.declared.meaning.Hint.{Hint}
+use Rattle.usb_tool.specs.declared.meaning.Hint.TheVariants as hints
+use Rattle.usb_file_data.specs.FileFaults.{why_message as file_why_message, why_number}
 use Rattle.usb_file_data.specs.declared.fault.FileFault.{FileFault}
 use Rattle.usb_file_data.specs.declared.fault.FileWhy.{FileWhy}
 use Rattle.usb_file_data.specs.declared.fault.FileWhy.TheVariants as files
@@ -43,6 +45,55 @@ fault_line (faults.Trailing at) = codes "usbdesc: trailing bytes at " ++ decimal
 fault_line faults.Memory = codes "usbdesc: out of memory"
 fault_line (faults.Hex line column) =
     codes "usbdesc: hexadecimal fault line " ++ decimal line ++ codes " column " ++ decimal column
+
+-- What a fault means, for people, and what to try then.
+
+-- why a file is none; of a set in it, why that is none
+abbrev pub file_meaning : FileWhy → List ℕ
+file_meaning (files.Set why) = set_why_message why
+file_meaning why = file_why_message why
+
+-- what is wrong with a line of a listing
+abbrev pub list_meaning : ListWhy → List ℕ
+list_meaning lists.Line = codes "no whole line of printable text"
+list_meaning lists.Word = codes "no known word"
+list_meaning lists.Place = codes "the word can't stand here"
+list_meaning lists.Field = codes "a field is missing, superfluous or not in its form"
+list_meaning lists.TooLong = codes "the set is over 65,535 bytes"
+list_meaning lists.Missing = codes "the text ends before the file does"
+list_meaning lists.Memory = codes "out of memory"
+
+-- what a fault means
+abbrev pub fault_meaning : ToolFault → List ℕ
+fault_meaning faults.Read = codes "standard input can't be read"
+fault_meaning faults.Write = codes "standard output can't be written"
+fault_meaning faults.TooLarge = codes "no file is that long"
+fault_meaning (faults.File fault) = file_meaning fault.why
+fault_meaning (faults.List fault) = list_meaning fault.why
+fault_meaning (faults.Set fault) = set_why_message fault.why
+fault_meaning (faults.Trailing at) = codes "bytes after the end of the set"
+fault_meaning faults.Memory = codes "there was not enough memory"
+fault_meaning (faults.Hex line column) = codes "no hexadecimal text"
+
+-- what to try
+abbrev pub hint_words : Hint → List ℕ
+hint_words hints.Any = codes "; --any takes sets and dumps too"
+hint_words hints.WithStrings = codes "; --with-strings takes a dump too"
+hint_words hints.Comments = codes "; --comments drops comments and empty lines"
+hint_words hints.Explain = codes "; see 'usbdesc explain' of it"
+hint_words hints.Nothing = []
+
+-- what to try where the input is at fault
+abbrev pub hint_at : Hint → ToolFault → List ℕ
+hint_at hint (faults.File fault) = hint_words hint
+hint_at hint (faults.List fault) = hint_words hint
+hint_at hint (faults.Set fault) = hint_words hint
+hint_at hint (faults.Trailing at) = hint_words hint
+hint_at hint _ = []
+
+-- the line below that of a fault, without its line feed
+abbrev pub meaning_line : Hint → ToolFault → List ℕ
+meaning_line hint fault = fault_meaning fault ++ hint_at hint fault
 
 -- *out of memory* of a decoder is the program's own, and any other fault is one of the set
 abbrev pub fault_by_why : SetWhy → SetFault → ToolFault

@@ -28,6 +28,13 @@ settings_line faults.Speed = codes "usbdesc: bad speed"
 settings_line faults.Fates = codes "usbdesc: bad fates"
 settings_line faults.Memory = codes "usbdesc: out of memory"
 
+-- what it means, for people
+abbrev pub settings_meaning : SettingsFault → List ℕ
+settings_meaning faults.Number = codes "a number that is none or out of its range"
+settings_meaning faults.Speed = codes "a speed is low, full or high, of explain also super"
+settings_meaning faults.Fates = codes "a letter that names no fate: they are . n d u a"
+settings_meaning faults.Memory = codes "there was not enough memory"
+
 -- the exit status: 2 as for a line that is no command, and 3 where it is out of memory
 abbrev pub settings_status : SettingsFault → ℕ
 settings_status faults.Memory = 3

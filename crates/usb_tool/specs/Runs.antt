@@ -1,5 +1,5 @@
 -- What the program does, from its command line to its exit status.
-use Rattle.std.specs.Prelude.{◌≡◌, ℕ, ◌⊎◌, List, [], ◌∷◌, ◌++◌, Result, Ok, Err, String}
+use Rattle.std.specs.Prelude.{◌≡◌, ℕ, ◌⊎◌, Bool, true, false, if◌then◌else◌, List, [], ◌∷◌, ◌++◌, Result, Ok, Err, String}
 use Rattle.std.specs.Global.{Global}
 use Rattle.std.specs.Io.KnownBytes.{Keeps}
 use Rattle.clap.specs.Kinds.{IsAmong}
@@ -10,12 +10,14 @@ use Rattle.usb_text.specs.Output.{AppendsFront, Held}
 use Rattle.usb_tool.specs.Commands.{BuildCommentedFails, BuildFails, Built, BuiltCommented, CheckAnyFails, CheckFails, Checked, CheckedAny, ShowAnyFails, ShowFails, Shown, ShownAny}
 use Rattle.usb_tool.specs.Enumerations.{Conditions, EnumerateFails, Enumerated, under}
 use Rattle.usb_tool.specs.Explains.{ExplainFails, Explained, HasBadSpeed, IsManner}
-use Rattle.usb_tool.specs.Faults.{fault_line}
+use Rattle.usb_tool.specs.Faults.{fault_line, meaning_line}
+use Rattle.usb_tool.specs.declared.meaning.Hint.{Hint}
+use Rattle.usb_tool.specs.declared.meaning.Hint.TheVariants as hints
 use Rattle.usb_tool.specs.Endings.{Left}
 use Rattle.usb_tool.specs.CommandLine.{Asks, no_flags, usbdesc_app, word_texts}
 use Rattle.usb_tool.specs.declared.fault.ToolFault.{ToolFault}
 use Rattle.usb_explain.specs.declared.manner.Manner.{Manner}
-use Rattle.usb_tool.specs.OptionFaults.{settings_line, settings_status}
+use Rattle.usb_tool.specs.OptionFaults.{settings_line, settings_meaning, settings_status}
 use Rattle.usb_tool.specs.Settings.{IsSettled, RefusesOptions}
 use Rattle.usb_tool.specs.declared.manner.Explaining.{Explaining}
 use Rattle.usb_tool.specs.declared.command_line.Line.{Line}
@@ -55,22 +57,28 @@ Course = Left → Left → Held → Held → Held → Held → ℕ → Type 0
 abbrev pub ReportsLine : List ℕ → Held → Held → Type 0
 ReportsLine line errors told = AppendsFront errors told (line ++ 10 ∷ [])
 
--- after a fault standard error has its line, and else nothing
-abbrev pub ReportsOutcome : Result ℕ ToolFault → Held → Held → Type 0
-ReportsOutcome (Ok number) errors told = Keeps errors told
-ReportsOutcome (Err fault) errors told = ReportsLine (fault_line fault) errors told
+-- a line was written, and for a person another one below it that says what it means
+abbrev pub ReportsLines : Bool → List ℕ → List ℕ → Held → Held → Type 0
+ReportsLines false line meaning errors told = ReportsLine line errors told
+ReportsLines true line meaning errors told =
+    (between : Held) × ReportsLine line errors between × ReportsLine meaning between told
+
+-- after a fault standard error has its line, for a person with what it means and what to try, and else nothing
+abbrev pub ReportsOutcome : Bool → Hint → Result ℕ ToolFault → Held → Held → Type 0
+ReportsOutcome person hint (Ok number) errors told = Keeps errors told
+ReportsOutcome person hint (Err fault) errors told = ReportsLines person (fault_line fault) (meaning_line hint fault) errors told
 
 -- the command failed, and so the status is 3, and standard error has the line of the fault
-pub record EndsInFault (fails : Failure) (from to : Left) (held holds errors told : Held) (status : ℕ) : Type 0 where
+pub record EndsInFault (person : Bool) (hint : Hint) (fails : Failure) (from to : Left) (held holds errors told : Held) (status : ℕ) : Type 0 where
   pub fault : ToolFault
   pub failed : fails from to held holds fault
-  pub line : ReportsLine (fault_line fault) errors told
+  pub line : ReportsLines person (fault_line fault) (meaning_line hint fault) errors told
   pub ended : status ≡ 3
 
 -- the command did its work, its number is the status, and standard error has nothing, or it failed
-abbrev pub Ends : Work → Failure → Course
-Ends does fails from to held holds errors told status =
-    (does from to held holds status × Keeps errors told) ⊎ EndsInFault fails from to held holds errors told status
+abbrev pub Ends : Bool → Hint → Work → Failure → Course
+Ends person hint does fails from to held holds errors told status =
+    (does from to held holds status × Keeps errors told) ⊎ EndsInFault person hint fails from to held holds errors told status
 
 -- options come to settings, and the command ended that they ask for
 pub record OptionsAreTaken (S : Type 0) (is : S → Type 0) (ends : S → Course) (from to : Left) (held holds errors told : Held) (status : ℕ) : Type 0 where
@@ -79,47 +87,51 @@ pub record OptionsAreTaken (S : Type 0) (is : S → Type 0) (ends : S → Course
   pub ended : ends settings from to held holds errors told status
 
 -- options were refused; nothing is read, and nothing is written but the line of the fault on standard error
-pub record OptionsAreRefused (refuses : SettingsFault → Type 0) (from to : Left) (held holds errors told : Held) (status : ℕ) : Type 0 where
+pub record OptionsAreRefused (person : Bool) (refuses : SettingsFault → Type 0) (from to : Left) (held holds errors told : Held) (status : ℕ) : Type 0 where
   pub fault : SettingsFault
   pub refused : refuses fault
   pub input : Keeps from to
   pub output : Keeps held holds
-  pub line : ReportsLine (settings_line fault) errors told
+  pub line : ReportsLines person (settings_line fault) (settings_meaning fault) errors told
   pub ended : status ≡ settings_status fault
 
 -- how `explain` ends with these options: the one that is refused is a speed
-abbrev pub EndsExplanation : Explaining → Course
-EndsExplanation o from to held holds errors told status =
-    OptionsAreTaken Manner (IsManner o) (λ m. Ends (Explained o.hex m) (ExplainFails o.hex m)) from to held holds errors told status
-    ⊎ OptionsAreRefused (λ fault. (fault ≡ Speed) × HasBadSpeed o) from to held holds errors told status
+abbrev pub EndsExplanation : Bool → Explaining → Course
+EndsExplanation person o from to held holds errors told status =
+    OptionsAreTaken Manner (IsManner o) (λ m. Ends person hints.Nothing (Explained o.hex m) (ExplainFails o.hex m)) from to held holds errors told status
+    ⊎ OptionsAreRefused person (λ fault. (fault ≡ Speed) × HasBadSpeed o) from to held holds errors told status
+
+-- what to try where the input of `enumerate` is at fault
+abbrev pub enumerate_hint : Bool → Hint
+enumerate_hint with_strings = if with_strings then hints.Explain else hints.WithStrings
 
 -- how `enumerate` ends under these conditions
-abbrev pub EndsUnder : Conditions → Course
-EndsUnder c = Ends (Enumerated c) (EnumerateFails c)
+abbrev pub EndsUnder : Bool → Conditions → Course
+EndsUnder person c = Ends person (enumerate_hint c.flags.with_strings) (Enumerated c) (EnumerateFails c)
 
 -- how `enumerate` ends with these options and flags
-abbrev pub EndsEnumeration : Options → EnumerateFlags → Course
-EndsEnumeration o flags from to held holds errors told status =
-    OptionsAreTaken Settings (IsSettled o) (λ s. EndsUnder (under s.limits s.speed s.fates.items flags)) from to held holds errors told status
-    ⊎ OptionsAreRefused (RefusesOptions o) from to held holds errors told status
+abbrev pub EndsEnumeration : Bool → Options → EnumerateFlags → Course
+EndsEnumeration person o flags from to held holds errors told status =
+    OptionsAreTaken Settings (IsSettled o) (λ s. EndsUnder person (under s.limits s.speed s.fates.items flags)) from to held holds errors told status
+    ⊎ OptionsAreRefused person (RefusesOptions o) from to held holds errors told status
 
 -- how ends what a line asks for
-abbrev pub EndsLine : Line → Course
-EndsLine lines.Show = Ends Shown ShowFails
-EndsLine lines.Check = Ends Checked CheckFails
-EndsLine lines.Build = Ends Built BuildFails
-EndsLine (lines.Enumerate options) = EndsEnumeration options no_flags
-EndsLine lines.ShowAny = Ends ShownAny ShowAnyFails
-EndsLine lines.CheckAny = Ends CheckedAny CheckAnyFails
-EndsLine lines.BuildCommented = Ends BuiltCommented BuildCommentedFails
-EndsLine (lines.Explain options) = EndsExplanation options
-EndsLine (lines.EnumerateWith options flags) = EndsEnumeration options flags
+abbrev pub EndsLine : Bool → Line → Course
+EndsLine person lines.Show = Ends person hints.Any Shown ShowFails
+EndsLine person lines.Check = Ends person hints.Any Checked CheckFails
+EndsLine person lines.Build = Ends person hints.Comments Built BuildFails
+EndsLine person (lines.Enumerate options) = EndsEnumeration person options no_flags
+EndsLine person lines.ShowAny = Ends person hints.Explain ShownAny ShowAnyFails
+EndsLine person lines.CheckAny = Ends person hints.Explain CheckedAny CheckAnyFails
+EndsLine person lines.BuildCommented = Ends person hints.Nothing BuiltCommented BuildCommentedFails
+EndsLine person (lines.Explain options) = EndsExplanation person options
+EndsLine person (lines.EnumerateWith options flags) = EndsEnumeration person options flags
 
 -- the words are a line, and what it asks for was done
-pub record LineIsTaken (words : List (String Global)) (from to : Left) (held holds errors told : Held) (status : ℕ) : Type 0 where
+pub record LineIsTaken (person : Bool) (words : List (String Global)) (from to : Left) (held holds errors told : Held) (status : ℕ) : Type 0 where
   pub line : Line
   pub asked : Asks line (subcommand_of usbdesc_app (word_texts words))
-  pub ended : EndsLine line from to held holds errors told status
+  pub ended : EndsLine person line from to held holds errors told status
 
 -- the words are no command, for one of the reasons that clap has, or memory is wanting; nothing is read, and a text is
 -- written, which clap leaves open
@@ -131,7 +143,7 @@ pub record LineIsRefused (words : List (String Global)) (from to : Left) (held h
   pub answered : Answers kind text held holds errors told
   pub ended : status ≡ line_status kind
 
--- what a run has done, and its exit status
-abbrev pub Runs : List (String Global) → Course
-Runs words from to held holds errors told status =
-    LineIsTaken words from to held holds errors told status ⊎ LineIsRefused words from to held holds errors told status
+-- what a run has done, whose faults are explained for a person or not, and its exit status
+abbrev pub Runs : Bool → List (String Global) → Course
+Runs person words from to held holds errors told status =
+    LineIsTaken person words from to held holds errors told status ⊎ LineIsRefused words from to held holds errors told status

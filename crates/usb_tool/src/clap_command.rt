@@ -5,10 +5,11 @@ ghost use Rattle.clap.specs.declared.builder.Command.TheViews.{out-Command};
 ghost use Rattle.usb_tool.specs.CommandLine.{address_rule, attempts_rule, build_app, check_app, chosen_rule, enumerate_app, explain_app, fates_rule, flag_rule, naks_rule, show_app, speed_rule, usbdesc_app, valued_rule};
 
 use crate::help::{
-    ABOUT, ADDRESS_HELP, ATTEMPTS_HELP, BRIEF_HELP, BUILD_ABOUT, BUILD_HELP, CHECK_ABOUT,
-    CHECK_ANY_HELP, CHECK_HELP, COMMENTS_HELP, ENUMERATE_ABOUT, ENUMERATE_HELP, EXPLAIN_ABOUT,
-    EXPLAIN_HELP, FATES, FATES_HELP, HEX_HELP, LOG_HELP, NAKS_HELP, NO_PLACES_HELP, RAN_AT_HELP,
-    RUNNING_SPEEDS, SHOW_ABOUT, SHOW_ANY_HELP, SHOW_HELP, SPEED_HELP, SPEEDS, UTF8_HELP, VERSION,
+    ABOUT, ADDRESS_HELP, ATTEMPTS_HELP, BRIEF_HELP, BUILD_ABOUT, BUILD_HELP, BUILD_USAGE,
+    CHECK_ABOUT, CHECK_ANY_HELP, CHECK_HELP, CHECK_USAGE, COMMENTS_HELP, ENUMERATE_ABOUT,
+    ENUMERATE_HELP, ENUMERATE_USAGE, EXPLAIN_ABOUT, EXPLAIN_HELP, EXPLAIN_USAGE, FATES, FATES_HELP,
+    HEX_HELP, LOG_HELP, NAKS_HELP, NO_PLACES_HELP, RAN_AT_HELP, RUNNING_SPEEDS, SHOW_ABOUT,
+    SHOW_ANY_HELP, SHOW_HELP, SHOW_USAGE, SPEED_HELP, SPEEDS, UTF8_HELP, VERSION,
     WITH_STRINGS_HELP,
 };
 use clap::{Arg, ArgAction, Command, value_parser};
@@ -42,7 +43,7 @@ fn show<'a>(alloc: Global) -> Result<Command<'a>, AllocError>
     ensures app { IfOk result (λ c. app_of c ≡ show_app) }
     ensures local { IfOk result (λ c. (out-Command c).has_globals ≡ false) }
 {
-    let show = command(alloc, "show", SHOW_ABOUT, SHOW_HELP);
+    let show = command(alloc, "show", SHOW_USAGE, SHOW_ABOUT, SHOW_HELP);
     add_option(show, flag(alloc, "any", SHOW_ANY_HELP))
 }
 
@@ -51,7 +52,7 @@ fn check<'a>(alloc: Global) -> Result<Command<'a>, AllocError>
     ensures app { IfOk result (λ c. app_of c ≡ check_app) }
     ensures local { IfOk result (λ c. (out-Command c).has_globals ≡ false) }
 {
-    let check = command(alloc, "check", CHECK_ABOUT, CHECK_HELP);
+    let check = command(alloc, "check", CHECK_USAGE, CHECK_ABOUT, CHECK_HELP);
     add_option(check, flag(alloc, "any", CHECK_ANY_HELP))
 }
 
@@ -60,7 +61,7 @@ fn build<'a>(alloc: Global) -> Result<Command<'a>, AllocError>
     ensures app { IfOk result (λ c. app_of c ≡ build_app) }
     ensures local { IfOk result (λ c. (out-Command c).has_globals ≡ false) }
 {
-    let build = command(alloc, "build", BUILD_ABOUT, BUILD_HELP);
+    let build = command(alloc, "build", BUILD_USAGE, BUILD_ABOUT, BUILD_HELP);
     add_option(build, flag(alloc, "comments", COMMENTS_HELP))
 }
 
@@ -69,7 +70,7 @@ fn explain<'a>(alloc: Global) -> Result<Command<'a>, AllocError>
     ensures app { IfOk result (λ c. app_of c ≡ explain_app) }
     ensures local { IfOk result (λ c. (out-Command c).has_globals ≡ false) }
 {
-    let explain = command(alloc, "explain", EXPLAIN_ABOUT, EXPLAIN_HELP);
+    let explain = command(alloc, "explain", EXPLAIN_USAGE, EXPLAIN_ABOUT, EXPLAIN_HELP);
     let explain = add_option(explain, flag(alloc, "brief", BRIEF_HELP))?;
     let explain = add_option(explain, flag(alloc, "no-places", NO_PLACES_HELP))?;
     let explain = add_option(explain, flag(alloc, "utf8", UTF8_HELP))?;
@@ -82,7 +83,13 @@ fn enumerate<'a>(alloc: Global) -> Result<Command<'a>, AllocError>
     ensures app { IfOk result (λ c. app_of c ≡ enumerate_app) }
     ensures local { IfOk result (λ c. (out-Command c).has_globals ≡ false) }
 {
-    let enumerate = command(alloc, "enumerate", ENUMERATE_ABOUT, ENUMERATE_HELP);
+    let enumerate = command(
+        alloc,
+        "enumerate",
+        ENUMERATE_USAGE,
+        ENUMERATE_ABOUT,
+        ENUMERATE_HELP,
+    );
     let enumerate = add_option(enumerate, speed(alloc))?;
     let enumerate = add_option(enumerate, address(alloc))?;
     let enumerate = add_option(enumerate, naks(alloc))?;
@@ -93,11 +100,20 @@ fn enumerate<'a>(alloc: Global) -> Result<Command<'a>, AllocError>
 }
 
 /// A command of this name, which takes no words of its own.
-fn command<'a>(alloc: Global, name: &'a str, about: &'a str, help: &'a str) -> Command<'a>
+fn command<'a>(
+    alloc: Global,
+    name: &'a str,
+    usage: &'a str,
+    about: &'a str,
+    help: &'a str,
+) -> Command<'a>
     ensures app { app_of result ≡ new_app name.entry.now }
     ensures local { (out-Command result).has_globals ≡ false }
 {
-    Command::new(alloc, name).about(about).after_help(help)
+    Command::new(alloc, name)
+        .override_usage(usage)
+        .about(about)
+        .after_help(help)
 }
 
 /// The command with one more option, which its subcommands do not take.

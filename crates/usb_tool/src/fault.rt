@@ -186,7 +186,7 @@ pub fn verdict(r: &Result<u8, ToolFault>) -> u8
 }
 
 /// The bytes that a line of a fault has at most, and more.
-const ROOM: usize = 128;
+const ROOM: usize = 192;
 
 /// Writes the line of a fault and a line feed to standard error, as far as that takes them. This takes no memory: there may
 /// be none.

@@ -6,6 +6,9 @@ pub(crate) const ABOUT: &str = "Lists, checks, builds, explains and enumerates U
 /// The version of the program.
 pub(crate) const VERSION: &str = "0.1.0";
 
+/// The usage line of `show`.
+pub(crate) const SHOW_USAGE: &str = "usbdesc show [OPTIONS] < INPUT";
+
 /// What `show` does.
 pub(crate) const SHOW_ABOUT: &str =
     "Lists the configuration set or descriptor file on standard input, a line for each descriptor";
@@ -54,6 +57,9 @@ Exit status:
 /// What `--any` of `show` says.
 pub(crate) const SHOW_ANY_HELP: &str = "Takes a dump too";
 
+/// The usage line of `check`.
+pub(crate) const CHECK_USAGE: &str = "usbdesc check [OPTIONS] < INPUT";
+
 /// What `check` does.
 pub(crate) const CHECK_ABOUT: &str =
     "Checks the descriptor file on standard input by the rules of chapter 9, a line for each finding";
@@ -90,6 +96,9 @@ Exit status:
 /// What `--any` of `check` says.
 pub(crate) const CHECK_ANY_HELP: &str = "Takes a configuration set alone or a dump too";
 
+/// The usage line of `build`.
+pub(crate) const BUILD_USAGE: &str = "usbdesc build [OPTIONS] < INPUT";
+
 /// What `build` does.
 pub(crate) const BUILD_ABOUT: &str =
     "Builds the bytes of the descriptor file whose listing is on standard input";
@@ -118,6 +127,9 @@ Exit status:
 /// What `--comments` says.
 pub(crate) const COMMENTS_HELP: &str =
     "Drops comments, empty lines, and carriage returns at the ends of lines";
+
+/// The usage line of `explain`.
+pub(crate) const EXPLAIN_USAGE: &str = "usbdesc explain [OPTIONS] < INPUT";
 
 /// What `explain` does.
 pub(crate) const EXPLAIN_ABOUT: &str =
@@ -164,6 +176,9 @@ pub(crate) const RUNNING_SPEEDS: &str = "low|full|high|super";
 /// What `--speed` of `explain` says.
 pub(crate) const RAN_AT_HELP: &str =
     "Speed at which the device ran [default: what the descriptors say]";
+
+/// The usage line of `enumerate`.
+pub(crate) const ENUMERATE_USAGE: &str = "usbdesc enumerate [OPTIONS] < INPUT";
 
 /// What `enumerate` does.
 pub(crate) const ENUMERATE_ABOUT: &str =

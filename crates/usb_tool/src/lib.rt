@@ -42,6 +42,7 @@ mod help;
 mod input;
 mod intake;
 mod manner;
+mod meaning;
 mod output;
 mod program;
 mod result_line;
@@ -55,7 +56,8 @@ pub use enumeration::{run_enumerate, run_enumerate_with};
 pub use explanation::{no_input_is_hexadecimal_text, run_explain};
 pub use fault::{ToolFault, verdict};
 pub use manner::{Explaining, manner_of, read_running_speed};
-pub use program::{refuse_words, run};
+pub use meaning::Hint;
+pub use program::{refuse_words, run, run_for};
 pub use settings::{
     EnumerateFlags, FatesFault, Options, Settings, SettingsFault, read_fates, read_speed,
     settings_of,

@@ -1,11 +1,11 @@
 //! What the program does, from the words of its command line to its exit status.
-ghost use Rattle.std.specs.Prelude.{◌≡◌};
+ghost use Rattle.std.specs.Prelude.{◌≡◌, false};
 ghost use Rattle.std.specs.IoError.{error_kind};
 ghost use Rattle.usb_tool.specs.Faults.{words_line, words_status};
 ghost use Rattle.usb_tool.specs.CommandLine.{no_flags};
-ghost use Rattle.usb_tool.specs.Faults.{status_of};
-ghost use Rattle.usb_tool.specs.Runs.{Answers, EndsEnumeration, EndsExplanation, EndsLine, Runs, ReportsLine, ReportsOutcome, line_status};
-ghost use Rattle.usb_tool.specs.OptionFaults.{settings_line, settings_status};
+ghost use Rattle.usb_tool.specs.Faults.{fault_line, meaning_line, status_of};
+ghost use Rattle.usb_tool.specs.Runs.{Answers, EndsEnumeration, EndsExplanation, EndsLine, Runs, ReportsLines, ReportsOutcome, enumerate_hint, line_status};
+ghost use Rattle.usb_tool.specs.OptionFaults.{settings_line, settings_meaning, settings_status};
 
 use crate::build::{run_build, run_build_commented};
 use crate::check::{run_check, run_check_any};
@@ -14,6 +14,7 @@ use crate::enumeration::run_enumerate_with;
 use crate::explanation::run_explain;
 use crate::fault::{ToolFault, tell_line, verdict};
 use crate::manner::{Explaining, manner_of};
+use crate::meaning::{Hint, MeaningLine, fault_meaning};
 use crate::settings::{EnumerateFlags, Options, SettingsFault, settings_of};
 use crate::show::{run_show, run_show_any};
 use clap::error::ErrorKind;
@@ -67,10 +68,35 @@ pub fn run<R: Read, W: Write, E: Write>(
     w: &mut W,
     e: &mut E,
 ) -> u8
-    ensures { Runs words.now (R.remaining r.old) (R.remaining r.new) (W.contents w.old) (W.contents w.new) (E.contents e.old) (E.contents e.new) result }
+    ensures { Runs false words.now (R.remaining r.old) (R.remaining r.new) (W.contents w.old) (W.contents w.new) (E.contents e.old) (E.contents e.new) result }
+{
+    run_for(alloc, words, false, r, w, e)
+}
+
+/// Does what [`run`] does. For a person, who reads standard error at a terminal, the line of a fault is followed by one
+/// that says what the fault means, and where the input is at fault which option or command to try.
+///
+/// ```rust
+/// let words = vec![in alloc; String::from_str(alloc, "usbdesc")?, String::from_str(alloc, "build")?]?;
+/// let mut listing: &[u8] = b"usb\n";
+/// let (mut output, mut errors) = (Vec::new(alloc), Vec::new(alloc));
+/// assert_eq!(rt; run_for(alloc, &words, true, &mut listing, &mut output, &mut errors), 3);
+/// assert_eq!(rt; errors.as_slice(), b"usbdesc: listing fault 2 line 1
+/// no known word; --comments drops comments and empty lines
+/// ");
+/// ```
+pub fn run_for<R: Read, W: Write, E: Write>(
+    alloc: Global,
+    words: &[String],
+    person: bool,
+    r: &mut R,
+    w: &mut W,
+    e: &mut E,
+) -> u8
+    ensures { Runs person words.now (R.remaining r.old) (R.remaining r.new) (W.contents w.old) (W.contents w.new) (E.contents e.old) (E.contents e.new) result }
 {
     match read_line(alloc, words) {
-        Ok(line) => carry_out(alloc, &line, r, w, e),
+        Ok(line) => carry_out(alloc, &line, person, r, w, e),
         Err(error) => match error.to_string(alloc) {
             Ok(text) => tell_refusal(error.kind(), text.as_str(), w, e),
             Err(_) => tell_refusal(ErrorKind::OutOfMemory, NO_MEMORY, w, e),
@@ -83,22 +109,25 @@ pub fn run<R: Read, W: Write, E: Write>(
 fn carry_out<R: Read, W: Write, E: Write>(
     alloc: Global,
     line: &Line<'_>,
+    person: bool,
     r: &mut R,
     w: &mut W,
     e: &mut E,
 ) -> u8
-    ensures { EndsLine line.now (R.remaining r.old) (R.remaining r.new) (W.contents w.old) (W.contents w.new) (E.contents e.old) (E.contents e.new) result }
+    ensures { EndsLine person line.now (R.remaining r.old) (R.remaining r.new) (W.contents w.old) (W.contents w.new) (E.contents e.old) (E.contents e.new) result }
 {
     match line {
-        Line::Show => report(&run_show(alloc, r, w), e),
-        Line::Check => report(&run_check(alloc, r, w), e),
-        Line::Build => report(&run_build(alloc, r, w), e),
-        Line::Enumerate(options) => enumerate_plainly(alloc, options, r, w, e),
-        Line::ShowAny => report(&run_show_any(alloc, r, w), e),
-        Line::CheckAny => report(&run_check_any(alloc, r, w), e),
-        Line::BuildCommented => report(&run_build_commented(alloc, r, w), e),
-        Line::Explain(options) => explain_with(alloc, options, r, w, e),
-        Line::EnumerateWith(options, flags) => enumerate_with(alloc, options, *flags, r, w, e),
+        Line::Show => report(&run_show(alloc, r, w), person, Hint::Any, e),
+        Line::Check => report(&run_check(alloc, r, w), person, Hint::Any, e),
+        Line::Build => report(&run_build(alloc, r, w), person, Hint::Comments, e),
+        Line::Enumerate(options) => enumerate_plainly(alloc, options, person, r, w, e),
+        Line::ShowAny => report(&run_show_any(alloc, r, w), person, Hint::Explain, e),
+        Line::CheckAny => report(&run_check_any(alloc, r, w), person, Hint::Explain, e),
+        Line::BuildCommented => report(&run_build_commented(alloc, r, w), person, Hint::Nothing, e),
+        Line::Explain(options) => explain_with(alloc, options, person, r, w, e),
+        Line::EnumerateWith(options, flags) => enumerate_with(
+            alloc, options, *flags, person, r, w, e,
+        ),
     }
 }
 
@@ -107,15 +136,19 @@ fn carry_out<R: Read, W: Write, E: Write>(
 fn explain_with<R: Read, W: Write, E: Write>(
     alloc: Global,
     options: &Explaining<'_>,
+    person: bool,
     r: &mut R,
     w: &mut W,
     e: &mut E,
 ) -> u8
-    ensures { EndsExplanation options.now (R.remaining r.old) (R.remaining r.new) (W.contents w.old) (W.contents w.new) (E.contents e.old) (E.contents e.new) result }
+    ensures { EndsExplanation person options.now (R.remaining r.old) (R.remaining r.new) (W.contents w.old) (W.contents w.new) (E.contents e.old) (E.contents e.new) result }
 {
     match manner_of(options) {
-        Ok(manner) => report(&run_explain(alloc, r, w, manner, options.hex), e),
-        Err(fault) => refuse(fault, e),
+        Ok(manner) => {
+            let outcome = run_explain(alloc, r, w, manner, options.hex);
+            report(&outcome, person, Hint::Nothing, e)
+        }
+        Err(fault) => refuse(fault, person, e),
     }
 }
 
@@ -123,17 +156,29 @@ fn explain_with<R: Read, W: Write, E: Write>(
 fn enumerate_plainly<R: Read, W: Write, E: Write>(
     alloc: Global,
     options: &Options<'_>,
+    person: bool,
     r: &mut R,
     w: &mut W,
     e: &mut E,
 ) -> u8
-    ensures { EndsEnumeration options.now no_flags (R.remaining r.old) (R.remaining r.new) (W.contents w.old) (W.contents w.new) (E.contents e.old) (E.contents e.new) result }
+    ensures { EndsEnumeration person options.now no_flags (R.remaining r.old) (R.remaining r.new) (W.contents w.old) (W.contents w.new) (E.contents e.old) (E.contents e.new) result }
 {
     let flags = EnumerateFlags {
         log: false,
         with_strings: false,
     };
-    enumerate_with(alloc, options, flags, r, w, e)
+    enumerate_with(alloc, options, flags, person, r, w, e)
+}
+
+/// What to try where the input of `enumerate` is at fault.
+fn enumerate_hint(with_strings: bool) -> Hint
+    ensures { result ≡ enumerate_hint with_strings }
+{
+    if with_strings {
+        Hint::Explain
+    } else {
+        Hint::WithStrings
+    }
 }
 
 /// Enumerates as the options and the flags say. What is wrong with them is reported before anything is read.
@@ -141,42 +186,66 @@ fn enumerate_with<R: Read, W: Write, E: Write>(
     alloc: Global,
     options: &Options<'_>,
     flags: EnumerateFlags,
+    person: bool,
     r: &mut R,
     w: &mut W,
     e: &mut E,
 ) -> u8
-    ensures { EndsEnumeration options.now flags (R.remaining r.old) (R.remaining r.new) (W.contents w.old) (W.contents w.new) (E.contents e.old) (E.contents e.new) result }
+    ensures { EndsEnumeration person options.now flags (R.remaining r.old) (R.remaining r.new) (W.contents w.old) (W.contents w.new) (E.contents e.old) (E.contents e.new) result }
 {
     match settings_of(alloc, options) {
         Ok(settings) => {
             let (l, s) = (settings.limits, settings.speed);
             report(
                 &run_enumerate_with(alloc, r, w, l, s, &settings.fates, flags),
+                person,
+                enumerate_hint(flags.with_strings),
                 e,
             )
         },
-        Err(fault) => refuse(fault, e),
+        Err(fault) => refuse(fault, person, e),
     }
 }
 
 /// The exit status of options that are refused, after the line of their fault.
-fn refuse<E: Write>(fault: SettingsFault, e: &mut E) -> u8
+fn refuse<E: Write>(fault: SettingsFault, person: bool, e: &mut E) -> u8
     ensures status { result ≡ settings_status fault }
-    ensures line { ReportsLine (settings_line fault) (E.contents e.old) (E.contents e.new) }
+    ensures line { ReportsLines person (settings_line fault) (settings_meaning fault) (E.contents e.old) (E.contents e.new) }
 {
     tell_line(fault, e);
+    if person {
+        let line = MeaningLine {
+            meaning: fault.meaning(),
+            hint: "",
+        };
+        tell_line(line, e);
+    }
     fault.status()
 }
 
 /// The exit status of a command, after the line of its fault.
-fn report<E: Write>(outcome: &Result<u8, ToolFault>, e: &mut E) -> u8
+fn report<E: Write>(outcome: &Result<u8, ToolFault>, person: bool, hint: Hint, e: &mut E) -> u8
     ensures status { result ≡ status_of outcome.now }
-    ensures line { ReportsOutcome outcome.now (E.contents e.old) (E.contents e.new) }
+    ensures line { ReportsOutcome person hint outcome.now (E.contents e.old) (E.contents e.new) }
 {
     if let Err(fault) = outcome {
-        tell_line(*fault, e);
+        tell_fault(*fault, person, hint, e);
     }
     verdict(outcome)
+}
+
+/// Writes the line of a fault, and for a person what it means and what to try.
+fn tell_fault<E: Write>(fault: ToolFault, person: bool, hint: Hint, e: &mut E)
+    ensures { ReportsLines person (fault_line fault) (meaning_line hint fault) (E.contents e.old) (E.contents e.new) }
+{
+    tell_line(fault, e);
+    if person {
+        let line = MeaningLine {
+            meaning: fault_meaning(fault),
+            hint: hint.words_at(fault),
+        };
+        tell_line(line, e);
+    }
 }
 
 /// The exit status of a line that names no command, after what `clap` says of it.

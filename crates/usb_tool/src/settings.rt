@@ -276,6 +276,22 @@ impl SettingsFault {
     }
 }
 
+impl SettingsFault {
+    ghost use Rattle.usb_tool.specs.OptionFaults.{settings_meaning};
+
+    /// What the fault means, for people.
+    pub fn meaning(self) -> &'static str
+        ensures { result.now ≡ settings_meaning self }
+    {
+        match self {
+            SettingsFault::Number => "a number that is none or out of its range",
+            SettingsFault::Speed => "a speed is low, full or high, of explain also super",
+            SettingsFault::Fates => "a letter that names no fate: they are . n d u a",
+            SettingsFault::Memory => "there was not enough memory",
+        }
+    }
+}
+
 /// The line that the program prints on standard error, without its line feed.
 impl fmt::Display for SettingsFault {
     ghost output = { λ fault. Some (settings_line fault) };

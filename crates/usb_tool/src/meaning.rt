@@ -1,0 +1,107 @@
+//! What a fault means, for a person, and what to try then.
+ghost use Rattle.std.specs.Prelude.{◌≡◌, ◌++◌, Some};
+ghost use Rattle.usb_tool.specs.Faults.{fault_meaning, file_meaning, hint_at, hint_words, list_meaning};
+
+use crate::fault::ToolFault;
+use std::fmt;
+use usb_file_data::FileWhy;
+use usb_listing::ListWhy;
+
+/// What to try where the input is at fault.
+#[derive(Clone, Copy, Debug, PartialEq, Eq, Hash)]
+pub enum Hint {
+    /// The option `--any`.
+    Any,
+    /// The option `--with-strings`.
+    WithStrings,
+    /// The option `--comments`.
+    Comments,
+    /// The command `explain`.
+    Explain,
+    /// Nothing.
+    Nothing,
+}
+
+impl Hint {
+    /// The words of the hint.
+    fn words(self) -> &'static str
+        ensures { result.now ≡ hint_words self }
+    {
+        match self {
+            Hint::Any => "; --any takes sets and dumps too",
+            Hint::WithStrings => "; --with-strings takes a dump too",
+            Hint::Comments => "; --comments drops comments and empty lines",
+            Hint::Explain => "; see 'usbdesc explain' of it",
+            Hint::Nothing => "",
+        }
+    }
+
+    /// The words of the hint, where the input is at fault.
+    pub(crate) fn words_at(self, fault: ToolFault) -> &'static str
+        ensures { result.now ≡ hint_at self fault }
+    {
+        match fault {
+            ToolFault::File(_) | ToolFault::List(_) | ToolFault::Set(_) | ToolFault::Trailing(_) =>
+                { self.words() }
+            _ => "",
+        }
+    }
+}
+
+/// What a fault means.
+pub(crate) fn fault_meaning(fault: ToolFault) -> &'static str
+    ensures { result.now ≡ fault_meaning fault }
+{
+    match fault {
+        ToolFault::Read => "standard input can't be read",
+        ToolFault::Write => "standard output can't be written",
+        ToolFault::TooLarge => "no file is that long",
+        ToolFault::File(fault) => file_meaning(fault.why),
+        ToolFault::List(fault) => list_meaning(fault.why),
+        ToolFault::Set(fault) => fault.why.message(),
+        ToolFault::Trailing(_) => "bytes after the end of the set",
+        ToolFault::Memory => "there was not enough memory",
+        ToolFault::Hex { .. } => "no hexadecimal text",
+    }
+}
+
+/// Why a file is none.
+fn file_meaning(why: FileWhy) -> &'static str
+    ensures { result.now ≡ file_meaning why }
+{
+    match why {
+        FileWhy::Set(why) => why.message(),
+        why => why.message(),
+    }
+}
+
+/// What is wrong with a line of a listing.
+fn list_meaning(why: ListWhy) -> &'static str
+    ensures { result.now ≡ list_meaning why }
+{
+    match why {
+        ListWhy::Line => "no whole line of printable text",
+        ListWhy::Word => "no known word",
+        ListWhy::Place => "the word can't stand here",
+        ListWhy::Field => "a field is missing, superfluous or not in its form",
+        ListWhy::TooLong => "the set is over 65,535 bytes",
+        ListWhy::Missing => "the text ends before the file does",
+        ListWhy::Memory => "out of memory",
+    }
+}
+
+/// The line below that of a fault.
+#[derive(Clone, Copy)]
+pub(crate) struct MeaningLine {
+    pub(crate) meaning: &'static str,
+    pub(crate) hint: &'static str,
+}
+
+impl fmt::Display for MeaningLine {
+    ghost output = { λ line. Some (line.meaning.now ++ line.hint.now) };
+
+    fn fmt<W: fmt::Write>(&self, f: &mut fmt::Formatter<W>) -> fmt::Result {
+        f.write_str(self.meaning)?;
+        f.write_str(self.hint)
+    }
+}
