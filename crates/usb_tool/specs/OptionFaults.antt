@@ -27,6 +27,7 @@ settings_line faults.Number = codes "usbdesc: bad number"
 settings_line faults.Speed = codes "usbdesc: bad speed"
 settings_line faults.Fates = codes "usbdesc: bad fates"
 settings_line faults.Memory = codes "usbdesc: out of memory"
+settings_line faults.SpeedAlone = codes "usbdesc: --speed without --remarks"
 
 -- what it means, for people
 abbrev pub settings_meaning : SettingsFault → List ℕ

@@ -1,5 +1,5 @@
 -- What the program does, from its command line to its exit status.
-use Rattle.std.specs.Prelude.{◌≡◌, ℕ, ◌⊎◌, Bool, true, false, if◌then◌else◌, List, [], ◌∷◌, ◌++◌, Result, Ok, Err, String}
+use Rattle.std.specs.Prelude.{◌≡◌, ℕ, ◌⊎◌, Bool, true, false, if◌then◌else◌, List, [], ◌∷◌, ◌++◌, Option, Result, Ok, Err, String}
 use Rattle.std.specs.Global.{Global}
 use Rattle.std.specs.Io.KnownBytes.{Keeps}
 use Rattle.clap.specs.Kinds.{IsAmong}
@@ -8,6 +8,7 @@ use Rattle.clap.specs.declared.error.kind.ErrorKind.{ErrorKind}
 use Rattle.clap.specs.declared.error.kind.ErrorKind.TheVariants as kinds
 use Rattle.usb_text.specs.Output.{AppendsFront, Held}
 use Rattle.usb_tool.specs.Commands.{BuildCommentedFails, BuildFails, Built, BuiltCommented, CheckAnyFails, CheckFails, Checked, CheckedAny, ShowAnyFails, ShowFails, Shown, ShownAny}
+use Rattle.usb_tool.specs.RemarkChecks.{CheckRemarksFails, CheckedRemarks, IsRunningSpeed, RefusesChecking}
 use Rattle.usb_tool.specs.Enumerations.{Conditions, EnumerateFails, Enumerated, under}
 use Rattle.usb_tool.specs.Explains.{ExplainFails, Explained, HasBadSpeed, IsManner}
 use Rattle.usb_tool.specs.Faults.{fault_line, meaning_line}
@@ -17,6 +18,8 @@ use Rattle.usb_tool.specs.Endings.{Left}
 use Rattle.usb_tool.specs.CommandLine.{Asks, no_flags, usbdesc_app, word_texts}
 use Rattle.usb_tool.specs.declared.fault.ToolFault.{ToolFault}
 use Rattle.usb_explain.specs.declared.manner.Manner.{Manner}
+use Rattle.usb_explain.specs.declared.speed.SetSpeed.{SetSpeed}
+use Rattle.usb_tool.specs.declared.checking.Checking.{Checking}
 use Rattle.usb_tool.specs.OptionFaults.{settings_line, settings_meaning, settings_status}
 use Rattle.usb_tool.specs.Settings.{IsSettled, RefusesOptions}
 use Rattle.usb_tool.specs.declared.manner.Explaining.{Explaining}
@@ -105,6 +108,17 @@ EndsExplanation person o from to held holds errors told status =
 abbrev pub enumerate_hint : Bool → Hint
 enumerate_hint with_strings = if with_strings then hints.Explain else hints.WithStrings
 
+-- what to try where the input of `check` is at fault
+abbrev pub check_hint : Bool → Hint
+check_hint any = if any then hints.Explain else hints.Any
+
+-- how `check` ends with these options: a speed is for remarks alone
+abbrev pub EndsChecking : Bool → Checking → Course
+EndsChecking person o from to held holds errors told status =
+    OptionsAreTaken (Option SetSpeed) (IsRunningSpeed o)
+    (λ running. Ends person (check_hint o.any) (CheckedRemarks o.any running) (CheckRemarksFails o.any running)) from to held holds errors told status
+    ⊎ OptionsAreRefused person (RefusesChecking o) from to held holds errors told status
+
 -- how `enumerate` ends under these conditions
 abbrev pub EndsUnder : Bool → Conditions → Course
 EndsUnder person c = Ends person (enumerate_hint c.flags.with_strings) (Enumerated c) (EnumerateFails c)
@@ -123,6 +137,7 @@ EndsLine person lines.Build = Ends person hints.Comments Built BuildFails
 EndsLine person (lines.Enumerate options) = EndsEnumeration person options no_flags
 EndsLine person lines.ShowAny = Ends person hints.Explain ShownAny ShowAnyFails
 EndsLine person lines.CheckAny = Ends person hints.Explain CheckedAny CheckAnyFails
+EndsLine person (lines.CheckRemarks options) = EndsChecking person options
 EndsLine person lines.BuildCommented = Ends person hints.Nothing BuiltCommented BuildCommentedFails
 EndsLine person (lines.Explain options) = EndsExplanation person options
 EndsLine person (lines.EnumerateWith options flags) = EndsEnumeration person options flags
