@@ -10,7 +10,7 @@ from playing.run import Run, ends_with
 
 # Each file of these must be named by the list.
 LISTED = ["rows/*.txt", "enumerate/*.txt", "sets/*.bin", "files/*.file", "rules/*.file", "dumps/*.descriptors"]
-LISTED += ["listings/*.txt", "explain/*.bin", "explain/*.descriptors", "hexadecimal/*"]
+LISTED += ["listings/*.txt", "explain/*.bin", "explain/*.descriptors", "hexadecimal/*", "mistakes/*.bin"]
 
 
 def bytes_of(name, ending=""):

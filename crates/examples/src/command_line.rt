@@ -3,7 +3,7 @@ use crate::fields::fault;
 use anyhow::{Result, bail};
 use std::alloc::Global;
 use usb_tool::{
-    EnumerateFlags, Explaining, Fate, Line, Options, manner_of, read_fates, read_line,
+    Checking, EnumerateFlags, Explaining, Fate, Line, Options, manner_of, read_fates, read_line,
     read_running_speed, read_speed, settings_of,
 };
 
@@ -36,6 +36,7 @@ fn command(alloc: Global, line: &Line<'_>) -> Result<String> {
         Line::Enumerate(options) => with_options(alloc, "enumerate", &texts(options)),
         Line::ShowAny => Ok(String::from_str(alloc, "show any")?),
         Line::CheckAny => Ok(String::from_str(alloc, "check any")?),
+        Line::CheckRemarks(options) => checking(alloc, options),
         Line::BuildCommented => Ok(String::from_str(alloc, "build comments")?),
         Line::Explain(options) => explanation(alloc, options),
         Line::EnumerateWith(options, flags) => {
@@ -44,6 +45,16 @@ fn command(alloc: Global, line: &Line<'_>) -> Result<String> {
             Ok(told)
         }
     }
+}
+
+/// A check with the options that are given.
+fn checking(alloc: Global, options: &Checking<'_>) -> Result<String> {
+    let given = [
+        ("any", options.any.then_some("")),
+        ("remarks", options.remarks.then_some("")),
+        ("speed", options.speed),
+    ];
+    with_options(alloc, "check", &given)
 }
 
 /// An explanation with the options that are given.

@@ -93,11 +93,12 @@ const LIMIT_FAULTS: [LimitFault; 2] = [LimitFault::Address, LimitFault::Attempts
 const FATES_FAULTS: [FatesFault; 2] = [FatesFault::Letter, FatesFault::Memory];
 
 /// Why the options of `enumerate` are refused.
-const SETTINGS_FAULTS: [SettingsFault; 4] = [
+const SETTINGS_FAULTS: [SettingsFault; 5] = [
     SettingsFault::Number,
     SettingsFault::Speed,
     SettingsFault::Fates,
     SettingsFault::Memory,
+    SettingsFault::SpeedAlone,
 ];
 
 /// All that can go wrong in a transfer.

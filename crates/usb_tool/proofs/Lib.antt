@@ -10,3 +10,4 @@ pub mod LineLemmas
 pub mod NumberLemmas
 pub mod Hexadecimal
 pub mod Explained
+pub mod Remarking

@@ -57,7 +57,7 @@ no_file shows b e shown = by e.why refl
     by why is h = shown (subst (FileFaulty b e.at) (sym is) h)
 
 -- nothing is written of them
-refused : (extent : Extent) (tells : Telling) (shows : Faulty) (b : List ℕ) (held : Held) (fault : ToolFault) → IsNone shows b fault
+pub refused : (extent : Extent) (tells : Telling) (shows : Faulty) (b : List ℕ) (held : Held) (fault : ToolFault) → IsNone shows b fault
     → Refuses extent tells (RefusesInput shows) b held held fault
 refused extent tells shows b held (faults.File fault) h = (h, keeps_refl held)
 refused extent tells shows b held (faults.Set fault) h = (h, keeps_refl held)

@@ -1,11 +1,12 @@
 -- What the words of a command line ask for.
-use Rattle.std.specs.Prelude.{◌≡◌, ◌≢◌, ℕ, List, [], ◌∷◌, Bool, true, false, Option, Some, None, IfSome, codes, fold, map, option_map, pos, String, string_bytes}
+use Rattle.std.specs.Prelude.{◌≡◌, ◌≢◌, ◌&&◌, not, is_some, ℕ, List, [], ◌∷◌, Bool, true, false, Option, Some, None, IfSome, codes, fold, map, option_map, pos, String, string_bytes}
 use Rattle.std.specs.Str.{bytes_eq}
 use Rattle.std.specs.Borrow.{Bor}
 use Rattle.std.specs.Global.{Global}
 use Rattle.clap.specs.Words.{App, Row, Rule, Text, first_of, new_app, new_rule, with_rule, with_subcommand}
 use Rattle.clap.specs.declared.builder.action.ArgAction.TheVariants as actions
 use Rattle.clap.specs.declared.builder.value_parser.ValueParser.TheVariants as parsers
+use Rattle.usb_tool.specs.declared.checking.Checking.{Checking}
 use Rattle.usb_tool.specs.declared.manner.Explaining.{Explaining}
 use Rattle.usb_tool.specs.declared.command_line.Line.{Line}
 use Rattle.usb_tool.specs.declared.command_line.Line.TheVariants as lines
@@ -52,7 +53,7 @@ abbrev pub show_app : App
 show_app = command_with (codes "show") (flag_rule (codes "any") ∷ [])
 
 abbrev pub check_app : App
-check_app = command_with (codes "check") (flag_rule (codes "any") ∷ [])
+check_app = command_with (codes "check") (flag_rule (codes "any") ∷ flag_rule (codes "remarks") ∷ speed_rule ∷ [])
 
 abbrev pub build_app : App
 build_app = command_with (codes "build") (flag_rule (codes "comments") ∷ [])
@@ -103,6 +104,16 @@ pub record HasFlags (o : Explaining) (rows : List Row) : Type 0 where
   pub hex : o.hex ≡ gives (codes "hex") rows
   pub speed : text_of o.speed ≡ first_of (codes "speed") rows
 
+-- the flags of `check` are those that were found, and so is the text of its speed
+pub record IsChecking (o : Checking) (rows : List Row) : Type 0 where
+  pub any : o.any ≡ gives (codes "any") rows
+  pub remarks : o.remarks ≡ gives (codes "remarks") rows
+  pub speed : text_of o.speed ≡ first_of (codes "speed") rows
+
+-- neither remarks nor a speed were found
+abbrev pub finds_alone : List Row → Bool
+finds_alone rows = not (gives (codes "remarks") rows) && not (is_some (first_of (codes "speed") rows))
+
 -- the text of each option is the one that was found for it
 pub record HasTexts (o : Options) (rows : List Row) : Type 0 where
   pub speed : text_of o.speed ≡ first_of (codes "speed") rows
@@ -126,11 +137,12 @@ Finds name has found = IsNamed name found × IfSome found (λ p. has p.1)
 -- the line is what the subcommand that was found asks for
 abbrev pub Asks : Line → Option (Text × List Row) → Type 0
 Asks lines.Show = Finds (codes "show") (λ rows. gives (codes "any") rows ≡ false)
-Asks lines.Check = Finds (codes "check") (λ rows. gives (codes "any") rows ≡ false)
+Asks lines.Check = Finds (codes "check") (λ rows. (finds_alone rows ≡ true) × (gives (codes "any") rows ≡ false))
 Asks lines.Build = Finds (codes "build") (λ rows. gives (codes "comments") rows ≡ false)
 Asks (lines.Enumerate o) = Finds (codes "enumerate") (λ rows. HasTexts o rows × (flags_of rows ≡ no_flags))
 Asks lines.ShowAny = Finds (codes "show") (λ rows. gives (codes "any") rows ≡ true)
-Asks lines.CheckAny = Finds (codes "check") (λ rows. gives (codes "any") rows ≡ true)
+Asks lines.CheckAny = Finds (codes "check") (λ rows. (finds_alone rows ≡ true) × (gives (codes "any") rows ≡ true))
+Asks (lines.CheckRemarks o) = Finds (codes "check") (λ rows. (finds_alone rows ≡ false) × IsChecking o rows)
 Asks lines.BuildCommented = Finds (codes "build") (λ rows. gives (codes "comments") rows ≡ true)
 Asks (lines.Explain o) = Finds (codes "explain") (HasFlags o)
 Asks (lines.EnumerateWith o flags) = Finds (codes "enumerate") (λ rows. HasTexts o rows × (flags ≡ flags_of rows) × (flags ≢ no_flags))

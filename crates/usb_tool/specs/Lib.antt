@@ -2,6 +2,7 @@ pub mod Endings
 pub mod Faults
 pub mod Inputs
 pub mod Commands
+pub mod RemarkChecks
 pub mod Enumerations
 pub mod Explains
 pub mod CommandLine

@@ -27,6 +27,7 @@ settings_line faults.Number = codes "usbdesc: bad number"
 settings_line faults.Speed = codes "usbdesc: bad speed"
 settings_line faults.Fates = codes "usbdesc: bad fates"
 settings_line faults.Memory = codes "usbdesc: out of memory"
+settings_line faults.SpeedAlone = codes "usbdesc: --speed without --remarks"
 
 -- the exit status: 2 as for a line that is no command, and 3 where it is out of memory
 abbrev pub settings_status : SettingsFault → ℕ

@@ -1,5 +1,5 @@
 -- What the program does, from its command line to its exit status.
-use Rattle.std.specs.Prelude.{◌≡◌, ℕ, ◌⊎◌, List, [], ◌∷◌, ◌++◌, Result, Ok, Err, String}
+use Rattle.std.specs.Prelude.{◌≡◌, ℕ, ◌⊎◌, List, [], ◌∷◌, ◌++◌, Option, Result, Ok, Err, String}
 use Rattle.std.specs.Global.{Global}
 use Rattle.std.specs.Io.KnownBytes.{Keeps}
 use Rattle.clap.specs.Kinds.{IsAmong}
@@ -8,6 +8,7 @@ use Rattle.clap.specs.declared.error.kind.ErrorKind.{ErrorKind}
 use Rattle.clap.specs.declared.error.kind.ErrorKind.TheVariants as kinds
 use Rattle.usb_text.specs.Output.{AppendsFront, Held}
 use Rattle.usb_tool.specs.Commands.{BuildCommentedFails, BuildFails, Built, BuiltCommented, CheckAnyFails, CheckFails, Checked, CheckedAny, ShowAnyFails, ShowFails, Shown, ShownAny}
+use Rattle.usb_tool.specs.RemarkChecks.{CheckRemarksFails, CheckedRemarks, IsRunningSpeed, RefusesChecking}
 use Rattle.usb_tool.specs.Enumerations.{Conditions, EnumerateFails, Enumerated, under}
 use Rattle.usb_tool.specs.Explains.{ExplainFails, Explained, HasBadSpeed, IsManner}
 use Rattle.usb_tool.specs.Faults.{fault_line}
@@ -15,6 +16,8 @@ use Rattle.usb_tool.specs.Endings.{Left}
 use Rattle.usb_tool.specs.CommandLine.{Asks, no_flags, usbdesc_app, word_texts}
 use Rattle.usb_tool.specs.declared.fault.ToolFault.{ToolFault}
 use Rattle.usb_explain.specs.declared.manner.Manner.{Manner}
+use Rattle.usb_explain.specs.declared.speed.SetSpeed.{SetSpeed}
+use Rattle.usb_tool.specs.declared.checking.Checking.{Checking}
 use Rattle.usb_tool.specs.OptionFaults.{settings_line, settings_status}
 use Rattle.usb_tool.specs.Settings.{IsSettled, RefusesOptions}
 use Rattle.usb_tool.specs.declared.manner.Explaining.{Explaining}
@@ -93,6 +96,12 @@ EndsExplanation o from to held holds errors told status =
     OptionsAreTaken Manner (IsManner o) (λ m. Ends (Explained o.hex m) (ExplainFails o.hex m)) from to held holds errors told status
     ⊎ OptionsAreRefused (λ fault. (fault ≡ Speed) × HasBadSpeed o) from to held holds errors told status
 
+-- how `check` ends with these options: a speed is for remarks alone
+abbrev pub EndsChecking : Checking → Course
+EndsChecking o from to held holds errors told status =
+    OptionsAreTaken (Option SetSpeed) (IsRunningSpeed o) (λ running. Ends (CheckedRemarks o.any running) (CheckRemarksFails o.any running)) from to held holds errors told status
+    ⊎ OptionsAreRefused (RefusesChecking o) from to held holds errors told status
+
 -- how `enumerate` ends under these conditions
 abbrev pub EndsUnder : Conditions → Course
 EndsUnder c = Ends (Enumerated c) (EnumerateFails c)
@@ -111,6 +120,7 @@ EndsLine lines.Build = Ends Built BuildFails
 EndsLine (lines.Enumerate options) = EndsEnumeration options no_flags
 EndsLine lines.ShowAny = Ends ShownAny ShowAnyFails
 EndsLine lines.CheckAny = Ends CheckedAny CheckAnyFails
+EndsLine (lines.CheckRemarks options) = EndsChecking options
 EndsLine lines.BuildCommented = Ends BuiltCommented BuildCommentedFails
 EndsLine (lines.Explain options) = EndsExplanation options
 EndsLine (lines.EnumerateWith options flags) = EndsEnumeration options flags

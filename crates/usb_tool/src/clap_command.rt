@@ -8,8 +8,8 @@ use crate::help::{
     ABOUT, ADDRESS_HELP, ATTEMPTS_HELP, BRIEF_HELP, BUILD_ABOUT, BUILD_HELP, CHECK_ABOUT,
     CHECK_ANY_HELP, CHECK_HELP, COMMENTS_HELP, ENUMERATE_ABOUT, ENUMERATE_HELP, EXPLAIN_ABOUT,
     EXPLAIN_HELP, FATES, FATES_HELP, HEX_HELP, LOG_HELP, NAKS_HELP, NO_PLACES_HELP, RAN_AT_HELP,
-    RUNNING_SPEEDS, SHOW_ABOUT, SHOW_ANY_HELP, SHOW_HELP, SPEED_HELP, SPEEDS, UTF8_HELP, VERSION,
-    WITH_STRINGS_HELP,
+    REMARKS_HELP, RUNNING_SPEEDS, SHOW_ABOUT, SHOW_ANY_HELP, SHOW_HELP, SPEED_HELP, SPEEDS,
+    UTF8_HELP, VERSION, WITH_STRINGS_HELP,
 };
 use clap::{Arg, ArgAction, Command, value_parser};
 use std::alloc::{AllocError, Global};
@@ -46,13 +46,15 @@ fn show<'a>(alloc: Global) -> Result<Command<'a>, AllocError>
     add_option(show, flag(alloc, "any", SHOW_ANY_HELP))
 }
 
-/// The subcommand `check` with its option.
+/// The subcommand `check` with its options.
 fn check<'a>(alloc: Global) -> Result<Command<'a>, AllocError>
     ensures app { IfOk result (λ c. app_of c ≡ check_app) }
     ensures local { IfOk result (λ c. (out-Command c).has_globals ≡ false) }
 {
     let check = command(alloc, "check", CHECK_ABOUT, CHECK_HELP);
-    add_option(check, flag(alloc, "any", CHECK_ANY_HELP))
+    let check = add_option(check, flag(alloc, "any", CHECK_ANY_HELP))?;
+    let check = add_option(check, flag(alloc, "remarks", REMARKS_HELP))?;
+    add_option(check, ran_at(alloc))
 }
 
 /// The subcommand `build` with its option.

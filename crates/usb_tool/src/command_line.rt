@@ -2,9 +2,10 @@
 ghost use Rattle.std.specs.Prelude.{◌≡◌, IfOk, Some, codes};
 ghost use Rattle.clap.specs.Words.{fault_of, found_of, rows_of, subcommand_of, subcommand_rows_of};
 ghost use Rattle.clap.specs.Kinds.{FailsBy};
-ghost use Rattle.usb_tool.specs.CommandLine.{Asks, HasFlags, HasTexts, flags_of, gives, is_given, text_of, usbdesc_app, word_texts};
+ghost use Rattle.usb_tool.specs.CommandLine.{Asks, HasFlags, IsChecking, HasTexts, flags_of, gives, is_given, text_of, usbdesc_app, word_texts};
 ghost use Rattle.usb_tool.specs.inside.Taking.{NamesCommand};
 
+use crate::checking::Checking;
 use crate::clap_command::usbdesc;
 use crate::manner::Explaining;
 use crate::settings::{EnumerateFlags, Options};
@@ -26,6 +27,8 @@ pub enum Line<'a> {
     ShowAny,
     /// `check --any`: what breaks a rule in the set, the file or the dump that is the input.
     CheckAny,
+    /// `check --remarks`, with its other options: what breaks a rule in the input, and what is remarked of it.
+    CheckRemarks(Checking<'a>),
     /// `build --comments`: the bytes of the file whose listing, with comments, is the input.
     BuildCommented,
     /// What the descriptors of the input mean, in words.
@@ -95,10 +98,23 @@ fn show_of<'a>(matches: &ArgMatches<'a>) -> Line<'a>
 fn check_of<'a>(matches: &ArgMatches<'a>) -> Line<'a>
     ensures { Asks result (Some (codes "check", rows_of (found_of matches.now))) }
 {
-    if has_flag(matches, "any") {
+    let checking = checking_of(matches);
+    if checking.remarks || checking.speed.is_some() {
+        Line::CheckRemarks(checking)
+    } else if checking.any {
         Line::CheckAny
     } else {
         Line::Check
+    }
+}
+
+fn checking_of<'a>(matches: &ArgMatches<'a>) -> Checking<'a>
+    ensures { IsChecking result (rows_of (found_of matches.now)) }
+{
+    Checking {
+        any: has_flag(matches, "any"),
+        remarks: has_flag(matches, "remarks"),
+        speed: matches.get_str("speed"),
     }
 }
 

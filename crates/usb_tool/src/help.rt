@@ -81,14 +81,23 @@ Rules:
   V12  one of bits 15 to 13 of wMaxPacketSize is one
   V13  an association binds no interface, or one that the set does not have
 
+Remarks:
+  With --remarks a line for each remark follows, in the order of the bytes: 'R', the number of
+  the remark in docs/formats.md, and the part and the numbers of its descriptor, as in the line
+  of a finding. The speed of the device, --speed, is for remarks alone.
+
 Exit status:
   0  no rule is broken; the line 'no findings' is written
-  1  a rule is broken; a line is written for each finding
+  1  a rule is broken, or there is a remark; a line is written for each
   2  the command line is invalid
   3  reading, the input or writing is at fault; standard error says how";
 
 /// What `--any` of `check` says.
 pub(crate) const CHECK_ANY_HELP: &str = "Takes a configuration set alone or a dump too";
+
+/// What `--remarks` says.
+pub(crate) const REMARKS_HELP: &str =
+    "Writes a line for each remark too, as 'explain' has them with a '?'";
 
 /// What `build` does.
 pub(crate) const BUILD_ABOUT: &str =

@@ -6,7 +6,8 @@
 //! fault. What each line says is in the crate `usb_listing`. [`run_check`] writes what breaks a rule of
 //! chapter 9 in a file (`specs/Commands.antt`), and [`run_build`] reads a listing and writes the bytes of its file
 //! (`specs/Commands.antt`). [`run_show_any`] and [`run_check_any`] take a set alone, a file or a dump, and
-//! [`run_build_commented`] a listing with comments. [`run_explain`] writes what the descriptors of any of these inputs
+//! [`run_build_commented`] a listing with comments. [`run_check_remarks`] writes remarks too (`specs/RemarkChecks.antt`).
+//! [`run_explain`] writes what the descriptors of any of these inputs
 //! mean, in words, also where it is the hexadecimal text of one (`specs/Explains.antt`).
 //! [`run_enumerate`] enumerates a device that has the descriptors of a file, over a bus that loses
 //! packets and handshakes, and writes what came of that (`specs/Enumerations.antt`). [`run_enumerate_with`] takes a dump
@@ -33,6 +34,8 @@
 
 mod build;
 mod check;
+mod check_remarks;
+mod checking;
 mod clap_command;
 mod command_line;
 mod enumeration;
@@ -50,6 +53,8 @@ mod show;
 
 pub use build::{run_build, run_build_commented};
 pub use check::{run_check, run_check_any};
+pub use check_remarks::{remarks_add_lines_alone, run_check_remarks};
+pub use checking::{Checking, running_speed};
 pub use command_line::{Line, read_line};
 pub use enumeration::{run_enumerate, run_enumerate_with};
 pub use explanation::{no_input_is_hexadecimal_text, run_explain};

@@ -36,7 +36,7 @@ pub fn manner_of(explaining: &Explaining<'_>) -> Result<Manner, SettingsFault>
 }
 
 /// The speed that is named, if one is; `None` where no speed has the name.
-fn speed_of(name: Option<&str>) -> Option<Option<SetSpeed>>
+pub(crate) fn speed_of(name: Option<&str>) -> Option<Option<SetSpeed>>
     ensures { result ≡ running_said name.entry }
 {
     match name {

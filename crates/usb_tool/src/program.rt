@@ -4,11 +4,13 @@ ghost use Rattle.std.specs.IoError.{error_kind};
 ghost use Rattle.usb_tool.specs.Faults.{words_line, words_status};
 ghost use Rattle.usb_tool.specs.CommandLine.{no_flags};
 ghost use Rattle.usb_tool.specs.Faults.{status_of};
-ghost use Rattle.usb_tool.specs.Runs.{Answers, EndsEnumeration, EndsExplanation, EndsLine, Runs, ReportsLine, ReportsOutcome, line_status};
+ghost use Rattle.usb_tool.specs.Runs.{Answers, EndsChecking, EndsEnumeration, EndsExplanation, EndsLine, Runs, ReportsLine, ReportsOutcome, line_status};
 ghost use Rattle.usb_tool.specs.OptionFaults.{settings_line, settings_status};
 
 use crate::build::{run_build, run_build_commented};
 use crate::check::{run_check, run_check_any};
+use crate::check_remarks::run_check_remarks;
+use crate::checking::{Checking, running_speed};
 use crate::command_line::{Line, read_line};
 use crate::enumeration::run_enumerate_with;
 use crate::explanation::run_explain;
@@ -49,7 +51,7 @@ const NO_MEMORY: &str = "error: out of memory\n";
 
 /// Carries out what the words ask for, of which the first is the program's name: `r` is standard input, `w`
 /// standard output and `e` standard error. The result is the exit status: 0 where the command did its work
-/// or help was asked for, 1 where `check` did and has a finding or `enumerate` did without success, 2 where the words
+/// or help was asked for, 1 where `check` did and has a line of a finding or a remark or `enumerate` did without success, 2 where the words
 /// are no command or an option says nothing, and 3 where the command failed. The line of its fault is then written to `e`,
 /// and nothing else ever is but what `clap` says of words that are no command. What cannot be written to `e` is lost.
 ///
@@ -96,6 +98,7 @@ fn carry_out<R: Read, W: Write, E: Write>(
         Line::Enumerate(options) => enumerate_plainly(alloc, options, r, w, e),
         Line::ShowAny => report(&run_show_any(alloc, r, w), e),
         Line::CheckAny => report(&run_check_any(alloc, r, w), e),
+        Line::CheckRemarks(options) => check_with(alloc, options, r, w, e),
         Line::BuildCommented => report(&run_build_commented(alloc, r, w), e),
         Line::Explain(options) => explain_with(alloc, options, r, w, e),
         Line::EnumerateWith(options, flags) => enumerate_with(alloc, options, *flags, r, w, e),
@@ -115,6 +118,23 @@ fn explain_with<R: Read, W: Write, E: Write>(
 {
     match manner_of(options) {
         Ok(manner) => report(&run_explain(alloc, r, w, manner, options.hex), e),
+        Err(fault) => refuse(fault, e),
+    }
+}
+
+/// Checks as the options say. A speed that is none, or that is named without remarks, is reported before anything is read.
+#[tactic(auto, using(crate::proofs::Running::command_ends))]
+fn check_with<R: Read, W: Write, E: Write>(
+    alloc: Global,
+    options: &Checking<'_>,
+    r: &mut R,
+    w: &mut W,
+    e: &mut E,
+) -> u8
+    ensures { EndsChecking options.now (R.remaining r.old) (R.remaining r.new) (W.contents w.old) (W.contents w.new) (E.contents e.old) (E.contents e.new) result }
+{
+    match running_speed(options) {
+        Ok(speed) => report(&run_check_remarks(alloc, r, w, options.any, speed), e),
         Err(fault) => refuse(fault, e),
     }
 }

@@ -247,10 +247,12 @@ pub enum SettingsFault {
     Fates,
     /// Out of memory.
     Memory,
+    /// A speed is named, and no remarks are asked for.
+    SpeedAlone,
 }
 
 impl SettingsFault {
-    /// The fault's number, 1 to 4: of the first three a lower one is tested first.
+    /// The fault's number, 1 to 5: of the first three a lower one is tested first.
     ///
     /// ```rust
     /// assert_eq!(rt; SettingsFault::Speed.number(), 2);
@@ -286,6 +288,7 @@ impl fmt::Display for SettingsFault {
             SettingsFault::Speed => f.write_str("usbdesc: bad speed"),
             SettingsFault::Fates => f.write_str("usbdesc: bad fates"),
             SettingsFault::Memory => f.write_str("usbdesc: out of memory"),
+            SettingsFault::SpeedAlone => f.write_str("usbdesc: --speed without --remarks"),
         }
     }
 }
