@@ -35,6 +35,7 @@ settings_meaning faults.Number = codes "a number that is none or out of its rang
 settings_meaning faults.Speed = codes "a speed is low, full or high, of explain also super"
 settings_meaning faults.Fates = codes "a letter that names no fate: they are . n d u a"
 settings_meaning faults.Memory = codes "there was not enough memory"
+settings_meaning faults.SpeedAlone = codes "a speed is for remarks: check --remarks --speed full"
 
 -- the exit status: 2 as for a line that is no command, and 3 where it is out of memory
 abbrev pub settings_status : SettingsFault → ℕ

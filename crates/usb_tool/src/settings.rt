@@ -290,6 +290,7 @@ impl SettingsFault {
             SettingsFault::Speed => "a speed is low, full or high, of explain also super",
             SettingsFault::Fates => "a letter that names no fate: they are . n d u a",
             SettingsFault::Memory => "there was not enough memory",
+            SettingsFault::SpeedAlone => "a speed is for remarks: check --remarks --speed full",
         }
     }
 }
