@@ -5,8 +5,8 @@
 //! line and the three streams.
 #![tactic(auto)]
 
-use std::process::ExitCode;
 use std::io::IsTerminal;
+use std::process::ExitCode;
 use std::rt::Env;
 use std::{env, io};
 use usb_tool::{read_line, refuse_words, run_for};
