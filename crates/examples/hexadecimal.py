@@ -134,9 +134,33 @@ def read(text):
     try:
         return as_it_is(text)
     except Fault:
-        if re.search(rb"[\x00-\x08\x0b\x0c\x0e-\x1f\x7f]", text):
+        if not is_source(text):
             raise
         return source(text)
+
+
+def is_source(text):
+    """Whether all characters are printable ones, or beyond ASCII, tabs, and ends of lines."""
+    return not re.search(rb"[\x00-\x08\x0b\x0c\x0e-\x1f\x7f]", text)
+
+
+def found_at(text, line, column):
+    """What stops a text at this place, in words."""
+    lines = text.split(b"\n")
+    rest = lines[line - 1][column - 1 :]
+    if not rest:
+        return "is the end" + " of the line" * (line < len(lines))
+    return f"has '{chr(rest[0])}'" if 32 <= rest[0] <= 126 else f"has 0x{rest[0]:02x}"
+
+
+def stop(text, fault):
+    """The line that says where a text stops being hexadecimal; none of what doesn't look like text."""
+    if text[:2] in (b"\xff\xfe", b"\xfe\xff"):
+        return "? not hexadecimal text: UTF-16\n"
+    if not text or not is_source(text):
+        return ""
+    line, column = fault.args
+    return f"? not hexadecimal text: line {line} column {column} {found_at(text, line, column)}\n"
 
 
 def main(words):

@@ -261,8 +261,9 @@ def explain(b):
     if form(b)[0]:
         try:
             data = hexadecimal.read(b)
-        except hexadecimal.Fault:
-            return explain_bytes(b)
+        except hexadecimal.Fault as stopped:
+            status, text, fault = explain_bytes(b)
+            return status, hexadecimal.stop(b, stopped).encode() + text, fault
         status, text, fault = explain_bytes(data)
         return status, f"hexadecimal text, {explaining.count(len(data), 'byte')}: ".encode() + text, fault
     return explain_bytes(b)
