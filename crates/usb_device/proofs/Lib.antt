@@ -1,5 +1,6 @@
 pub mod HaltLemmas
 pub mod StageLemmas
+pub mod WriteLemmas
 pub mod PlaceLemmas
 pub mod ImageLemmas
 pub mod AcceptedLemmas

@@ -1,18 +1,18 @@
 -- A reply of a device has at most 64 bytes: the packets of an accepted description have no more.
-use Rattle.std.proofs.Common.{◌≡◌, ℕ, zero, suc, ◌-◌, ◌≤◌, ◌==◌, nat_lt, Bool, true, false, List, [], ◌∷◌, length, take, drop, if◌then◌else◌, refl, arith, sym, subst}
+use Rattle.std.proofs.Common.{◌≡◌, ℕ, zero, suc, ◌-◌, ◌≤◌, ◌==◌, nat_lt, min, not, Bool, true, false, List, [], ◌∷◌, ◌++◌, length, take, drop, if◌then◌else◌, refl, arith, sym, subst}
 use Rattle.std.proofs.lemmas.Bool.Decides.{nat_tests}
 use Rattle.usb_fields.specs.declared.packet.Toggle.{Toggle}
 use Rattle.usb_fields.specs.declared.packet.Toggle.TheVariants.{Data0, Data1}
 use Rattle.usb_fields.specs.declared.packet.Speed.{Speed}
 use Rattle.usb_fields.specs.declared.setup.Setup.{Setup}
-use Rattle.usb_fields.specs.Packets.{Token, SetupToken, InToken, OutToken, Sent, Reply, NoReply, packets, packets_within}
+use Rattle.usb_fields.specs.Packets.{Token, SetupToken, InToken, OutToken, Sent, Reply, AckReply, NoReply, is_same_toggle, packets, packets_within}
 use Rattle.usb_file_data.specs.declared.file.DescriptorFile.{DescriptorFile}
 use Rattle.usb_file_data.specs.Findings.{findings}
 use Rattle.usb_file_data.proofs.Sorting.{device_right}
 use Rattle.usb_device.specs.Accepted.{Accepted}
 use Rattle.usb_device.specs.declared.state.State.{State}
 use Rattle.usb_device.specs.Requests.{Outcome, answer}
-use Rattle.usb_device.specs.Step.{DeviceStage, Idle, Halted, Sending, StatusOut, Over, StatusIn, DeviceView, Served, next_packet, replies, served, served_here, served_in, served_out, status_out}
+use Rattle.usb_device.specs.Step.{DeviceStage, Idle, Halted, Sending, StatusOut, Over, StatusIn, Receiving, Written, DeviceView, Served, awaited, gathered, next_packet, replies, served, served_here, served_in, served_out, stalls, status_out}
 use Rattle.usb_device.specs.View.{served_by}
 use Rattle.usb_device.specs.Transactions.{HasRoom}
 
@@ -64,15 +64,24 @@ status_fits s stage Data0 bytes = tt
 status_fits s stage Data1 [] = tt
 status_fits s stage Data1 (x ∷ bytes) = tt
 
-out_fits : (s : State) (stage : DeviceStage) (toggle : Toggle) (bytes : List ℕ) → HasRoom (served_out s stage toggle bytes).reply
-out_fits s Idle toggle bytes = tt
-out_fits s (Halted refused) toggle bytes = tt
-out_fits s (Sending b m k) toggle bytes = status_fits s (Sending b m k) toggle bytes
-out_fits s StatusOut toggle bytes = status_fits s StatusOut toggle bytes
-out_fits s Over toggle bytes = status_fits s Over toggle bytes
-out_fits s (StatusIn q carried) toggle bytes = tt
+if_fits : (c : Bool) (a b : Served) → HasRoom a.reply → HasRoom b.reply → HasRoom (if c then a else b).reply
+if_fits true a b x y = x
+if_fits false a b x y = y
 
 module _ (table : State → Setup → Outcome) (n : ℕ) (small : n ≤ 64) where
+  out_fits : (s : State) (stage : DeviceStage) (toggle : Toggle) (bytes : List ℕ) → HasRoom (served_out table n s stage toggle bytes).reply
+  out_fits s Idle toggle bytes = tt
+  out_fits s (Halted refused) toggle bytes = tt
+  out_fits s (Sending b m k) toggle bytes = status_fits s (Sending b m k) toggle bytes
+  out_fits s StatusOut toggle bytes = status_fits s StatusOut toggle bytes
+  out_fits s Over toggle bytes = status_fits s Over toggle bytes
+  out_fits s (StatusIn q carried) toggle bytes = if_fits (q.length == 0) (stalls s) (replies AckReply s (StatusIn q carried) false) tt tt
+  out_fits s (Receiving q got) toggle bytes =
+      if_fits (not (is_same_toggle toggle (awaited n (length got)))) (replies AckReply s (Receiving q got) false) _ tt
+      (if_fits (length bytes == min n (q.length - length got)) (replies AckReply s (gathered q (table s q) (got ++ bytes)) false) (stalls s) tt tt)
+  out_fits s (Written q got) toggle bytes =
+      if_fits (is_same_toggle toggle (awaited n (length got))) (stalls s) (replies AckReply s (Written q got) false) tt tt
+
   in_fits : (s : State) (stage : DeviceStage) → HasRoom (served_in table n s stage).reply
   in_fits s Idle = tt
   in_fits s (Halted refused) = tt
@@ -80,6 +89,8 @@ module _ (table : State → Setup → Outcome) (n : ℕ) (small : n ≤ 64) wher
   in_fits s StatusOut = tt
   in_fits s Over = tt
   in_fits s (StatusIn q carried) = omega arith
+  in_fits s (Receiving q got) = tt
+  in_fits s (Written q got) = tt
 
   here_fits : (d : DeviceView) (token : Token) (ready : Bool) → HasRoom (served_here table n d token ready).reply
   here_fits d (SetupToken b) ready = tt
@@ -88,12 +99,9 @@ module _ (table : State → Setup → Outcome) (n : ℕ) (small : n ≤ 64) wher
   here_fits d (OutToken toggle bytes) false = tt
   here_fits d (OutToken toggle bytes) true = out_fits d.state d.stage toggle bytes
 
-  if_here : (c : Bool) (s : Served) (d : DeviceView) → HasRoom s.reply → HasRoom (if c then s else replies NoReply d.state d.stage false).reply
-  if_here true s d h = h
-  if_here false s d h = tt
-
   served_fits : (d : DeviceView) (sent : Sent) (ready : Bool) → HasRoom (served table n d sent ready).reply
-  served_fits d sent ready = if_here (sent.address == d.state.address) (served_here table n d sent.token ready) d (here_fits d sent.token ready)
+  served_fits d sent ready =
+      if_fits (sent.address == d.state.address) (served_here table n d sent.token ready) (replies NoReply d.state d.stage false) (here_fits d sent.token ready) tt
 
 -- a reply of a device with accepted descriptors
 pub reply_has_room : (f : DescriptorFile) (speed : Speed) (d : DeviceView) (sent : Sent) (ready : Bool) (reply : Reply) → Accepted f speed

@@ -1,5 +1,5 @@
 -- Which descriptors a device can be made of, at which speed.
-use Rattle.std.specs.Prelude.{◌≡◌, ℕ, ◌==◌, ◌||◌, ◌&&◌, nat_lt, Bool, false, not, List, [], ◌∷◌, length, Option, Some, None, is_some, if◌then◌else◌, codes}
+use Rattle.std.specs.Prelude.{◌≡◌, ℕ, ◌==◌, ◌||◌, ◌&&◌, nat_lt, Bool, false, not, List, [], ◌∷◌, length, Option, Some, None, is_some, if◌then◌else◌, codes, get_or, map, ◌-◌}
 use Rattle.std.specs.List.{list_any}
 use Rattle.usb_fields.specs.Numbers.{number_in}
 use Rattle.usb_fields.specs.declared.packet.Speed.{Speed}
@@ -8,6 +8,9 @@ use Rattle.usb_file_data.specs.declared.file.DescriptorFile.{DescriptorFile}
 use Rattle.usb_file_data.specs.declared.file.Strings.{Strings}
 use Rattle.usb_file_data.specs.File.{has_wrong_count, has_wrong_kind, has_wrong_layout, are_wrong_strings, named_indices}
 use Rattle.usb_file_data.specs.declared.finding.Finding.{Finding}
+use Rattle.usb_file_data.specs.declared.rule.Rule.{Rule}
+use Rattle.usb_file_data.specs.declared.rule.TheConstants.{MESSAGES}
+use Rattle.usb_file_data.specs.Numbers.{rule_number, rule_numbered}
 use Rattle.usb_file_data.specs.Findings.{findings}
 use Rattle.usb_device.specs.declared.acceptance.DescriptionFault.{DescriptionFault}
 use Rattle.usb_device.specs.contracts.acceptance.DescriptionFault.{the_type as description_faults}
@@ -82,6 +85,19 @@ Refuses f s fault = refusal_of f s ≡ Some fault
 -- the number of a refusal
 abbrev pub fault_number : DescriptionFault → ℕ
 fault_number fault = number_in description_faults fault
+
+-- what breaks a rule, if it is one
+abbrev pub broken_words : Option Rule → List ℕ
+broken_words None = []
+broken_words (Some rule) = get_or (map (λ message. message.now) MESSAGES) (rule_number rule - 1) []
+
+-- the message of a refusal, for people; of a finding what breaks its rule
+abbrev pub fault_message : DescriptionFault → List ℕ
+fault_message (faults.Finding finding) = broken_words (rule_numbered finding.rule)
+fault_message faults.Texts = codes "the strings are not those that the file names, or a language stands twice"
+fault_message faults.Speed = codes "no device of this speed has such descriptors"
+fault_message faults.Memory = codes "out of memory"
+fault_message faults.Unwritable = codes "a set has no bytes, or the sets are not as declared"
 
 -- The number of a fault, and its message.
 

@@ -1,6 +1,6 @@
 -- Answers beside the table of standard requests. A SETUP is acknowledged whatever it asks for (8.4.6.4), and a refusal is
 -- reported by the STALL of the IN or OUT after it (8.5.3.4): in between the device's owner may answer the request.
-use Rattle.std.specs.Prelude.{ℕ, ◌==◌, ◌&&◌, ◌||◌, ◌/◌, nat_lt, Bool, true, false, not, if◌then◌else◌, List, length, take, Option, Some, None}
+use Rattle.std.specs.Prelude.{ℕ, ◌==◌, ◌&&◌, ◌||◌, ◌/◌, nat_lt, nat_le, Bool, true, false, not, if◌then◌else◌, List, length, take, Option, Some, None}
 use Rattle.usb_fields.specs.declared.setup.Direction.{Direction}
 use Rattle.usb_fields.specs.declared.setup.Direction.TheVariants as directions
 use Rattle.usb_fields.specs.Setup.{direction_of, class_of, recipient_of}
@@ -13,12 +13,14 @@ use Rattle.usb_device.specs.declared.beside.Unanswered.{Unanswered}
 use Rattle.usb_device.specs.declared.beside.Unanswered.TheVariants.{Nothing, Closed, Shape, Room}
 use Rattle.usb_device.specs.declared.state.State.{State}
 use Rattle.usb_device.specs.Requests.{Outcome, Bytes, Done, Refused, when}
-use Rattle.usb_device.specs.Step.{DeviceStage, Idle, Halted, Sending, StatusOut, Over, StatusIn, DeviceView, begun}
+use Rattle.usb_device.specs.Requests as outcomes
+use Rattle.usb_device.specs.Step.{DeviceStage, Halted, StatusIn, Receiving, Written, DeviceView, begun, completed}
 
--- what an owner answers: these bytes, that the request is done, or nothing
+-- what an owner answers: these bytes, that the request is done, that its data are taken and how they are judged, or nothing
 pub data Response : Type 0 where
   Gives : (bytes : List ℕ) → Response
   Does : Response
+  Takes : (judge : List ℕ → Bool) → Response
   Declines : Response
 
 -- the most bytes of an answer
@@ -61,15 +63,20 @@ is_in directions.Out = false
 abbrev pub asks_for_bytes : Setup → Bool
 asks_for_bytes q = not (q.length == 0) && is_in (direction_of q.request_type)
 
+-- whether a request brings bytes to the device
+abbrev pub brings_bytes : Setup → Bool
+brings_bytes q = not (q.length == 0) && not (is_in (direction_of q.request_type))
+
 -- whether bytes, cut to wLength, are more than a room has
 abbrev pub overflows : ℕ → Setup → List ℕ → Bool
 overflows room q bytes = nat_lt room (length (take q.length bytes))
 
--- what comes of an open request: bytes where it asks for some, cut to wLength and within the room, and a status stage alone
--- where it has no data stage. The state stays.
+-- what comes of an open request: bytes where it asks for some, cut to wLength and within the room; a status stage alone
+-- where it has no data stage; data where it brings some, for which there is room. The state stays.
 abbrev pub kept_open : ℕ → State → Setup → Response → Outcome
 kept_open room s q (Gives bytes) = when (asks_for_bytes q && not (overflows room q bytes)) (Bytes (take q.length bytes))
 kept_open room s q Does = when (q.length == 0) (Done s)
+kept_open room s q (Takes judge) = when (brings_bytes q && nat_le q.length room) (outcomes.Takes judge)
 kept_open room s q Declines = Refused
 
 -- an answer, kept to what may come of the request
@@ -78,9 +85,8 @@ kept_to room s q r = when (is_open q) (kept_open room s q r)
 
 -- the first answer, or where it is a refusal the second
 abbrev pub otherwise : Outcome → Outcome → Outcome
-otherwise (Bytes bytes) second = Bytes bytes
-otherwise (Done next) second = Done next
 otherwise Refused second = second
+otherwise first second = first
 
 -- a table of answers, with a responder beside it
 abbrev pub beside : ℕ → (State → Setup → Outcome) → (State → Setup → Response) → State → Setup → Outcome
@@ -88,21 +94,18 @@ beside room table respond s q = otherwise (table s q) (kept_to room s q (respond
 
 -- the request that is refused, and whose refusal the host was not informed of
 abbrev pub refused_in : DeviceStage → Option Setup
-refused_in Idle = None
 refused_in (Halted refused) = refused
-refused_in (Sending bytes limit acked) = None
-refused_in StatusOut = None
-refused_in Over = None
-refused_in (StatusIn request carried_out) = None
+refused_in stage = None
+
+-- the write whose data have all come, and that is not answered yet, with them
+abbrev pub written_in : DeviceStage → Option (Setup × List ℕ)
+written_in (Written request got) = Some (request, got)
+written_in stage = None
 
 -- the request that was carried out, in its status stage: with SET_ADDRESS the ACK is still to come
 abbrev pub carried_out_in : DeviceStage → Option Setup
-carried_out_in Idle = None
-carried_out_in (Halted refused) = None
-carried_out_in (Sending bytes limit acked) = None
-carried_out_in StatusOut = None
-carried_out_in Over = None
-carried_out_in (StatusIn request carried_out) = if carried_out then Some request else None
+carried_out_in (StatusIn request true) = Some request
+carried_out_in stage = None
 
 -- the stage after an answer to that request: it begins anew, by the answer
 abbrev pub answered_from : ℕ → State → Response → DeviceStage → Option Setup → DeviceStage
@@ -113,15 +116,60 @@ answered_from room s r stage (Some q) = begun q (kept_to room s q r)
 abbrev pub answered : ℕ → Response → DeviceView → DeviceView
 answered room r d = record d { stage = answered_from room d.state r d.stage (refused_in d.stage) }
 
+-- the stage after an answer to the request whose data have all come: they are judged, or wait
+abbrev pub judged_from : ℕ → State → Response → DeviceStage → DeviceStage
+judged_from room s r (Written q got) = completed q (kept_to room s q r) got
+judged_from room s r stage = stage
+
+-- the device after that answer of its owner
+abbrev pub judged : ℕ → Response → DeviceView → DeviceView
+judged room r d = record d { stage = judged_from room d.state r d.stage }
+
+-- The owner accepts: a request without data, or the data that a write brings, or, once all have come, that they are good.
+
+-- the answer by which a refused request is accepted
+abbrev pub acceptance : Setup → Response
+acceptance q = if q.length == 0 then Does else Takes (λ bytes. true)
+
+-- the stage then
+abbrev pub accepted_from : ℕ → State → DeviceStage → DeviceStage
+accepted_from room s (Halted (Some q)) = begun q (kept_to room s q (acceptance q))
+accepted_from room s (Written q got) = StatusIn q false
+accepted_from room s stage = stage
+
+-- the device then
+abbrev pub accepted : ℕ → DeviceView → DeviceView
+accepted room d = record d { stage = accepted_from room d.state d.stage }
+
+-- The owner refuses, until the status stage was answered: STALL is the answer then, whatever comes before the next SETUP.
+
+-- the stage then: that of a request which is not the owner's stays
+abbrev pub rejected_from : DeviceStage → DeviceStage
+rejected_from (Halted refused) = Halted None
+rejected_from (Receiving q got) = Halted None
+rejected_from (Written q got) = Halted None
+rejected_from (StatusIn q false) = if is_open q then Halted None else StatusIn q false
+rejected_from stage = stage
+
+-- the device then
+abbrev pub rejected : DeviceView → DeviceView
+rejected d = record d { stage = rejected_from d.stage }
+
 -- why these bytes are no answer to an open request, if they are none
 abbrev pub unfit_bytes : ℕ → List ℕ → Setup → Option Unanswered
 unfit_bytes room bytes q = if not (asks_for_bytes q) then Some Shape else if overflows room q bytes then Some Room else None
 
--- and why the status stage of a request without data is none
-abbrev pub unfit_status : Setup → Option Unanswered
-unfit_status q = if q.length == 0 then None else Some Shape
+-- and why an open request can't be accepted: its data go to the host, or have no room
+abbrev pub unfit_acceptance : ℕ → Setup → Option Unanswered
+unfit_acceptance room q =
+    if q.length == 0 then None else if not (brings_bytes q) then Some Shape else if nat_lt room q.length then Some Room else None
 
 -- why no answer is taken for the request that is refused, if there is one
 abbrev pub unanswered : (Setup → Option Unanswered) → Option Setup → Option Unanswered
 unanswered unfit None = Some Nothing
 unanswered unfit (Some q) = if is_open q then unfit q else Some Closed
+
+-- why a device's owner can't accept, if he can't: data that have all come can be
+abbrev pub unaccepted : ℕ → DeviceStage → Option Unanswered
+unaccepted room (Written q got) = None
+unaccepted room stage = unanswered (unfit_acceptance room) (refused_in stage)

@@ -5,7 +5,7 @@ use Rattle.usb_fields.specs.declared.packet.Toggle.{Toggle}
 use Rattle.usb_fields.specs.declared.setup.Setup.{Setup}
 use Rattle.usb_fields.specs.Packets.{Token, SetupToken, Reply, NakReply, StallReply, DataReply, NoReply, is_same_toggle}
 use Rattle.usb_device.specs.Beside.{is_open}
-use Rattle.usb_device.specs.Step.{DeviceStage, Idle, Halted, Sending, StatusOut, Over, StatusIn}
+use Rattle.usb_device.specs.Step.{DeviceStage, Halted}
 use Rattle.usb_device.specs.declared.conformance.Difference.{Difference}
 use Rattle.usb_device.specs.contracts.conformance.Difference.{the_type as differences}
 use Rattle.usb_device.specs.declared.conformance.Difference.TheVariants as differs
@@ -33,12 +33,8 @@ is_in_transfer token has = true
 
 -- whether a request is refused at this stage
 abbrev pub is_refusing : DeviceStage → Bool
-is_refusing Idle = false
 is_refusing (Halted refused) = true
-is_refusing (Sending bytes limit acked) = false
-is_refusing StatusOut = false
-is_refusing Over = false
-is_refusing (StatusIn request carried_out) = false
+is_refusing stage = false
 
 -- In the transfer of request q this came of a device under test, where the device of these descriptors `has` that answer to the
 -- same transaction, and refuses the request or not. It is the same; or the request is open to an owner, who may answer as he

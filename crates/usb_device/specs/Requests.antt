@@ -19,11 +19,13 @@ use Rattle.usb_device.specs.declared.state.State.{State}
 use Rattle.usb_device.specs.States.{first_alternates, has_address, is_configured, halt_of, with_halt, without_halt}
 
 -- the answer to a request: bytes for the data stage, or no data stage and the next state, or a refusal, which the
--- device tells by STALL (9.2.7)
+-- device tells by STALL (9.2.7). No row gives the fourth, which is an owner's: the data that the host sends are taken, and
+-- judged when all have come.
 pub data Outcome : Type 0 where
   Bytes : (bytes : List ℕ) → Outcome
   Done : (next : State) → Outcome
   Refused : Outcome
+  Takes : (judge : List ℕ → Bool) → Outcome
 
 -- The shapes of the rows.
 

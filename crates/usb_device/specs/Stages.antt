@@ -1,5 +1,5 @@
 -- Stages, as the code holds them: a place in the bytes and a toggle, where the definition has a list of packets.
-use Rattle.std.specs.Prelude.{◌≡◌, ℕ, ◌*◌, ◌/◌, ◌<◌, ◌≤◌, Bool, List, length, take, Some, None, if◌then◌else◌}
+use Rattle.std.specs.Prelude.{◌≡◌, ℕ, ◌*◌, ◌/◌, ◌<◌, ◌≤◌, Bool, true, List, length, take, Some, None, if◌then◌else◌}
 use Rattle.usb_fields.specs.Packets.{toggle_of}
 use Rattle.usb_fields.specs.declared.setup.Setup.{Setup}
 use Rattle.usb_file_data.specs.declared.file.DescriptorFile.{DescriptorFile}
@@ -9,7 +9,8 @@ use Rattle.usb_device.specs.declared.stage.Source.TheVariants.{Descriptor, Kept}
 use Rattle.usb_device.specs.declared.stage.DataStage.{DataStage}
 use Rattle.usb_device.specs.declared.stage.Stage.{Stage}
 use Rattle.usb_device.specs.declared.stage.Stage.TheVariants as stages
-use Rattle.usb_device.specs.Step.{DeviceStage, Idle, Halted, Sending, StatusOut, Over, StatusIn}
+use Rattle.usb_device.specs.Step.{DeviceStage, Idle, Halted, Sending, StatusOut, Over, StatusIn, Receiving, Written, awaited}
+use Rattle.usb_device.specs.Beside.{brings_bytes, room_size}
 
 -- the bytes of a source, where these are kept
 abbrev pub source_bytes : DescriptorFile → Source → List ℕ → List ℕ
@@ -20,6 +21,10 @@ source_bytes f Kept kept = kept
 abbrev pub data_bytes : DescriptorFile → DataStage → List ℕ
 data_bytes f d = take d.count (source_bytes f d.source d.kept)
 
+-- the data of a write that have come
+abbrev pub written_bytes : DataStage → List ℕ
+written_bytes d = take d.offset d.kept
+
 -- the stage, where this is the data stage or that the request, which is settled or not: carried out, or its refusal reported
 abbrev pub stage_of : DescriptorFile → Stage → DataStage → Setup → Bool → DeviceStage
 stage_of f stages.Idle d request settled = Idle
@@ -28,6 +33,8 @@ stage_of f stages.Sending d request settled = Sending (data_bytes f d) d.limit (
 stage_of f stages.StatusOut d request settled = StatusOut
 stage_of f stages.Over d request settled = Over
 stage_of f stages.StatusIn d request settled = StatusIn request settled
+stage_of f stages.Receiving d request settled = Receiving request (written_bytes d)
+stage_of f stages.Written d request settled = Written request (written_bytes d)
 
 -- which stage it is, whatever it holds
 abbrev pub stage_kind : DeviceStage → Stage
@@ -37,6 +44,8 @@ stage_kind (Sending bytes limit acked) = stages.Sending
 stage_kind StatusOut = stages.StatusOut
 stage_kind Over = stages.Over
 stage_kind (StatusIn request carried_out) = stages.StatusIn
+stage_kind (Receiving request got) = stages.Receiving
+stage_kind (Written request got) = stages.Written
 
 -- the source is there
 abbrev pub IsSource : DescriptorFile → Source → Type 0
@@ -53,11 +62,21 @@ pub record IsData (f : DescriptorFile) (d : DataStage) : Type 0 where
   pub asked : d.offset < d.limit
   pub toggle : d.toggle ≡ toggle_of (d.offset / f.device.packet)
 
--- the stage is one of a device with these descriptors
-abbrev pub IsStage : DescriptorFile → Stage → DataStage → Type 0
-IsStage f stages.Idle d = Unit {0}
-IsStage f stages.Halted d = Unit {0}
-IsStage f stages.Sending d = IsData f d
-IsStage f stages.StatusOut d = Unit {0}
-IsStage f stages.Over d = Unit {0}
-IsStage f stages.StatusIn d = Unit {0}
+-- the data of this write have room, and some or all of them have come
+pub record IsWrite (f : DescriptorFile) (d : DataStage) (q : Setup) : Type 0 where
+  pub write : brings_bytes q ≡ true
+  pub room : q.length ≤ room_size
+  pub toggle : d.toggle ≡ awaited f.device.packet d.offset
+
+-- while more are to come, whole packets have come
+pub record IsReceiving (f : DescriptorFile) (d : DataStage) (q : Setup) : Type 0 where
+  pub is_write : IsWrite f d q
+  pub whole : d.offset ≡ d.offset / f.device.packet * f.device.packet
+  pub more : d.offset < q.length
+
+-- the stage, with this data stage and of this request, is one of a device with these descriptors
+abbrev pub IsStage : DescriptorFile → Stage → DataStage → Setup → Type 0
+IsStage f stages.Sending d q = IsData f d
+IsStage f stages.Receiving d q = IsReceiving f d q
+IsStage f stages.Written d q = IsWrite f d q × (d.offset ≡ q.length)
+IsStage f stage d q = Unit {0}

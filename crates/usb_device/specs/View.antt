@@ -4,7 +4,7 @@ use Rattle.usb_fields.specs.Packets.{Sent}
 use Rattle.usb_file_data.specs.declared.file.DescriptorFile.{DescriptorFile}
 use Rattle.usb_device.specs.Descriptors.{Described}
 use Rattle.usb_device.specs.Requests.{answer}
-use Rattle.usb_device.specs.Step.{DeviceStage, Idle, Halted, Sending, StatusOut, Over, StatusIn, DeviceView, Served, served, acked}
+use Rattle.usb_device.specs.Step.{DeviceStage, Sending, DeviceView, Served, served, acked}
 use Rattle.usb_device.specs.declared.endpoint_zero.EndpointZero.{EndpointZero}
 use Rattle.usb_device.specs.Stages.{stage_of, IsStage}
 use Rattle.usb_device.specs.declared.owned_device.OwnedDevice.TheInside.{Inside}
@@ -25,14 +25,10 @@ served_by f d sent ready = served (answer f) f.device.packet d sent ready
 abbrev pub acked_by : DescriptorFile → DeviceView → DeviceView
 acked_by f d = acked (answer f) f.device.packet d
 
--- the bytes of a data stage that were acknowledged, in packets of this size
+-- the bytes of a data stage to the host that were acknowledged, in packets of this size
 abbrev pub acknowledged : ℕ → DeviceStage → ℕ
-acknowledged packet Idle = 0
-acknowledged packet (Halted refused) = 0
 acknowledged packet (Sending bytes limit acked) = acked * packet
-acknowledged packet StatusOut = 0
-acknowledged packet Over = 0
-acknowledged packet (StatusIn request carried_out) = 0
+acknowledged packet stage = 0
 
 -- What changes in a device, apart from its description. It borrows nothing, and each of its calls is given the
 -- description that it was made for.
@@ -47,7 +43,7 @@ device_of f e = record { state = e.state; stage = stage_in f e; pending = e.pend
 
 -- it is that of a device with these descriptors
 abbrev pub IsOf : DescriptorFile → EndpointZero → Type 0
-IsOf f e = IsStage f e.stage e.data_stage
+IsOf f e = IsStage f e.stage e.data_stage e.request
 
 -- A device that owns its description, as callers see it.
 

@@ -1,13 +1,13 @@
 //! Whether a device can be made of a descriptor file, and why not.
 ghost use Rattle.std.specs.Prelude.{◌≡◌, ◌≤◌, length, OnOk, IfErr, false};
 ghost use Rattle.usb_file_data.specs.File.{named_indices};
-ghost use Rattle.usb_device.specs.Accepted.{has_early_second_speed, has_other_packets, has_wrong_sets, has_wrong_speed, has_wrong_strings, repeats, repeats_language, is_among, Accepted, Refuses};
+ghost use Rattle.usb_device.specs.Accepted.{broken_words, has_early_second_speed, has_other_packets, has_wrong_sets, has_wrong_speed, has_wrong_strings, repeats, repeats_language, is_among, Accepted, Refuses};
 
 use std::alloc::{AllocError, Global};
-use thiserror::Error;
+use std::{error, fmt};
 use usb_fields::{Speed, USB_2_0};
 use usb_file_data::{
-    DescriptorFile, Finding, Strings, WriteFault, are_wrong_strings, check, write_refusal,
+    DescriptorFile, Finding, Rule, Strings, WriteFault, are_wrong_strings, check, write_refusal,
 };
 
 /// Why a descriptor file is no description of a device. They are tested in the order `Unwritable`,
@@ -20,29 +20,24 @@ use usb_file_data::{
 /// let fault = Description::new(rt.alloc(), file, Speed::High).err();
 /// assert_eq!(rt; fault, Some(DescriptionFault::Speed));
 /// ```
-#[derive(Clone, Copy, Debug, Drop, Error, PartialEq, Eq, Hash)]
+#[derive(Clone, Copy, Debug, Drop, PartialEq, Eq, Hash)]
 pub enum DescriptionFault {
     /// A rule is broken: what [`usb_file_data::check`] finds first.
-    #[error("{0}")]
     Finding(Finding),
     /// The strings are not those that the file names, or a language is twice in the language list.
-    #[error("the strings are not those that the file names, or a language stands twice")]
     Texts,
     /// No device of this speed has such descriptors: at low speed a packet size other than 8 or a second
     /// speed, at high speed a packet size other than 64, or a second speed with bcdUSB below 0200
     /// hexadecimal.
-    #[error("no device of this speed has such descriptors")]
     Speed,
     /// Out of memory.
-    #[error("out of memory")]
     Memory,
     /// The sets are not as many as declared or of another kind, or one of them has no bytes.
-    #[error("a set has no bytes, or the sets are not as declared")]
     Unwritable,
 }
 
 impl DescriptionFault {
-    ghost use Rattle.usb_device.specs.Accepted.{fault_number};
+    ghost use Rattle.usb_device.specs.Accepted.{fault_message, fault_number};
 
     /// The fault's number, from 1 to 5.
     pub fn number(self) -> u8
@@ -56,7 +51,48 @@ impl DescriptionFault {
             DescriptionFault::Unwritable => 5,
         }
     }
+
+    /// What the fault means, for people; of a finding what breaks its rule.
+    ///
+    /// ```rust
+    /// assert_eq!(rt; DescriptionFault::Speed.message(), "no device of this speed has such descriptors");
+    /// ```
+    pub fn message(self) -> &'static str
+        ensures { result.now ≡ fault_message self }
+    {
+        match self {
+            DescriptionFault::Finding(finding) => broken_words(finding.rule()),
+            DescriptionFault::Texts => {
+                "the strings are not those that the file names, or a language stands twice"
+            }
+            DescriptionFault::Speed => "no device of this speed has such descriptors",
+            DescriptionFault::Memory => "out of memory",
+            DescriptionFault::Unwritable => "a set has no bytes, or the sets are not as declared",
+        }
+    }
 }
+
+/// What breaks a rule, if it is one.
+fn broken_words(rule: Option<Rule>) -> &'static str
+    ensures { result.now ≡ broken_words rule }
+{
+    match rule {
+        Some(rule) => rule.message(),
+        None => "",
+    }
+}
+
+/// The finding with its place, and of another fault its message.
+impl fmt::Display for DescriptionFault {
+    fn fmt<W: fmt::Write>(&self, f: &mut fmt::Formatter<W>) -> fmt::Result {
+        match self {
+            DescriptionFault::Finding(finding) => write!(f, "{finding}"),
+            fault => f.write_str(fault.message()),
+        }
+    }
+}
+
+impl error::Error for DescriptionFault {}
 
 impl From<AllocError> for DescriptionFault {
     ghost use Rattle.usb_device.specs.declared.acceptance.DescriptionFault.TheVariants.{Memory};

@@ -6,7 +6,8 @@ ghost use Rattle.std.specs.Prelude.{◌≡◌, Some};
 use std::{error, fmt};
 use usb_fields::{Class, Recipient, Setup, request};
 
-/// The most bytes of an answer, which a device keeps: [`Device::answer_with`](crate::Device::answer_with).
+/// The most bytes that a device keeps: of an answer, [`Device::answer_with`](crate::Device::answer_with), or of a write,
+/// [`Device::written`](crate::Device::written).
 pub const ROOM: usize = 512;
 
 /// Whether a device's owner may answer the request, where the device rejects it: class and vendor requests, and
@@ -53,9 +54,9 @@ pub enum Unanswered {
     Nothing,
     /// The request is not open to an owner's answer: [`is_open`](crate::is_open).
     Closed,
-    /// Bytes for a request that asks for none from the device, or no bytes for one with a data stage.
+    /// Bytes for a request that asks for none from the device, or no bytes for one that asks for some.
     Shape,
-    /// The bytes, cut to wLength, are more than [`ROOM`](crate::ROOM).
+    /// The bytes, cut to wLength, or the data of a write are more than [`ROOM`](crate::ROOM).
     Room,
 }
 

@@ -2,7 +2,7 @@
 //!
 //! The calls are inlined down to the request of a SETUP, so that an answer, which is of several shapes, needs no room
 //! in memory.
-ghost use Rattle.std.specs.Prelude.{◌≡◌, None, Some, OnOk, OnErr, IfErr};
+ghost use Rattle.std.specs.Prelude.{◌≡◌, None, Some, OnOk, OnErr, IfErr, MatchOption};
 ghost use Rattle.std.specs.Borrow.{sem};
 
 use crate::beside::Unanswered;
@@ -51,7 +51,7 @@ impl<'d> Device<'d> {
     ghost use Rattle.usb_device.specs.Stages.{stage_kind};
     ghost use Rattle.usb_device.specs.View.{acked_by, acknowledged, served_by};
     ghost use Rattle.usb_device.specs.Lending.{EndsAs};
-    ghost use Rattle.usb_device.specs.Beside.{answered, carried_out_in, refused_in, room_size, unanswered, unfit_bytes, unfit_status, Gives, Does};
+    ghost use Rattle.usb_device.specs.Beside.{accepted, answered, carried_out_in, refused_in, rejected, room_size, unaccepted, unanswered, unfit_bytes, written_in, Gives};
     ghost use Rattle.usb_device.specs.inside.Reactions.{packet_due, reply_with};
 
     /// A device in the Default state, and in no transfer.
@@ -152,18 +152,58 @@ impl<'d> Device<'d> {
         self.endpoint_zero.answer_with(self.description, bytes)
     }
 
-    /// Answers the request that is rejected by the status stage of a request without data, as if the table had.
+    /// Accepts the request that is rejected. One without data is answered by its status stage, as if the table had. Of a
+    /// write, a request with data to the device, the data are taken: at most [`ROOM`](crate::ROOM) bytes. Once all have
+    /// come, [`Device::written`] has them, and `accept` says that they are good: the status stage may come.
     ///
     /// # Errors
     ///
     /// The first of [`Unanswered`] that applies. Nothing has changed then.
     pub fn accept(&mut self) -> Result<(), Unanswered>
-        ensures device { self.new ≡ record self.old { device = answered room_size Does self.old.device } }
-        ensures ok { OnOk result (unanswered unfit_status (refused_in self.old.device.stage) ≡ None) }
-        ensures err { IfErr result (λ why. unanswered unfit_status (refused_in self.old.device.stage) ≡ Some why) }
+        ensures device { self.new ≡ record self.old { device = accepted room_size self.old.device } }
+        ensures ok { OnOk result (unaccepted room_size self.old.device.stage ≡ None) }
+        ensures err { IfErr result (λ why. unaccepted room_size self.old.device.stage ≡ Some why) }
         ensures same { OnErr result (self.new ≡ self.old) }
     {
         self.endpoint_zero.accept(self.description)
+    }
+
+    /// The write whose data have all come, and that isn't answered yet, with its wLength bytes: from its last packet to
+    /// [`Device::accept`] or [`Device::refuse`]. Without an answer the status stage is a STALL. In a transfer it turns
+    /// `Some` once, however often a packet comes again, so an owner who answers at once acts once.
+    ///
+    /// ```rust
+    /// let answer = device.serve(&transaction, true);
+    /// controller.reply(&answer);
+    /// match device.refused() {
+    ///     // SET_REPORT of one byte: take it.
+    ///     Some(q) if q.request_type == 0x21 && q.request == 9 && q.length == 1 => device.accept()?,
+    ///     _ => {}
+    /// }
+    /// // Its byte has come, once.
+    /// if let Some((_, &[lamps])) = device.written() {
+    ///     if lamps < 8 {
+    ///         keyboard.light(lamps);
+    ///         device.accept()?;
+    ///     } else {
+    ///         device.refuse();
+    ///     }
+    /// }
+    /// ```
+    #[inline]
+    pub fn written(&self) -> Option<(Setup, &[u8])>
+        ensures { MatchOption result (written_in self.now.device.stage ≡ None) (λ w. written_in self.now.device.stage ≡ Some (w.0, w.1.now)) }
+    {
+        self.endpoint_zero.written()
+    }
+
+    /// Refuses the request that the owner was to answer, or has accepted: the answer is STALL until the next SETUP. It
+    /// changes nothing once the status stage was answered, nor in a data stage to the host, nor for a request that isn't
+    /// [open](crate::is_open).
+    pub fn refuse(&mut self)
+        ensures { self.new ≡ record self.old { device = rejected self.old.device } }
+    {
+        self.endpoint_zero.refuse();
     }
 
     /// The request that was carried out, one of the table's own too: from the first empty packet of its status stage to
@@ -190,7 +230,7 @@ impl<'d> Device<'d> {
         self.endpoint_zero.stage()
     }
 
-    /// How many bytes of its data stage were sent and acknowledged: 0 in any other stage.
+    /// How many bytes of a data stage to the host were sent and acknowledged: 0 in any other stage.
     pub fn acknowledged(&self) -> usize
         ensures { result ≡ acknowledged self.now.description.file.device.packet self.now.device.stage }
     {

@@ -1,6 +1,6 @@
 //! The device's end of the control transfers of endpoint zero.
 ghost use Rattle.std.specs.Borrow.{sem};
-ghost use Rattle.std.specs.Prelude.{◌≡◌, ◌<◌, ◌≤◌, ◌/◌, suc, true, false, take, drop, length, None, Some, OnOk, OnErr, IfErr};
+ghost use Rattle.std.specs.Prelude.{◌≡◌, ◌<◌, ◌≤◌, ◌/◌, suc, true, false, take, drop, length, None, Some, OnOk, OnErr, IfErr, MatchOption};
 ghost use Rattle.usb_fields.specs.Packets.{reply_of, sent_of, packets};
 ghost use Rattle.usb_device.specs.Descriptors.{descriptor_at};
 ghost use Rattle.usb_device.specs.Requests.{answer};
@@ -32,9 +32,9 @@ use usb_fields::{Answer, Direction, Setup, Stage as Token, Toggle, Transaction, 
 pub struct EndpointZero {
     state: State,
     stage: Stage,
-    /// In the stage `Sending`: the data stage, beside the stage so that a step writes only what it changes.
+    /// In the stages `Sending`, `Receiving` and `Written`: the data stage, beside the stage so that a step writes only what it changes.
     data_stage: DataStage,
-    /// In the stages `Halted` and `StatusIn`: the request.
+    /// In the stages `Halted`, `StatusIn`, `Receiving` and `Written`: the request.
     request: Setup,
     /// In `Halted`: the host knows of the rejection. In `StatusIn`: the request was carried out, SET_ADDRESS excepted.
     settled: bool,
@@ -46,8 +46,8 @@ impl EndpointZero {
     ghost use Rattle.usb_device.specs.View.{acked_by, acknowledged, served_by, device_of, IsOf};
     ghost use Rattle.usb_device.specs.Lending.{PartEndsAs};
     ghost use Rattle.usb_file_data.specs.declared.file.DescriptorFile.{DescriptorFile};
-    ghost use Rattle.usb_device.specs.Beside.{answered, carried_out_in, refused_in, room_size, unanswered, unfit_bytes, unfit_status, Gives, Does};
-    ghost use Rattle.usb_device.specs.inside.Reactions.{received_by, replied, sent_by, packet_due};
+    ghost use Rattle.usb_device.specs.Beside.{accepted, answered, carried_out_in, refused_in, rejected, room_size, unaccepted, unanswered, unfit_bytes, written_in, Gives};
+    ghost use Rattle.usb_device.specs.inside.Reactions.{has_status_out, received_by, replied, sent_by, packet_due};
 
     /// That of a new device with this description, and of one after a bus reset.
     pub fn new(d: &Description) -> EndpointZero
@@ -83,16 +83,18 @@ impl EndpointZero {
             Stage::StatusOut => Stage::StatusOut,
             Stage::Over => Stage::Over,
             Stage::StatusIn => Stage::StatusIn,
+            Stage::Receiving => Stage::Receiving,
+            Stage::Written => Stage::Written,
         }
     }
 
-    /// How many bytes of its data stage were sent and acknowledged: 0 in any other stage.
+    /// How many bytes of a data stage to the host were sent and acknowledged: 0 in any other stage.
     pub fn acknowledged(&self) -> usize
         ensures { (f : DescriptorFile) → IsOf f self.now → result ≡ acknowledged f.device.packet (device_of f self.now).stage }
     {
         match self.stage {
             Stage::Sending => self.data_stage.offset,
-            Stage::Idle | Stage::Halted | Stage::StatusOut | Stage::Over | Stage::StatusIn => 0,
+            _ => 0,
         }
     }
 
@@ -253,30 +255,74 @@ impl EndpointZero {
         Ok(())
     }
 
-    /// Answers that request by its status stage, as [`Device::accept`](crate::Device::accept).
+    /// Accepts that request, or the data of a write: as [`Device::accept`](crate::Device::accept).
     ///
     /// # Requires
     ///
     /// The description is the one that it was made for.
     pub fn accept(&mut self, d: &Description) -> Result<(), Unanswered>
         requires { IsOf d.now.file self.old }
-        ensures device { device_of d.now.file self.new ≡ answered room_size Does (device_of d.now.file self.old) }
-        ensures ok { OnOk result (unanswered unfit_status (refused_in (device_of d.now.file self.old).stage) ≡ None) }
-        ensures err { IfErr result (λ why. unanswered unfit_status (refused_in (device_of d.now.file self.old).stage) ≡ Some why) }
+        ensures device { device_of d.now.file self.new ≡ accepted room_size (device_of d.now.file self.old) }
+        ensures ok { OnOk result (unaccepted room_size (device_of d.now.file self.old).stage ≡ None) }
+        ensures err { IfErr result (λ why. unaccepted room_size (device_of d.now.file self.old).stage ≡ Some why) }
         ensures same { OnErr result (self.new ≡ self.old) }
         ensures of { IsOf d.now.file self.new }
     {
+        if self.stage == Stage::Written {
+            self.wait(Stage::StatusIn, self.request);
+            return Ok(());
+        }
         let Some(q) = self.refused() else {
             return Err(Unanswered::Nothing);
         };
         if !is_open(q) {
             return Err(Unanswered::Closed);
         }
-        if q.length != 0 {
+        let limit = usize::from(q.length);
+        if limit == 0 {
+            self.wait(Stage::StatusIn, q);
+            return Ok(());
+        }
+        if q.direction() == Direction::In {
             return Err(Unanswered::Shape);
         }
-        self.wait(Stage::StatusIn, q);
+        if limit > ROOM {
+            return Err(Unanswered::Room);
+        }
+        self.wait(Stage::Receiving, q);
+        self.data_stage.begin(0, limit);
         Ok(())
+    }
+
+    /// The write whose data have all come, and that isn't answered yet, with them: as
+    /// [`Device::written`](crate::Device::written).
+    #[inline]
+    pub fn written(&self) -> Option<(Setup, &[u8])>
+        ensures { (f : DescriptorFile) → IsOf f self.now → MatchOption result (written_in (device_of f self.now).stage ≡ None) (λ w. written_in (device_of f self.now).stage ≡ Some (w.0, w.1.now)) }
+    {
+        match self.stage {
+            Stage::Written => Some((
+                self.request,
+                self.data_stage.kept.get(..self.data_stage.offset)?,
+            )),
+            _ => None,
+        }
+    }
+
+    /// Refuses the request that the owner was to answer, or has accepted: as [`Device::refuse`](crate::Device::refuse).
+    pub fn refuse(&mut self)
+        ensures device { (f : DescriptorFile) → device_of f self.new ≡ rejected (device_of f self.old) }
+        ensures of { (f : DescriptorFile) → IsOf f self.old → IsOf f self.new }
+    {
+        let is_owners = match self.stage {
+            Stage::Halted | Stage::Receiving | Stage::Written => true,
+            Stage::StatusIn => !self.settled && is_open(self.request),
+            _ => false,
+        };
+        if is_owners {
+            self.stage = Stage::Halted;
+            self.settled = true;
+        }
     }
 
     /// The request that was carried out, in its status stage: as
@@ -340,8 +386,52 @@ impl EndpointZero {
                     }
                 }
             },
+            _ => self.receive_data(d, toggle, bytes),
+        }
+    }
+
+    /// OUT where no status stage to the device can be: in a write, or in a transfer that has no OUT.
+    #[inline(never)]
+    fn receive_data(&mut self, d: &Description, toggle: Toggle, bytes: &[u8]) -> Reaction
+        requires of { IsOf d.now.file self.old }
+        requires other { has_status_out self.old.stage ≡ false }
+        requires heard { self.old.pending ≡ false }
+        ensures reply { replied d.now.file self.new result ≡ (received_by d.now.file self.old toggle bytes.now).reply }
+        ensures device { device_of d.now.file self.new ≡ (received_by d.now.file self.old toggle bytes.now).device }
+        ensures of { IsOf d.now.file self.new }
+    {
+        match self.stage {
+            Stage::Receiving => self.gather(d, toggle, bytes),
+            // The last packet came again.
+            Stage::Written if toggle != self.data_stage.toggle => Reaction::Ack,
+            Stage::StatusIn if self.request.length != 0 => Reaction::Ack,
             _ => self.stall(d),
         }
+    }
+
+    /// A packet of a write: kept, discarded where it came again, or stalled where it is no whole packet and not all that is
+    /// left.
+    #[tactic(auto, using(crate::proofs::WriteLemmas::writes))]
+    fn gather(&mut self, d: &Description, toggle: Toggle, bytes: &[u8]) -> Reaction
+        requires of { IsOf d.now.file self.old }
+        requires at { self.old.stage ≡ Stage.Receiving }
+        requires heard { self.old.pending ≡ false }
+        ensures reply { replied d.now.file self.new result ≡ (received_by d.now.file self.old toggle bytes.now).reply }
+        ensures device { device_of d.now.file self.new ≡ (received_by d.now.file self.old toggle bytes.now).device }
+        ensures of { IsOf d.now.file self.new }
+    {
+        if toggle != self.data_stage.toggle {
+            return Reaction::Ack;
+        }
+        let left = usize::from(self.request.length) - self.data_stage.offset;
+        if bytes.len() != d.packet().min(left) {
+            return self.stall(d);
+        }
+        self.data_stage.keep(bytes);
+        if bytes.len() == left {
+            self.stage = Stage::Written;
+        }
+        Reaction::Ack
     }
 
     /// STALL, until the next SETUP.

@@ -1,6 +1,8 @@
 //! The stage of a device in a transfer, and what a request is answered by.
-ghost use Rattle.std.specs.Prelude.{◌≡◌, ◌≤◌, length, take, drop};
-ghost use Rattle.usb_device.specs.Stages.{data_bytes, source_bytes, IsData, IsSource};
+ghost use Rattle.std.specs.Prelude.{◌≡◌, ◌+◌, ◌≤◌, ◌++◌, length, take, drop};
+ghost use Rattle.usb_fields.specs.Packets.{flipped};
+ghost use Rattle.usb_device.specs.Beside.{room_size};
+ghost use Rattle.usb_device.specs.Stages.{data_bytes, source_bytes, written_bytes, IsData, IsSource};
 
 use crate::beside::ROOM;
 use crate::description::Description;
@@ -60,8 +62,12 @@ pub enum Stage {
     StatusOut,
     /// Past that status stage.
     Over,
-    /// In the status stage of a request without a data stage.
+    /// In the status stage of a request without a data stage, or of a write.
     StatusIn,
+    /// In the data stage of a write.
+    Receiving,
+    /// Past that data stage: the owner is to say whether the data are good.
+    Written,
 }
 
 /// Where the bytes of a data stage are.
@@ -78,15 +84,15 @@ pub(crate) enum Source {
 pub(crate) struct DataStage {
     /// Where the bytes are.
     pub(crate) source: Source,
-    /// A status or an owner's answer, in the first bytes of this room.
+    /// A status, an owner's answer or the data of a write, in the first bytes of this room.
     pub(crate) kept: [u8; ROOM],
     /// How many bytes there are to send.
     pub(crate) count: usize,
     /// wLength, above 0.
     pub(crate) limit: usize,
-    /// How many bytes were sent and acknowledged.
+    /// How many bytes were sent and acknowledged, or have come.
     pub(crate) offset: usize,
-    /// The toggle of the packet that is due.
+    /// The toggle of the packet that is due, or awaited.
     pub(crate) toggle: Toggle,
 }
 
@@ -113,6 +119,18 @@ impl DataStage {
         self.limit = limit;
         self.offset = 0;
         self.toggle = Toggle::Data1;
+    }
+
+    /// Keeps the bytes of a packet after those that have come.
+    pub(crate) fn keep(&mut self, bytes: &[u8])
+        requires { self.old.offset + length bytes.now ≤ room_size }
+        ensures place { self.new ≡ record self.old { kept = self.new.kept; offset = self.old.offset + length bytes.now; toggle = flipped self.old.toggle } }
+        ensures bytes { written_bytes self.new ≡ written_bytes self.old ++ bytes.now }
+    {
+        let end = self.offset + bytes.len();
+        self.kept[self.offset..end].copy_from_slice(bytes);
+        self.offset = end;
+        self.toggle = self.toggle.flip();
     }
 
     /// The packet that is due.

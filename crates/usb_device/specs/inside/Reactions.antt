@@ -1,5 +1,5 @@
 -- Answers to transactions, as the code holds them: without the bytes.
-use Rattle.std.specs.Prelude.{◌≡◌, ◌<◌, [], ◌∷◌, length, take, slice_set, ℕ, List, drop}
+use Rattle.std.specs.Prelude.{◌≡◌, ◌<◌, Bool, true, false, [], ◌∷◌, length, take, slice_set, ℕ, List, drop}
 use Rattle.usb_fields.specs.declared.setup.Setup.{Setup}
 use Rattle.usb_file_data.specs.declared.file.DescriptorFile.{DescriptorFile}
 use Rattle.usb_device.specs.Descriptors.{descriptors, descriptor_at}
@@ -7,6 +7,8 @@ use Rattle.usb_device.specs.declared.request.Request.{Request}
 use Rattle.usb_device.specs.declared.state.State.{State}
 use Rattle.usb_device.specs.declared.stage.Change.{Change}
 use Rattle.usb_device.specs.declared.stage.Change.TheVariants.{Nothing, Address, Configuration, Wakeup, Halts, Alternate}
+use Rattle.usb_device.specs.declared.stage.Stage.{Stage}
+use Rattle.usb_device.specs.declared.stage.Stage.TheVariants as stages
 use Rattle.usb_device.specs.declared.stage.Decision.{Decision}
 use Rattle.usb_device.specs.declared.stage.Decision.TheVariants as decisions
 use Rattle.usb_device.specs.States.{first_alternates}
@@ -14,7 +16,7 @@ use Rattle.usb_device.specs.Requests.{Outcome, Bytes, Done, Refused, answer}
 use Rattle.usb_fields.specs.Packets.{Reply, AckReply, NakReply, StallReply, DataReply, NoReply, packets}
 use Rattle.usb_device.specs.declared.stage.Reaction.{Reaction}
 use Rattle.usb_device.specs.declared.stage.Reaction.TheVariants.{Ack, Nak, Stall, Packet, Silence}
-use Rattle.usb_device.specs.Step.{DeviceStage, Idle, Halted, Sending, StatusOut, Over, StatusIn, Served, served_in, served_out}
+use Rattle.usb_device.specs.Step.{DeviceStage, Sending, Served, served_in, served_out}
 use Rattle.usb_fields.specs.declared.packet.Toggle.{Toggle}
 use Rattle.usb_device.specs.declared.device.Device.TheInside.{Inside}
 use Rattle.usb_device.specs.declared.endpoint_zero.EndpointZero.{EndpointZero}
@@ -63,12 +65,8 @@ first_packet (p ∷ rest) = p
 
 -- the bytes of the packet that is due, which in the status stage are none
 abbrev pub packet_due : ℕ → DeviceStage → List ℕ
-packet_due size Idle = []
-packet_due size (Halted refused) = []
 packet_due size (Sending b m k) = first_packet (drop k (packets b size m))
-packet_due size StatusOut = []
-packet_due size Over = []
-packet_due size (StatusIn q carried_out) = []
+packet_due size stage = []
 
 -- the reply, where these are the bytes of the packet that is due
 abbrev pub reply_with : List ℕ → Reaction → Reply
@@ -80,12 +78,19 @@ reply_with bytes Silence = NoReply
 
 -- Endpoint zero and a device, as callers see them.
 
+-- whether an OUT at this stage is, or repeats, the status stage of a request for bytes
+abbrev pub has_status_out : Stage → Bool
+has_status_out stages.Sending = true
+has_status_out stages.StatusOut = true
+has_status_out stages.Over = true
+has_status_out stage = false
+
 -- IN to a device with these descriptors, and OUT
 abbrev pub sent_by : DescriptorFile → EndpointZero → Served
 sent_by f e = served_in (answer f) f.device.packet e.state (stage_in f e)
 
 abbrev pub received_by : DescriptorFile → EndpointZero → Toggle → List ℕ → Served
-received_by f e toggle bytes = served_out e.state (stage_in f e) toggle bytes
+received_by f e toggle bytes = served_out (answer f) f.device.packet e.state (stage_in f e) toggle bytes
 
 -- the reply, where its bytes are those of the packet that is due
 abbrev pub replied : DescriptorFile → EndpointZero → Reaction → Reply

@@ -1,7 +1,8 @@
 use Rattle.std.proofs.Common.{rules, ◌≡◌, subst}
 use Rattle.usb_fields.specs.Packets.{reply_of, sent_of, token_of}
 use Rattle.usb_device.specs.Conformance.{is_ready, is_refusing, IsJudged}
-use Rattle.usb_device.specs.View.{device_of, served_by}
+use Rattle.usb_device.specs.Transactions.{packet_of}
+use Rattle.usb_device.specs.View.{View, device_of, served_by}
 use Rattle.usb_device.proofs.Replies.{reply_has_room}
 use Rattle.usb_device.proofs.owned_device.OwnedDevice.judge.Goals as goal
 
@@ -11,12 +12,20 @@ tell-requires c =
     reply_has_room d.description.file d.description.speed (device_of d.description.file d.endpoint_zero) (sent_of c.args.t.now) c.is_ready.result
     (reply_of c.serve-has.result) (search rules) (search rules)
 
+pub returns-clause-packet : goal.returns-clause-packet
+returns-clause-packet c =
+    let came = reply_of c.args.came in
+    let has = subst (λ (v : View). reply_of c.serve-has.result ≡ (served_by v.description.file v.device (sent_of c.args.t.now) (is_ready came)).reply)
+    c.self.view_is (rw c.is_ready.ensures at c.serve-has.ensures.answer) in
+    subst (λ r. c.tell.new.packet ≡ packet_of r c.args.packet.now) has c.tell.ensures
+
 pub returns-clause-judged : goal.returns-clause-judged
 returns-clause-judged c =
     let v = c.args.self.now in
     let token = token_of c.args.t.now.stage in
     let came = reply_of c.args.came in
     let refused : c.refuses-refused.result ≡ is_refusing v.device.stage = search rules in
-    let has : reply_of c.serve-has.result ≡ (served_by v.description.file v.device (sent_of c.args.t.now) (is_ready came)).reply = search rules in
+    let has = subst (λ (v : View). reply_of c.serve-has.result ≡ (served_by v.description.file v.device (sent_of c.args.t.now) (is_ready came)).reply)
+    c.self.view_is (rw c.is_ready.ensures at c.serve-has.ensures.answer) in
     subst (λ r. IsJudged c.args.request (is_refusing v.device.stage) token came r c.judge.result) has
     (subst (λ b. IsJudged c.args.request b token came (reply_of c.serve-has.result) c.judge.result) refused c.judge.ensures)
