@@ -1,5 +1,5 @@
 -- What an enumeration asks: no status of the device, and nothing that the device refuses and that is open to an owner.
-use Rattle.std.proofs.Common.{◌≡◌, ℕ, zero, suc, true, false, List, [], ◌∷◌, ◌++◌, inl, inr, Option, Some, None, refl, ap, sym, ◌∙◌, subst, arith}
+use Rattle.std.proofs.Common.{◌≡◌, ◌⊎◌, ℕ, zero, suc, true, false, List, [], ◌∷◌, ◌++◌, inl, inr, Option, Some, None, refl, ap, sym, ◌∙◌, subst, arith}
 use Rattle.usb_fields.specs.declared.packet.Speed.{Speed}
 use Rattle.usb_fields.specs.declared.packet.Toggle.{Toggle}
 use Rattle.usb_fields.specs.declared.setup.Setup.{Setup as SetupPacket}
@@ -29,7 +29,7 @@ use Rattle.usb_device.specs.Requests.{Outcome, Refused, answer}
 use Rattle.usb_device.specs.Step as device
 use Rattle.usb_device.specs.Step.{DeviceStage, DeviceView, new_device}
 use Rattle.usb_bus.specs.declared.fate.Fate.{Fate}
-use Rattle.usb_bus.specs.Attempt.{Attempt, Phase, Running, Succeeded, Broken, reply_to}
+use Rattle.usb_bus.specs.Attempt.{no_data, Attempt, IsDeclined, Phase, Running, Succeeded, Broken, reply_to}
 use Rattle.usb_bus.specs.Bus.{HostEnd, losses, busies, acks_lost}
 use Rattle.usb_bus.specs.Enumerate.{Pair, configured_state, new_pair, RunsAt}
 use Rattle.usb_bus.specs.Run.{fates_used}
@@ -103,21 +103,25 @@ no_setup t stage token has at is inside =
     absurd (let never : is_in_transfer (SetupToken (setup_bytes t.request)) has ≡ true = subst (λ x. is_in_transfer x has ≡ true) same inside in cc)
 
 module _ (table : State → SetupPacket → Outcome) (cut : ℕ) (s : State) (q : SetupPacket) (size naks l b a : ℕ) where
-  -- a device that refuses in the transfer does so by its table
-  refuses_by_table : (t : TransferView) (token : Token) (has : Answer) (stage : TransferStage) (at : DeviceStage) (awaited : Toggle) (got : List ℕ) (strikes : ℕ) (d : State) →
+  -- a device that refuses in a transfer without data does so by its table
+  refused_reply : (answer : Outcome) → (answer ≡ Refused) ⊎ IsDeclined answer q [] → reply_to [] answer ≡ replied.Refused
+  refused_reply answer (inl e) = ap (reply_to []) e
+  refused_reply answer (inr is) = ap (reply_to []) is.answered
+
+  refuses_by_table : (t : TransferView) (token : Token) (has : Answer) (stage : TransferStage) (at : DeviceStage) (awaited : Toggle) (got : List ℕ) (count strikes : ℕ) (d : State) →
       token_due t [] stage ≡ Some token → is_in_transfer token has ≡ true → is_refusing at ≡ true →
-      Stages table cut s q size naks l b a stage at awaited got strikes d → table s q ≡ Refused
-  refuses_by_table t token has Setup at awaited got strikes d is inside refusing stages = absurd (no_setup t Setup token has refl is inside)
-  refuses_by_table t token has DataIn (device.Halted refused) awaited got strikes d is inside refusing stages = stages.answered
-  refuses_by_table t token has DataIn at awaited got strikes d is inside refusing stages = absurd (cc)
-  refuses_by_table t token has DataOut (device.Halted refused) awaited got strikes d is inside refusing stages = stages.answered
-  refuses_by_table t token has DataOut at awaited got strikes d is inside refusing stages = absurd (cc)
-  refuses_by_table t token has StatusIn (device.Halted refused) awaited got strikes d is inside refusing stages = stages.answered
-  refuses_by_table t token has StatusIn at awaited got strikes d is inside refusing stages = absurd (cc)
-  refuses_by_table t token has StatusOut (device.Halted refused) awaited got strikes d is inside refusing stages = absurd (stages)
-  refuses_by_table t token has StatusOut at awaited got strikes d is inside refusing stages = absurd (cc)
-  refuses_by_table t token has Completed at awaited got strikes d is inside refusing stages = absurd (cc)
-  refuses_by_table t token has (Failed why) at awaited got strikes d is inside refusing stages = absurd (cc)
+      Stages table cut s q size naks [] l b a stage at awaited got count strikes d → reply_to [] (table s q) ≡ replied.Refused
+  refuses_by_table t token has Setup at awaited got count strikes d is inside refusing stages = absurd (no_setup t Setup token has refl is inside)
+  refuses_by_table t token has DataIn (device.Halted refused) awaited got count strikes d is inside refusing stages = refused_reply (table s q) stages.answered
+  refuses_by_table t token has DataIn at awaited got count strikes d is inside refusing stages = absurd (cc)
+  refuses_by_table t token has DataOut (device.Halted refused) awaited got count strikes d is inside refusing stages = refused_reply (table s q) stages.answered
+  refuses_by_table t token has DataOut at awaited got count strikes d is inside refusing stages = absurd (cc)
+  refuses_by_table t token has StatusIn (device.Halted refused) awaited got count strikes d is inside refusing stages = refused_reply (table s q) stages.answered
+  refuses_by_table t token has StatusIn at awaited got count strikes d is inside refusing stages = absurd (cc)
+  refuses_by_table t token has StatusOut (device.Halted refused) awaited got count strikes d is inside refusing stages = absurd (stages)
+  refuses_by_table t token has StatusOut at awaited got count strikes d is inside refusing stages = absurd (cc)
+  refuses_by_table t token has Completed at awaited got count strikes d is inside refusing stages = absurd (cc)
+  refuses_by_table t token has (Failed why) at awaited got count strikes d is inside refusing stages = absurd (cc)
 
 to_token : (address : ℕ) (o : Option Token) (sent : Sent) → addressed address o ≡ Some sent → o ≡ Some sent.token
 to_token address None sent e = absurd (cc)
@@ -140,52 +144,52 @@ module _ (set_of : List ℕ → Option Configuration) (exact : ReadsSets set_of)
   last = configured_state limits.address f
 
   abbrev under : List Fate → Attempt
-  under used = attempt_under plan limits.naks limits.attempts (answer f) size used
+  under used = attempt_under plan limits.naks limits.attempts no_data (answer f) size used
 
   walks : WalksScript set_of speed limits.address (Reported f) First xs
   walks = walks_script set_of speed limits.address f (described set_of speed f exact accepted fits)
 
-  followed : Follows plan limits.naks (answer f) size false (replies_in xs) last new_device.state [] (replies_in xs)
+  followed : Follows plan limits.naks no_data (answer f) size false (replies_in xs) last new_device.state [] (replies_in xs)
   followed =
       follows set_of speed limits (answer f) (table_kept f) size (Reported f) refl (replies_in xs) last xs new_device.state First [] refl refl walks
       (serves_script set_of speed limits.address f (described set_of speed f exact accepted fits) range.address_from (let small = range.address_to in omega arith))
 
   abbrev IsSound : List Fate → Attempt → Type 0
-  IsSound used x = Sound plan limits.naks (answer f) size false (replies_in xs) last (losses used) (busies used) (acks_lost used) x.replies x.phase x.device
+  IsSound used x = Sound plan limits.naks no_data (answer f) size false (replies_in xs) last (losses used) (busies used) (acks_lost used) x.replies x.phase x.device
 
   sound : (used : List Fate) → IsSound used (under used)
-  sound used = attempts_sound plan limits.naks (answer f) size false (replies_in xs) last new_device used followed
+  sound used = attempts_sound plan limits.naks no_data (answer f) size false (replies_in xs) last new_device used followed
 
-  last_used : (failed : ℕ) (fates : List Fate) (x : Attempt) → Attempts plan limits.naks limits.attempts (answer f) size failed fates x → (used : List Fate) × (x ≡ under used)
+  last_used : (failed : ℕ) (fates : List Fate) (x : Attempt) → Attempts plan limits.naks limits.attempts no_data (answer f) size failed fates x → (used : List Fate) × (x ≡ under used)
   last_used zero fates x (is, together, cost) = (fates, is)
   last_used (suc failed) fates x (used, more, parts, broke, cost, rest) = last_used failed more x rest
 
   -- the attempt of a run is sound
-  sound_after : (fates : List Fate) → (let x = (series_run plan limits.naks limits.attempts (answer f) size fates (fresh plan limits.naks limits.attempts 1)).attempt in
+  sound_after : (fates : List Fate) → (let x = (series_run plan limits.naks limits.attempts no_data (answer f) size fates (fresh plan limits.naks limits.attempts 1)).attempt in
       (used : List Fate) × IsSound used x)
   sound_after fates =
-      let stands = series_stands plan limits.naks limits.attempts (answer f) size false (replies_in xs) last
-      (λ used. sound_stays plan limits.naks (answer f) size false (replies_in xs) last used (under used) (sound used))
-      (λ used. let x = under used in sound_ends plan limits.naks (answer f) size false (replies_in xs) last used x.replies x.phase x.device (sound used)) fates in
+      let stands = series_stands plan limits.naks limits.attempts no_data (answer f) size false (replies_in xs) last
+      (λ used. sound_stays plan limits.naks no_data (answer f) size false (replies_in xs) last used (under used) (sound used))
+      (λ used. let x = under used in sound_ends plan limits.naks no_data (answer f) size false (replies_in xs) last used x.replies x.phase x.device (sound used)) fates in
       let (used, is) = last_used stands.failed fates _ stands.attempts in
       (used, subst (λ x. IsSound used x) (sym is) (sound used))
 
   module _ (l b a : ℕ) (replies : List Reply) (h : HostEnd) (d : DeviceView) (token : Token) (came has : Answer) where
     -- what is allowed in it is the same
-    same_together : TogetherOn plan limits.naks (answer f) size false (replies_in xs) last l b a replies h d →
+    same_together : TogetherOn plan limits.naks no_data (answer f) size false (replies_in xs) last l b a replies h d →
         token_due h.transfer [] h.transfer.stage ≡ Some token → IsAllowed h.transfer.request (is_refusing d.stage) token came has → came ≡ has
     same_together t is (inl same) = same
     same_together t is (inr (inside, inl (refusing, open_))) =
-        let refused = refuses_by_table (answer f) size t.s t.q t.packet limits.naks l b a h.transfer token has h.transfer.stage d.stage h.transfer.awaited h.got h.transfer.strikes d.state
-        is inside refusing t.in_one.stages in
+        let refused = refuses_by_table (answer f) size t.s t.q t.packet limits.naks l b a h.transfer token has h.transfer.stage d.stage h.transfer.awaited h.got h.transfer.kept h.transfer.strikes d.state
+        is inside refusing t.in_one.stand.stages in
         let closed = refused_closed set_of speed limits.address (Reported f) First xs replies t.todo t.r t.s.address t.packet t.q walks
-        (script_closed limits.address size speed f) t.front t.planned.begins (sym t.planned.reply ∙ ap reply_to refused) in
-        absurd (let never = sym open_ ∙ ap is_open t.in_one.request ∙ closed in cc)
+        (script_closed limits.address size speed f) t.front t.planned.begins (sym t.planned.reply ∙ refused) in
+        absurd (let never = sym open_ ∙ ap is_open t.in_one.stand.request ∙ closed in cc)
     same_together t is (inr (inside, inr (status, alike))) =
         let never = asks_no_status limits.address (reached set_of speed First replies) t.s.address t.packet t.q t.planned.begins in
-        absurd (let wrong = sym status ∙ ap is_device_status t.in_one.request ∙ never in cc)
+        absurd (let wrong = sym status ∙ ap is_device_status t.in_one.stand.request ∙ never in cc)
 
-    same_sound : Sound plan limits.naks (answer f) size false (replies_in xs) last l b a replies (Running h) d →
+    same_sound : Sound plan limits.naks no_data (answer f) size false (replies_in xs) last l b a replies (Running h) d →
         token_due h.transfer [] h.transfer.stage ≡ Some token → IsAllowed h.transfer.request (is_refusing d.stage) token came has → came ≡ has
     same_sound (inl t) is allowed = same_together t is allowed
     same_sound (inr t) is (inl same) = same
@@ -193,7 +197,7 @@ module _ (set_of : List ℕ → Option Configuration) (exact : ReadsSets set_of)
 
   -- by the phase of the attempt and that of the host
   same_image : (used : List Fate) (replies : List Reply) (phase : Phase) (d : DeviceView) (place : Place) (t : TransferView) (k : Kept) (sent : Sent) (came has : Answer) →
-      Sound plan limits.naks (answer f) size false (replies_in xs) last (losses used) (busies used) (acks_lost used) replies phase d →
+      Sound plan limits.naks no_data (answer f) size false (replies_in xs) last (losses used) (busies used) (acks_lost used) replies phase d →
       IsImage set_of limits speed replies phase (Reading place t k) → due t ≡ Some sent →
       IsAllowed t.request (is_refusing d.stage) sent.token came has → came ≡ has
   same_image used replies (Running h) d place t k sent came has sounds image is allowed =

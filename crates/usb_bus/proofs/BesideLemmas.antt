@@ -1,5 +1,6 @@
 -- A device whose owner answers beside its table serves the script as its own table does.
 use Rattle.std.proofs.Common.{◌≡◌, ℕ, suc, ◌==◌, ◌&&◌, not, Bool, true, false, List, [], ◌∷◌, take, Option, Some, None, ◌⊎◌, inl, inr, refl, ap, sym, ◌∙◌, subst}
+use Rattle.std.specs.Prelude.{nat_le}
 use Rattle.usb_fields.specs.Bytes.{AreBytes}
 use Rattle.usb_fields.specs.declared.setup.Setup.{Setup as SetupPacket}
 use Rattle.usb_fields.specs.declared.packet.Speed.{Speed}
@@ -13,10 +14,11 @@ use Rattle.usb_file_data.specs.File.{named_indices}
 use Rattle.usb_host.specs.declared.reply.Reply.TheVariants as replied
 use Rattle.usb_device.specs.declared.state.State.{State}
 use Rattle.usb_device.specs.Requests.{Outcome, Bytes, Done, Refused, answer, when}
+use Rattle.usb_device.specs.Requests as outcomes
 use Rattle.usb_device.specs.Step.{carried_out}
 use Rattle.usb_bus.specs.Attempt.{reply_to}
 use Rattle.usb_host.specs.Read.{may_have_second}
-use Rattle.usb_device.specs.Beside.{Response, Gives, Does, Declines, asks_for_bytes, beside, is_open, kept_open, kept_to, otherwise, overflows}
+use Rattle.usb_device.specs.Beside.{Response, Gives, Does, Takes, Declines, asks_for_bytes, beside, brings_bytes, is_open, kept_open, kept_to, otherwise, overflows}
 use Rattle.usb_bus.specs.Beside.{IsTable, HasBytes, IsBeside, IsOfBytes}
 use Rattle.usb_bus.proofs.ByteLemmas.{when_fits}
 use Rattle.usb_bus.specs.inside.Following.{IsServed, Serves}
@@ -34,7 +36,7 @@ module _ (own table : State → SetupPacket → Outcome) (owned : IsBeside own t
       elim (owned.same s x.request) [
         | inl e ↦ e
         | inr (refused, may) ↦
-            let said : x.reply ≡ replied.Refused = sym served.reply ∙ ap reply_to refused in
+            let said : x.reply ≡ replied.Refused = sym served.reply ∙ ap (reply_to []) refused in
             absurd (let z = sym may ∙ closed said in cc)
       ]
 
@@ -42,7 +44,7 @@ module _ (own table : State → SetupPacket → Outcome) (owned : IsBeside own t
   serves_beside [] s d c = d
   serves_beside (x ∷ xs) s (served, moves, rest) (closed, more) =
       let e = alike s x served closed in (
-        record { address = served.address; reply = ap reply_to e ∙ served.reply; is_cut = λ b t. served.is_cut b (sym e ∙ t) },
+        record { address = served.address; reply = ap (reply_to []) e ∙ served.reply; is_cut = λ b t. served.is_cut b (sym e ∙ t); sizes = λ judge t. served.sizes judge (sym e ∙ t) },
         moves,
         subst (λ t. Serves table n last t xs) (ap (λ o. carried_out s o) (sym e)) (serves_beside xs (carried_out s (own s x.request)) rest more),
       )
@@ -82,6 +84,7 @@ module _ (room : ℕ) (s : State) (q : SetupPacket) where
   kept_bytes (Gives b) fits state =
       when_fits (asks_for_bytes q && not (overflows room q b)) (Bytes (take q.length b)) (λ e. bytes_front q.length b (fits b refl))
   kept_bytes Does fits state = when_fits (q.length == 0) (Done s) (λ e. state)
+  kept_bytes (Takes judge) fits state = when_fits (brings_bytes q && nat_le q.length room) (outcomes.Takes judge) (λ e. tt)
   kept_bytes Declines fits state = tt
 
   -- the answer where the table has one
@@ -89,6 +92,7 @@ module _ (room : ℕ) (s : State) (q : SetupPacket) where
       (otherwise o (kept_to room s q r) ≡ o) ⊎ ((o ≡ Refused) × (is_open q ≡ true))
   there (Bytes b) r open_ e = inl refl
   there (Done t) r open_ e = inl refl
+  there (outcomes.Takes judge) r open_ e = inl refl
   there Refused r true e = inr (refl, e)
   there Refused r false e = inl (ap (λ c. when c (kept_open room s q r)) e)
 

@@ -2,7 +2,7 @@
 use Rattle.std.proofs.Common.{◌≡◌, ℕ, zero, suc, ◌+◌, ◌*◌, ◌/◌, ◌%◌, ◌-◌, ◌<◌, ◌≤◌, ◌==◌, ◌&&◌, ◌||◌, not, Bool, true, false, if◌then◌else◌, nat_lt, List, [], ◌∷◌, ◌++◌, length, take, drop, slice_get, slice_set, slice_index, replicate, fold, Option, Some, None, inl, inr, refl, ap, sym, arith, subst, lit<}
 use Rattle.std.specs.List.{AllByRecursion, list_any}
 use Rattle.std.specs.Option.{option_map}
-use Rattle.std.specs.Prelude.{option_and_then}
+use Rattle.std.specs.Prelude.{min, option_and_then}
 use Rattle.std.proofs.lemmas.Bool.Decides.{nat_tests}
 use Rattle.std.proofs.lemmas.Nat.Bits.{bit_at-lt}
 use Rattle.usb_fields.specs.Bytes.{AreBytes}
@@ -19,7 +19,7 @@ use Rattle.usb_fields.specs.declared.setup.Recipient.TheVariants.{Device, Interf
 use Rattle.usb_fields.specs.declared.packet.Speed.{Speed}
 use Rattle.usb_fields.specs.Device.{device_bytes, qualifier_bytes}
 use Rattle.usb_fields.specs.Units.{units_bytes}
-use Rattle.usb_fields.specs.Packets.{Token, SetupToken, InToken, OutToken, Sent, Reply, NoReply, packets, packets_within}
+use Rattle.usb_fields.specs.Packets.{Token, SetupToken, InToken, OutToken, Sent, Reply, AckReply, NoReply, is_same_toggle, packets, packets_within}
 use Rattle.usb_set.specs.declared.tree.Configuration.{Configuration}
 use Rattle.usb_file_data.specs.declared.file.DescriptorFile.{DescriptorFile}
 use Rattle.usb_file_data.specs.declared.file.Other.{Other as SecondSpeed}
@@ -29,8 +29,8 @@ use Rattle.usb_device.specs.Descriptors.{set_at, other_set_at, qualifier_of, str
 use Rattle.usb_host.specs.Limits.{LimitView}
 use Rattle.usb_device.specs.declared.state.State.{State}
 use Rattle.usb_device.specs.States.{first_alternates, has_address, is_configured, halt_of, halt_place, without_halt}
-use Rattle.usb_device.specs.Requests.{Outcome, Bytes, Done, Refused, when, bytes_in, gives, tells, does, one_if, shown_attributes, is_device, is_interface, names_interface, names_alternate, names_endpoint, names_endpoint_zero, selected_settings, interface_addresses, is_alternate, can_wake, has_value, changed_halts, status_of, feature_of, set_address, get_descriptor, get_configuration, set_configuration, get_interface, set_interface, row, answer_of, answer}
-use Rattle.usb_device.specs.Step.{DeviceStage, Idle, Halted, Sending, StatusOut, Over, StatusIn, DeviceView, Served, replies, begun, carried_out, new_device, is_set_address, next_packet, next_stage, served, served_here, served_in, served_out, status_out, status_state, acked, acked_stage, acked_state}
+use Rattle.usb_device.specs.Requests.{Outcome, Bytes, Done, Refused, Takes, when, bytes_in, gives, tells, does, one_if, shown_attributes, is_device, is_interface, names_interface, names_alternate, names_endpoint, names_endpoint_zero, selected_settings, interface_addresses, is_alternate, can_wake, has_value, changed_halts, status_of, feature_of, set_address, get_descriptor, get_configuration, set_configuration, get_interface, set_interface, row, answer_of, answer}
+use Rattle.usb_device.specs.Step.{DeviceStage, Idle, Halted, Sending, StatusOut, Over, StatusIn, Receiving, Written, DeviceView, Served, awaited, completed, gathered, stalls, replies, begun, carried_out, new_device, is_set_address, next_packet, next_stage, served, served_here, served_in, served_out, status_out, status_state, acked, acked_stage, acked_state}
 use Rattle.usb_bus.specs.declared.fate.Fate.{Fate}
 use Rattle.usb_bus.specs.declared.fate.Fate.TheVariants as fates
 use Rattle.usb_bus.specs.Run.{fate_at}
@@ -292,11 +292,13 @@ begun_fits : (q : SetupPacket) (o : Outcome) → IsOfBytes o → StageFits (begu
 begun_fits q (Bytes b) h = h
 begun_fits q (Done next) h = tt
 begun_fits q Refused h = tt
+begun_fits q (Takes judge) h = tt
 
 carried_fits : (s : State) (o : Outcome) → HasBytes s → IsOfBytes o → HasBytes (carried_out s o)
 carried_fits s (Bytes b) state h = state
 carried_fits s (Done next) state h = h
 carried_fits s Refused state h = state
+carried_fits s (Takes judge) state h = state
 
 if_state : (c : Bool) (x y : State) → HasBytes x → HasBytes y → HasBytes (if c then x else y)
 if_state true x y p q = p
@@ -312,13 +314,44 @@ status_out_fits s stage Data0 b state fits = replied_fits _ s stage false tt sta
 status_out_fits s stage Data1 [] state fits = replied_fits _ s Over false tt state tt
 status_out_fits s stage Data1 (x ∷ b) state fits = replied_fits _ s (Halted None) false tt state tt
 
-out_fits : (s : State) (stage : DeviceStage) (t : Toggle) (b : List ℕ) → HasBytes s → StageFits stage → ServedFits (served_out s stage t b)
-out_fits s Idle t b state fits = replied_fits _ s (Halted None) false tt state tt
-out_fits s (Halted refused) t b state fits = replied_fits _ s (Halted None) false tt state tt
-out_fits s (Sending x m k) t b state fits = status_out_fits s (Sending x m k) t b state fits
-out_fits s StatusOut t b state fits = status_out_fits s StatusOut t b state fits
-out_fits s Over t b state fits = status_out_fits s Over t b state fits
-out_fits s (StatusIn q c) t b state fits = replied_fits _ s (Halted None) false tt state tt
+completed_fits : (q : SetupPacket) (o : Outcome) (got : List ℕ) → StageFits (completed q o got)
+completed_fits q (Bytes b) got = tt
+completed_fits q (Done next) got = tt
+completed_fits q Refused got = tt
+completed_fits q (Takes judge) got = by_judge (judge got)
+  where
+    by_judge : (good : Bool) → StageFits (if good then StatusIn q false else Halted None)
+    by_judge true = tt
+    by_judge false = tt
+
+gathered_fits : (q : SetupPacket) (o : Outcome) (got : List ℕ) (all : Bool) → StageFits (if all then completed q o got else Receiving q got)
+gathered_fits q o got true = completed_fits q o got
+gathered_fits q o got false = tt
+
+if_served : (c : Bool) (x y : Served) → ServedFits x → ServedFits y → ServedFits (if c then x else y)
+if_served true x y p q = p
+if_served false x y p q = q
+
+acknowledges_fits : (s : State) (stage : DeviceStage) → HasBytes s → StageFits stage → ServedFits (replies AckReply s stage false)
+acknowledges_fits s stage state fits = replied_fits _ s stage false tt state fits
+
+stalls_fits : (s : State) → HasBytes s → ServedFits (stalls s)
+stalls_fits s state = replied_fits _ s (Halted None) false tt state tt
+
+out_fits : (table : State → SetupPacket → Outcome) (n : ℕ) (s : State) (stage : DeviceStage) (t : Toggle) (b : List ℕ) → HasBytes s → StageFits stage → ServedFits (served_out table n s stage t b)
+out_fits table n s Idle t b state fits = stalls_fits s state
+out_fits table n s (Halted refused) t b state fits = stalls_fits s state
+out_fits table n s (Sending x m k) t b state fits = status_out_fits s (Sending x m k) t b state fits
+out_fits table n s StatusOut t b state fits = status_out_fits s StatusOut t b state fits
+out_fits table n s Over t b state fits = status_out_fits s Over t b state fits
+out_fits table n s (StatusIn q c) t b state fits =
+    if_served (q.length == 0) _ _ (stalls_fits s state) (acknowledges_fits s (StatusIn q c) state tt)
+out_fits table n s (Receiving q got) t b state fits =
+    if_served (not (is_same_toggle t (awaited n (length got)))) _ _ (acknowledges_fits s (Receiving q got) state tt)
+    (if_served (length b == min n (q.length - length got)) _ _
+    (acknowledges_fits s (gathered q (table s q) (got ++ b)) state (gathered_fits q (table s q) (got ++ b) (length (got ++ b) == q.length))) (stalls_fits s state))
+out_fits table n s (Written q got) t b state fits =
+    if_served (is_same_toggle t (awaited n (length got))) _ _ (stalls_fits s state) (acknowledges_fits s (Written q got) state tt)
 
 module _ (f : DescriptorFile) (bytes : AreBytes (file_bytes f)) (table : State → SetupPacket → Outcome) (owned : IsBeside (answer f) table) where
   abbrev n : ℕ
@@ -337,12 +370,14 @@ module _ (f : DescriptorFile) (bytes : AreBytes (file_bytes f)) (table : State �
   data_fits b m h = packets_fit m b n m h
 
   in_stage_fits : (s : State) (stage : DeviceStage) → HasBytes s → StageFits stage → ServedFits (served_in table n s stage)
-  in_stage_fits s Idle state fits = replied_fits _ s (Halted None) false tt state tt
-  in_stage_fits s (Halted refused) state fits = replied_fits _ s (Halted None) false tt state tt
+  in_stage_fits s Idle state fits = stalls_fits s state
+  in_stage_fits s (Halted refused) state fits = stalls_fits s state
   in_stage_fits s (Sending b m k) state fits =
       next_fits s (Sending b m k) k (drop k (packets b n m)) state fits (drop_fit AreBytes k (packets b n m) (data_fits b m fits))
-  in_stage_fits s StatusOut state fits = replied_fits _ s (Halted None) false tt state tt
-  in_stage_fits s Over state fits = replied_fits _ s (Halted None) false tt state tt
+  in_stage_fits s StatusOut state fits = stalls_fits s state
+  in_stage_fits s Over state fits = stalls_fits s state
+  in_stage_fits s (Receiving q got) state fits = stalls_fits s state
+  in_stage_fits s (Written q got) state fits = stalls_fits s state
   in_stage_fits s (StatusIn q c) state fits =
       replied_fits _ (status_state table n s q c) (StatusIn q true) true tt
       (if_state _ s _ state (carried_fits s (table s q) state (table_fits s state q))) tt
@@ -354,7 +389,7 @@ module _ (f : DescriptorFile) (bytes : AreBytes (file_bytes f)) (table : State �
   here_fits d InToken false h = replied_fits _ d.state d.stage false tt h.state h.stage
   here_fits d InToken true h = in_stage_fits d.state d.stage h.state h.stage
   here_fits d (OutToken t b) false h = replied_fits _ d.state d.stage false tt h.state h.stage
-  here_fits d (OutToken t b) true h = out_fits d.state d.stage t b h.state h.stage
+  here_fits d (OutToken t b) true h = out_fits table n d.state d.stage t b h.state h.stage
 
   served_fits : (d : DeviceView) (sent : Sent) (ready : Bool) → DeviceFits d → ServedFits (served table n d sent ready)
   served_fits d sent ready h = by_address (sent.address == d.state.address)
@@ -374,6 +409,8 @@ module _ (f : DescriptorFile) (bytes : AreBytes (file_bytes f)) (table : State �
   acked_stage_fits StatusOut h = tt
   acked_stage_fits Over h = tt
   acked_stage_fits (StatusIn q c) h = tt
+  acked_stage_fits (Receiving q got) h = tt
+  acked_stage_fits (Written q got) h = tt
 
   acked_state_fits : (s : State) (stage : DeviceStage) → HasBytes s → HasBytes (acked_state table n s stage)
   acked_state_fits s (StatusIn q c) h = if_state (is_set_address q) _ s (carried_fits s (table s q) h (table_fits s h q)) h
@@ -382,6 +419,8 @@ module _ (f : DescriptorFile) (bytes : AreBytes (file_bytes f)) (table : State �
   acked_state_fits s (Sending b m k) h = h
   acked_state_fits s StatusOut h = h
   acked_state_fits s Over h = h
+  acked_state_fits s (Receiving q got) h = h
+  acked_state_fits s (Written q got) h = h
 
   acked_fits : (d : DeviceView) → DeviceFits d → DeviceFits (acked table n d)
   acked_fits d h = by_pending d.pending

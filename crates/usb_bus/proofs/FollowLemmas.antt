@@ -1,5 +1,5 @@
 -- A script that a cursor walks and a device serves is followed by the plan of that cursor.
-use Rattle.std.proofs.Common.{◌≡◌, ℕ, false, List, [], ◌∷◌, ◌++◌, refl, ap, sym, ◌∙◌, append_assoc}
+use Rattle.std.proofs.Common.{◌≡◌, ℕ, false, List, [], ◌∷◌, ◌++◌, refl, ap, sym, ◌∙◌, append_assoc, inl}
 use Rattle.std.proofs.lemmas.List.{append-nil}
 use Rattle.usb_fields.specs.declared.setup.Setup.{Setup as SetupPacket}
 use Rattle.usb_device.specs.declared.state.State.{State}
@@ -8,6 +8,7 @@ use Rattle.usb_device.specs.Step.{carried_out}
 use Rattle.usb_host.specs.declared.reply.Reply.{Reply}
 use Rattle.usb_host.specs.Plan.{Begin, Success}
 use Rattle.usb_bus.specs.inside.Sound.{Follows}
+use Rattle.usb_bus.specs.Attempt.{no_data}
 use Rattle.usb_bus.specs.Beside.{IsTable}
 use Rattle.usb_fields.specs.declared.packet.Speed.{Speed}
 use Rattle.usb_set.specs.declared.tree.Configuration.{Configuration}
@@ -34,7 +35,7 @@ module _ (set_of : List ℕ → Option Configuration) (speed : Speed) where
     pub follows : (xs : List Exchange) (s : State) (c : Place) (replies : List Reply) →
         reached set_of speed First replies ≡ c → replies ++ replies_in xs ≡ all →
         WalksScript set_of speed limits.address end c xs → Serves answer n last s xs →
-        Follows (plan_of set_of limits speed) limits.naks answer n false all last s replies (replies_in xs)
+        Follows (plan_of set_of limits speed) limits.naks no_data answer n false all last s replies (replies_in xs)
     follows [] s c replies at whole w d =
         (ap (asks limits.address) (at ∙ w) ∙ good, d, sym (append-nil replies) ∙ whole)
     follows (x ∷ xs) s c replies at whole w d =
@@ -46,8 +47,10 @@ module _ (set_of : List ℕ → Option Configuration) (speed : Speed) where
             (
               record {
                 begins = ap (asks limits.address) at ∙ (w.0 ∙ ap (λ y. Begin y x.packet x.request) d.0.address);
+                data_out = inl refl;
                 answering = table.answering s x.request;
                 is_cut = d.0.is_cut;
+                sizes = d.0.sizes;
                 reply = d.0.reply;
                 address = λ t e i. (let g = (table.goes s x.request t e i).1 in rw g refl);
               },

@@ -18,7 +18,7 @@ use Rattle.usb_host.specs.declared.reply.Reply.{Reply}
 use Rattle.usb_host.specs.declared.reply.Reply.TheVariants as replied
 use Rattle.usb_bus.specs.Bus.{HostEnd, hears, host_after, with_heard}
 use Rattle.usb_host.specs.Plan.{Plan}
-use Rattle.usb_bus.specs.Attempt.{Phase, Running, phase_of, reply_from, advance}
+use Rattle.usb_bus.specs.Attempt.{no_data, Phase, Running, phase_of, reply_from, advance}
 use Rattle.usb_set.specs.declared.tree.Configuration.{Configuration}
 use Rattle.usb_host.specs.Limits.{LimitView}
 use Rattle.usb_host.specs.Place.{Place, First, Address, Device, Header, Set, Qualifier, Languages, Text, Configure, Reported, Stopped}
@@ -167,7 +167,7 @@ module _ (laws : SetLaws) (set_of : List ℕ → Option Configuration) (limits :
   bytes_same place e t (kept.Set d over) open_ fits is = absurd (fits)
 
   completed_same : (place : Place) (e : HostEnd) (t : TransferView) (k : Kept) → IsInWork place → FitsPlace place k → IsTransfer e t k →
-      next set_of speed place (reply_from e) ≡ completed_leads speed place t k
+      next set_of speed place (reply_from 0 e) ≡ completed_leads speed place t k
   completed_same place e t k open_ fits is =
       ap (λ x. next set_of speed place (if x.request.length == 0 then replied.Done else replied.Bytes e.got)) is.is_transfer
       ∙ by_length (t.request.length == 0)
@@ -179,11 +179,11 @@ module _ (laws : SetLaws) (set_of : List ℕ → Option Configuration) (limits :
 
   advanced : (replies : List Reply) (e : HostEnd) (stage : TransferStage) (d : DeviceView) (place : Place) (t : TransferView) (k : Kept) →
       at replies ≡ place → IsInWork place → FitsPlace place k → IsTransfer e t k →
-      (let x = advance plan limits.naks replies e stage d in Image x.replies x.phase (goes_on limits speed place t k stage))
+      (let x = advance plan limits.naks no_data replies e stage d in Image x.replies x.phase (goes_on limits speed place t k stage))
   advanced replies e Completed d place t k here open_ fits is =
-      entered (replies ++ reply_from e ∷ []) (completed_leads speed place t k)
-      (walk_append set_of speed First replies (reply_from e)
-      ∙ ap (λ x. next set_of speed x (reply_from e)) here ∙ completed_same place e t k open_ fits is)
+      entered (replies ++ reply_from 0 e ∷ []) (completed_leads speed place t k)
+      (walk_append set_of speed First replies (reply_from 0 e)
+      ∙ ap (λ x. next set_of speed x (reply_from 0 e)) here ∙ completed_same place e t k open_ fits is)
   advanced replies e (TheFailed Stalled) d place t k here open_ fits is =
       entered (replies ++ replied.Refused ∷ []) (refused_leads place)
       (walk_append set_of speed First replies replied.Refused
@@ -217,7 +217,7 @@ module _ (laws : SetLaws) (set_of : List ℕ → Option Configuration) (limits :
       Image replies (Running h) (Reading place t k) → TakesHeard limits speed place k (taken t packet) new →
       ((result : Result Progress SetFault) × (LacksMemory (taken t packet).heard k result ⊎ Grows (taken t packet).heard place)
       × (new ≡ Ended (stopped place Memory)))
-      ⊎ (let e = hears h packet in let x = advance plan limits.naks replies e e.transfer.stage d in Image x.replies x.phase new)
+      ⊎ (let e = hears h packet in let x = advance plan limits.naks no_data replies e e.transfer.stage d in Image x.replies x.phase new)
   stays replies h d place t k packet new (here, open_, fits, is) (result, after, works, inl (wants, e)) =
       inl (result, elim wants [ inl lacks ↦ inl lacks | inr grows ↦ inr grows.0 ], e)
   stays replies h d place t k packet new (here, open_, fits, is) (result, after, works, inr (fine, e)) =
@@ -228,5 +228,5 @@ module _ (laws : SetLaws) (set_of : List ℕ → Option Configuration) (limits :
       let image = advanced replies end by.transfer.stage d place by.transfer after here open_ w.0
       (record { is_transfer = refl; is_read = c.1; is_count = c.0; is_kept = w.1 }) in
       let same : hears h packet ≡ end = ap (λ x. host_after h.got (taken x packet)) is.is_transfer in
-      inr (subst (λ s. (let z = hears h packet in let x = advance plan limits.naks replies z z.transfer.stage d in Image x.replies x.phase s)) (sym e)
-      (subst (λ z. (let x = advance plan limits.naks replies z z.transfer.stage d in Image x.replies x.phase (goes_on limits speed place by.transfer after by.transfer.stage))) (sym same) image))
+      inr (subst (λ s. (let z = hears h packet in let x = advance plan limits.naks no_data replies z z.transfer.stage d in Image x.replies x.phase s)) (sym e)
+      (subst (λ z. (let x = advance plan limits.naks no_data replies z z.transfer.stage d in Image x.replies x.phase (goes_on limits speed place by.transfer after by.transfer.stage))) (sym same) image))

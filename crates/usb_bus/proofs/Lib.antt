@@ -1,7 +1,13 @@
 mod Fronts
 mod OtherStages
 mod DataStage
+mod WriteLemmas
+mod WriteSteps
+mod WriteParts
+mod CountLemmas
 mod Keeps
+mod ArrivalLemmas
+mod ArrivedLemmas
 pub mod Cutting
 pub mod Attempts
 mod Talks
@@ -34,3 +40,4 @@ mod ByteLemmas
 pub mod EnumerateLemmas
 mod JoinLemmas
 mod LogLemmas
+mod Tallies

@@ -6,23 +6,23 @@ use Rattle.usb_file_data.specs.declared.file.DescriptorFile.{DescriptorFile}
 use Rattle.usb_text.specs.Output.{Held}
 use Rattle.usb_text.proofs.Pages.{appends_more, appends_nothing, keeps_refl}
 use Rattle.std.specs.Option.{is_some}
-use Rattle.std.specs.Prelude.{◌⊎◌, Bool, true, IfErr, IfOk, Result, Ok, Err}
+use Rattle.std.specs.Prelude.{◌⊎◌, Bool, true}
 use Rattle.usb_fields.specs.Packets.{Reply, Sent}
 use Rattle.usb_host.specs.Transfer.{TransferView, due}
 use Rattle.usb_host.specs.declared.step.Step.{Step}
 use Rattle.usb_host.specs.Order.{step_of}
 use Rattle.usb_host.specs.declared.why.Why.{Why}
 use Rattle.usb_device.specs.Step.{DeviceView}
-use Rattle.usb_bus.specs.Run.{fate_at}
+use Rattle.usb_bus.specs.Run.{fate_at, fates_used}
 use Rattle.usb_host.specs.Limits.{LimitView}
 use Rattle.usb_bus.specs.declared.fate.Fate.{Fate}
 use Rattle.usb_host.specs.Steps.{Ended, HostPhase, Reading, ResetDue, WantsReset, WantsSent, sends, step_in, transfer_in, wanted}
 use Rattle.usb_bus.specs.Enumerate.{Pair, new_pair, Moves, answered}
 use Rattle.usb_bus.specs.Exchanges.{answered_in, cause_of}
-use Rattle.usb_bus.specs.Lines.{data_below, data_of, device_words, given_up_part}
+use Rattle.usb_bus.specs.Lines.{data_below, data_of, device_words, given_up_part, tally_line}
 use Rattle.usb_bus.specs.Bus.{brought}
 use Rattle.usb_bus.specs.inside.Seeing.{HasSeen, done_lines}
-use Rattle.usb_bus.specs.Log.{CutsOff, WritesLog, WritesLogLess, answered_part, count_before, exchange_lines, lines_with, log_text, step_lines, transfer_part}
+use Rattle.usb_bus.specs.Log.{CutsOff, IsLogOf, WritesLog, WritesLogLess, answered_part, count_before, exchange_lines, lines_with, log_text, step_lines, transfer_part}
 use Rattle.usb_bus.proofs.EnumerateLemmas.{runs_on}
 use Rattle.usb_bus.specs.inside.Running.{AllWork, StepWork, Breaks, Leads, Walks}
 use Rattle.usb_bus.specs.declared.enumeration.Run.{Run}
@@ -125,26 +125,40 @@ module _ {W : Type 0} (contents : W → Held) (f : DescriptorFile) (speed : Spee
   abbrev cuts : OutFault → StepWork W
   cuts fault x y n a b = CutsOff fault (contents a) (contents b) (step_lines f fates n x y)
 
-  pub log_of : (r : Result Run OutFault) → IfOk r (Walks f speed limits fates writes from to) → IfOk r (WritesLog f speed limits fates (contents from) (contents to))
-  log_of (Err fault) walks = tt
-  log_of (Ok run) w = record {
-    log = log_text f fates w.leads.earlier run.transactions w.last;
-    of_run = record {
-      earlier = w.leads.earlier;
-      last = w.last;
-      runs = w.leads.runs;
-      attempts = w.attempts;
-      outcome = w.outcome;
-      state = w.state;
-      text = refl;
-    };
-    written = log_written contents f fates w.leads.earlier run.transactions w.last from to w.leads.work;
+  -- the log of a run that has ended
+  abbrev ended : (run : Run) (w : Walks f speed limits fates writes from to run)
+      → IsLogOf f speed limits fates run (log_text f fates w.leads.earlier run.transactions w.last ++ tally_line (fates_used fates run.transactions))
+  ended run w = record {
+    earlier = w.leads.earlier;
+    last = w.last;
+    runs = w.leads.runs;
+    attempts = w.attempts;
+    outcome = w.outcome;
+    state = w.state;
+    text = refl;
   }
 
-  pub log_less : (r : Result Run OutFault) → IfErr r (λ fault. Breaks f speed limits fates writes (cuts fault) from to)
-      → IfErr r (WritesLogLess f speed limits fates (contents from) (contents to))
-  log_less (Ok run) breaks = tt
-  log_less (Err fault) b = record {
+  pub log_of : (run : Run) (holds : Held) → Walks f speed limits fates writes from to run
+      → Appends (contents to) holds (tally_line (fates_used fates run.transactions)) → WritesLog f speed limits fates (contents from) holds run
+  log_of run holds w last = record {
+    log = log_text f fates w.leads.earlier run.transactions w.last ++ tally_line (fates_used fates run.transactions);
+    of_run = ended run w;
+    written = appends_more (contents from) (contents to) holds _ _ (log_written contents f fates w.leads.earlier run.transactions w.last from to w.leads.work) last;
+  }
+
+  pub log_unended : (fault : OutFault) (run : Run) (holds : Held) → Walks f speed limits fates writes from to run
+      → CutsOff fault (contents to) holds (tally_line (fates_used fates run.transactions)) → WritesLogLess f speed limits fates (contents from) holds fault
+  log_unended fault run holds w cut = inr (record {
+    run = run;
+    log = log_text f fates w.leads.earlier run.transactions w.last ++ tally_line (fates_used fates run.transactions);
+    of_run = ended run w;
+    between = contents to;
+    logged = log_written contents f fates w.leads.earlier run.transactions w.last from to w.leads.work;
+    written = cut;
+  })
+
+  pub log_less : (fault : OutFault) → Breaks f speed limits fates writes (cuts fault) from to → WritesLogLess f speed limits fates (contents from) (contents to) fault
+  log_less fault b = inl (record {
     earlier = b.leads.earlier;
     before = b.before;
     transactions = b.transactions;
@@ -155,4 +169,4 @@ module _ {W : Type 0} (contents : W → Held) (f : DescriptorFile) (speed : Spee
     between = contents b.mid;
     logged = log_written contents f fates b.leads.earlier b.transactions b.before from b.mid b.leads.work;
     written = b.broken;
-  }
+  })

@@ -1,5 +1,6 @@
 -- A transaction outside the data stage keeps both ends in one transfer.
-use Rattle.std.proofs.Common.{◌≡◌, ℕ, ◌+◌, ◌*◌, ◌/◌, ◌%◌, ◌<◌, ◌≤◌, ◌==◌, Bool, false, if◌then◌else◌, List, [], length, Option, refl, sym, arith, inl, subst}
+use Rattle.std.proofs.Common.{◌≡◌, ℕ, ◌+◌, ◌-◌, ◌*◌, ◌/◌, ◌%◌, ◌<◌, ◌≤◌, ◌==◌, Bool, false, if◌then◌else◌, List, [], take, Option, ap, refl, sym, arith, inl, subst}
+use Rattle.std.specs.Prelude.{min}
 use Rattle.std.proofs.lemmas.Bool.Decides.{nat_tests}
 use Rattle.usb_fields.specs.declared.packet.Toggle.{Toggle}
 use Rattle.usb_fields.specs.declared.packet.Toggle.TheVariants.{Data1}
@@ -11,13 +12,13 @@ use Rattle.usb_host.specs.declared.transfer.TransferStage.{TransferStage}
 use Rattle.usb_host.specs.declared.transfer.TransferStage.TheVariants.{Setup, DataIn, DataOut, StatusOut, StatusIn}
 use Rattle.usb_host.specs.Transfer.{stage_after_setup}
 use Rattle.usb_device.specs.declared.state.State.{State}
-use Rattle.usb_device.specs.Requests.{Outcome, Bytes, Done, Refused}
+use Rattle.usb_device.specs.Requests.{Outcome, Bytes, Done, Refused, Takes}
 use Rattle.usb_device.specs.Step.{DeviceStage, Served, replies, begun}
 use Rattle.usb_device.specs.Step as device
 use Rattle.usb_bus.specs.declared.fate.Fate.{Fate}
 use Rattle.usb_bus.specs.declared.fate.Fate.TheVariants.{Pass, Busy, LostDown, LostUp, LostAck}
-use Rattle.usb_bus.specs.Bus.{lost, busy, ack_lost, Ends, HostEnd, step, hears, acknowledged}
-use Rattle.usb_bus.specs.Together.{Stages, IsReading, InOneTransfer}
+use Rattle.usb_bus.specs.Bus.{lost, busy, ack_lost, Ends, HostEnd, step_of, hears, acknowledged}
+use Rattle.usb_bus.specs.Together.{Stages, HasAccepted, IsReading, IsWriting, AreInStages}
 use Rattle.usb_bus.specs.inside.Sound.{IsCut}
 use Rattle.usb_bus.proofs.Fronts.{some_due}
 use Rattle.usb_bus.specs.Beside.{IsAnswering}
@@ -36,9 +37,15 @@ stage_after_setup-in q some to_host =
     let asked : (q.length == 0) ≡ false = grind (arith, nat_tests) in
     rw (asked, to_host) refl
 
-module _ (answer : State → SetupPacket → Outcome) (cut : ℕ) (s : State) (q : SetupPacket) (size naks : ℕ) where
-  abbrev pub host_at : TransferStage → Toggle → List ℕ → ℕ → ℕ → HostEnd
-  host_at stage awaited got strikes nak_count =
+-- and where data are brought
+pub stage_after_setup-out : (q : SetupPacket) → 0 < q.length → direction_of q.request_type ≡ directions.Out → stage_after_setup q ≡ DataOut
+stage_after_setup-out q some to_device =
+    let asked : (q.length == 0) ≡ false = grind (arith, nat_tests) in
+    rw (asked, to_device) refl
+
+module _ (answer : State → SetupPacket → Outcome) (cut : ℕ) (s : State) (q : SetupPacket) (size naks : ℕ) (data_out : List ℕ) where
+  abbrev pub host_at : TransferStage → Toggle → List ℕ → ℕ → ℕ → ℕ → HostEnd
+  host_at stage awaited got count strikes nak_count =
       record {
         transfer = record {
           address = s.address;
@@ -47,7 +54,7 @@ module _ (answer : State → SetupPacket → Outcome) (cut : ℕ) (s : State) (q
           request = q;
           stage = stage;
           awaited = awaited;
-          kept = length got;
+          kept = count;
           strikes = strikes;
           nak_count = nak_count;
         };
@@ -55,46 +62,62 @@ module _ (answer : State → SetupPacket → Outcome) (cut : ℕ) (s : State) (q
       }
 
   -- the device in the state d, which is s or the next one
-  abbrev pub both_at : State → TransferStage → DeviceStage → Toggle → List ℕ → ℕ → ℕ → Bool → Ends
-  both_at d stage at awaited got strikes nak_count pending =
+  abbrev pub both_at : State → TransferStage → DeviceStage → Toggle → List ℕ → ℕ → ℕ → ℕ → Bool → Ends
+  both_at d stage at awaited got count strikes nak_count pending =
       record {
-        host = host_at stage awaited got strikes nak_count;
+        host = host_at stage awaited got count strikes nak_count;
         device = record { state = d; stage = at; pending = pending };
       }
 
-  abbrev pub both : TransferStage → DeviceStage → Toggle → List ℕ → ℕ → ℕ → Bool → Ends
-  both stage at awaited got strikes nak_count pending = both_at s stage at awaited got strikes nak_count pending
+  abbrev pub both : TransferStage → DeviceStage → Toggle → List ℕ → ℕ → ℕ → ℕ → Bool → Ends
+  both stage at awaited got count strikes nak_count pending = both_at s stage at awaited got count strikes nak_count pending
 
   abbrev pub Goal : ℕ → ℕ → ℕ → Fate → Ends → Type 0
   Goal l b a fate e =
-      let e' = step answer cut fate e in
-      InOneTransfer answer cut s q size naks (l + lost fate) (b + busy fate) (a + ack_lost fate) e'.host e'.device
+      let e' = step_of answer cut data_out fate e in
+      AreInStages answer cut s q size naks data_out (l + lost fate) (b + busy fate) (a + ack_lost fate) e'.host e'.device
 
-  pub status_out_all : (l b a : ℕ) (fate : Fate) (at : DeviceStage) (awaited : Toggle) (got : List ℕ) (strikes nak_count : ℕ) (pending : Bool) →
-      Stages answer cut s q size naks l b a StatusOut at awaited got strikes s → nak_count ≤ b →
-      Goal l b a fate (both StatusOut at awaited got strikes nak_count pending)
-  status_out_all l b a fate at awaited got strikes nak_count pending e r = grind (arith, nat_tests)
+  pub status_out_all : (l b a : ℕ) (fate : Fate) (at : DeviceStage) (awaited : Toggle) (got : List ℕ) (count strikes nak_count : ℕ) (pending : Bool) →
+      Stages answer cut s q size naks data_out l b a StatusOut at awaited got count strikes s → nak_count ≤ b →
+      Goal l b a fate (both StatusOut at awaited got count strikes nak_count pending)
+  status_out_all l b a fate at awaited got count strikes nak_count pending e r = grind (arith, nat_tests)
 
-  pub data_out_all : (l b a : ℕ) (fate : Fate) (at : DeviceStage) (awaited : Toggle) (got : List ℕ) (strikes nak_count : ℕ) (pending : Bool) →
-      Stages answer cut s q size naks l b a DataOut at awaited got strikes s → nak_count ≤ b →
-      Goal l b a fate (both DataOut at awaited got strikes nak_count pending)
-  data_out_all l b a fate at awaited got strikes nak_count pending e r = grind (arith, nat_tests)
+  -- the last packet of a write again, whose data were accepted
+  pub data_out_accepted : (l b a : ℕ) (fate : Fate) (carried : Bool) (awaited : Toggle) (got : List ℕ) (count strikes nak_count : ℕ) (pending : Bool) →
+      HasAccepted answer cut s q size naks data_out l q strikes s → count + min size (q.length - count) ≡ q.length → (q.length == 0) ≡ false → nak_count ≤ b →
+      Goal l b a fate (both DataOut (device.StatusIn q carried) awaited got count strikes nak_count pending)
+  data_out_accepted l b a fate carried awaited got count strikes nak_count pending e last some r = grind (arith, nat_tests)
 
-  pub data_in_halted : (l b a : ℕ) (fate : Fate) (refused : Option SetupPacket) (awaited : Toggle) (got : List ℕ) (strikes nak_count : ℕ) (pending : Bool) →
-      Stages answer cut s q size naks l b a DataIn (device.Halted refused) awaited got strikes s → nak_count ≤ b →
-      Goal l b a fate (both DataIn (device.Halted refused) awaited got strikes nak_count pending)
-  data_in_halted l b a fate refused awaited got strikes nak_count pending e r = grind (arith, nat_tests)
+  pub data_in_halted : (l b a : ℕ) (fate : Fate) (refused : Option SetupPacket) (awaited : Toggle) (got : List ℕ) (count strikes nak_count : ℕ) (pending : Bool) →
+      Stages answer cut s q size naks data_out l b a DataIn (device.Halted refused) awaited got count strikes s → nak_count ≤ b →
+      Goal l b a fate (both DataIn (device.Halted refused) awaited got count strikes nak_count pending)
+  data_in_halted l b a fate refused awaited got count strikes nak_count pending e r = grind (arith, nat_tests)
 
-  pub status_in_halted : (l b a : ℕ) (fate : Fate) (refused : Option SetupPacket) (awaited : Toggle) (got : List ℕ) (strikes nak_count : ℕ) (pending : Bool) →
-      Stages answer cut s q size naks l b a StatusIn (device.Halted refused) awaited got strikes s → nak_count ≤ b →
-      Goal l b a fate (both StatusIn (device.Halted refused) awaited got strikes nak_count pending)
-  status_in_halted l b a fate refused awaited got strikes nak_count pending e r = grind (arith, nat_tests)
+  pub data_out_halted : (l b a : ℕ) (fate : Fate) (refused : Option SetupPacket) (awaited : Toggle) (got : List ℕ) (count strikes nak_count : ℕ) (pending : Bool) →
+      Stages answer cut s q size naks data_out l b a DataOut (device.Halted refused) awaited got count strikes s → nak_count ≤ b →
+      Goal l b a fate (both DataOut (device.Halted refused) awaited got count strikes nak_count pending)
+  data_out_halted l b a fate refused awaited got count strikes nak_count pending e r = grind (arith, nat_tests)
 
-  pub status_in : (l b a : ℕ) (fate : Fate) (asked : SetupPacket) (carried : Bool) (awaited : Toggle) (got : List ℕ) (strikes nak_count : ℕ) (pending : Bool) (d : State) →
+  pub status_in_halted : (l b a : ℕ) (fate : Fate) (refused : Option SetupPacket) (awaited : Toggle) (got : List ℕ) (count strikes nak_count : ℕ) (pending : Bool) →
+      Stages answer cut s q size naks data_out l b a StatusIn (device.Halted refused) awaited got count strikes s → nak_count ≤ b →
+      Goal l b a fate (both StatusIn (device.Halted refused) awaited got count strikes nak_count pending)
+  status_in_halted l b a fate refused awaited got count strikes nak_count pending e r = grind (arith, nat_tests)
+
+  pub status_in_written : (l b a : ℕ) (fate : Fate) (asked : SetupPacket) (came : List ℕ) (awaited : Toggle) (got : List ℕ) (count strikes nak_count : ℕ) (pending : Bool) →
+      Stages answer cut s q size naks data_out l b a StatusIn (device.Written asked came) awaited got count strikes s → nak_count ≤ b →
+      Goal l b a fate (both StatusIn (device.Written asked came) awaited got count strikes nak_count pending)
+  status_in_written l b a fate asked came awaited got count strikes nak_count pending e r = grind (arith, nat_tests)
+
+  pub data_out_written : (l b a : ℕ) (fate : Fate) (asked : SetupPacket) (came : List ℕ) (awaited : Toggle) (got : List ℕ) (count strikes nak_count : ℕ) (pending : Bool) →
+      Stages answer cut s q size naks data_out l b a DataOut (device.Written asked came) awaited got count strikes s → nak_count ≤ b →
+      Goal l b a fate (both DataOut (device.Written asked came) awaited got count strikes nak_count pending)
+  data_out_written l b a fate asked came awaited got count strikes nak_count pending e r = grind (arith, nat_tests)
+
+  pub status_in : (l b a : ℕ) (fate : Fate) (asked : SetupPacket) (carried : Bool) (awaited : Toggle) (got : List ℕ) (count strikes nak_count : ℕ) (pending : Bool) (d : State) →
       IsAnswering answer s q →
-      Stages answer cut s q size naks l b a StatusIn (device.StatusIn asked carried) awaited got strikes d → nak_count ≤ b →
-      Goal l b a fate (both_at d StatusIn (device.StatusIn asked carried) awaited got strikes nak_count pending)
-  status_in l b a fate asked carried awaited got strikes nak_count pending d w e r = grind (arith, nat_tests)
+      Stages answer cut s q size naks data_out l b a StatusIn (device.StatusIn asked carried) awaited got count strikes d → nak_count ≤ b →
+      Goal l b a fate (both_at d StatusIn (device.StatusIn asked carried) awaited got count strikes nak_count pending)
+  status_in l b a fate asked carried awaited got count strikes nak_count pending d w e r = grind (arith, nat_tests)
 
   -- a SETUP that the device reads as x
   abbrev served_setup : SetupPacket → DeviceStage → Served
@@ -111,8 +134,8 @@ module _ (answer : State → SetupPacket → Outcome) (cut : ℕ) (s : State) (q
   abbrev SetupGoal : ℕ → ℕ → ℕ → Fate → SetupPacket → DeviceStage → ℕ → ℕ → Bool → Type 0
   SetupGoal l b a fate x at strikes nak_count pending =
       let r = carried_setup x at pending fate in
-      InOneTransfer answer cut s q size naks (l + lost fate) (b + busy fate) (a + ack_lost fate)
-      (hears (host_at Setup Data1 [] strikes nak_count) r.reply) r.device
+      AreInStages answer cut s q size naks data_out (l + lost fate) (b + busy fate) (a + ack_lost fate)
+      (hears (host_at Setup Data1 [] 0 strikes nak_count) r.reply) r.device
 
   setup_by : (l b a : ℕ) (fate : Fate) (at : DeviceStage) (strikes nak_count : ℕ) (pending : Bool) (outcome : Outcome) →
       answer s q ≡ outcome →
@@ -120,10 +143,11 @@ module _ (answer : State → SetupPacket → Outcome) (cut : ℕ) (s : State) (q
       strikes ≤ l → nak_count ≤ b →
       SetupGoal l b a fate q at strikes nak_count pending
   setup_by l b a fate at strikes nak_count pending (Bytes bytes) e w c o r =
-      let at_start : IsReading answer cut s q size naks (l + lost fate) bytes q.length 0 Data1 [] 0 s = record {
+      let at_start : IsReading answer cut s q size naks data_out (l + lost fate) bytes q.length 0 Data1 [] 0 0 s = record {
         same_state = refl;
         answered = e;
         wants = refl;
+        count_is = refl;
         kept = 0;
         counted = inl refl;
         brought = refl;
@@ -136,11 +160,31 @@ module _ (answer : State → SetupPacket → Outcome) (cut : ℕ) (s : State) (q
       grind (arith, nat_tests)
   setup_by l b a fate at strikes nak_count pending (Done next) e w c o r = grind (arith, nat_tests, w.done next e)
   setup_by l b a fate at strikes nak_count pending Refused e w c o r = grind (arith, nat_tests)
+  setup_by l b a fate at strikes nak_count pending (Takes judge) e w c o r =
+      let asked = w.takes judge e in
+      let none : 0 * size ≡ 0 = omega arith in
+      let at_start : IsWriting answer cut s q size naks data_out (l + lost fate) q [] Data1 0 0 s = record {
+        same_state = refl;
+        asked_is = refl;
+        judge = judge;
+        answered = e;
+        acknowledged = 0;
+        count_is = sym none;
+        next_is = refl;
+        kept = 0;
+        counted = inl refl;
+        came_is = ap (λ n. take n data_out) (sym none);
+        whole = sym none;
+        more = subst (λ n. n < q.length) (sym none) asked.0;
+        owed = grind arith;
+      } in
+      let stage = stage_after_setup-out q asked.0 asked.1 in
+      grind (arith, nat_tests)
 
   pub setup_all : (l b a : ℕ) (fate : Fate) (at : DeviceStage) (strikes nak_count : ℕ) (pending : Bool) →
       IsAnswering answer s q → ((bytes : List ℕ) → answer s q ≡ Bytes bytes → IsCut cut size q.length bytes) →
       strikes ≤ l → nak_count ≤ b →
-      Goal l b a fate (both Setup at Data1 [] strikes nak_count pending)
+      Goal l b a fate (both Setup at Data1 [] 0 strikes nak_count pending)
   setup_all l b a Pass at strikes nak_count pending w c o r =
       subst (λ x. SetupGoal l b a Pass x at strikes nak_count pending) (sym (setup_of-setup_bytes q)) (setup_by l b a Pass at strikes nak_count pending (answer s q) refl w c o r)
   setup_all l b a Busy at strikes nak_count pending w c o r =

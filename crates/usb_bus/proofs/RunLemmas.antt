@@ -20,7 +20,7 @@ use Rattle.usb_device.specs.Step.{DeviceView, new_device}
 use Rattle.usb_bus.specs.declared.fate.Fate.{Fate}
 use Rattle.usb_bus.specs.declared.fate.Fate.TheVariants.{Pass}
 use Rattle.usb_bus.specs.Bus.{losses, busies, HostEnd, carried, exchanged, hears}
-use Rattle.usb_bus.specs.Attempt.{Phase, Running, Succeeded, Broken, Attempt, proceed, advance, attempt_step}
+use Rattle.usb_bus.specs.Attempt.{no_data, Phase, Running, Succeeded, Broken, Attempt, proceed, advance, attempt_step}
 use Rattle.usb_bus.specs.Run.{fate_at, fates_used}
 use Rattle.usb_host.specs.declared.step.Step.{Step}
 use Rattle.usb_host.specs.declared.step.Trouble.{Trouble}
@@ -151,9 +151,9 @@ module _ (set_of : List ℕ → Option Configuration) (limits : LimitView) (spee
 
   module _ (stays : StaysImage set_of limits speed) (f : DescriptorFile) (table : State → SetupPacket → Outcome) where
     abbrev stepped : Fate → Series → Series
-    stepped fate s = series_step plan limits.naks limits.attempts table f.device.packet fate s
+    stepped fate s = series_step plan limits.naks limits.attempts no_data table f.device.packet fate s
 
-    advanced_device : (replies : List Reply) (h : HostEnd) (stage : TransferStage) (d : DeviceView) → (advance plan limits.naks replies h stage d).device ≡ d
+    advanced_device : (replies : List Reply) (h : HostEnd) (stage : TransferStage) (d : DeviceView) → (advance plan limits.naks no_data replies h stage d).device ≡ d
     advanced_device replies h Completed d = refl
     advanced_device replies h (TheFailed NoAnswer) d = refl
     advanced_device replies h (TheFailed Busy) d = refl
@@ -170,7 +170,7 @@ module _ (set_of : List ℕ → Option Configuration) (limits : LimitView) (spee
 
     abbrev Stepped : Fate → List Reply → Phase → DeviceView → Sent → HostPhase → Type 0
     Stepped fate replies p d sent new =
-        let y = attempt_step plan limits.naks table f.device.packet fate replies p d in
+        let y = attempt_step plan limits.naks no_data table f.device.packet fate replies p d in
         Image y.replies y.phase new × (y.device ≡ (carried table f.device.packet d sent fate).device)
 
     attempt_matches : (fate : Fate) (replies : List Reply) (p : Phase) (d : DeviceView) (place : Place) (t : TransferView) (k : Kept) (sent : Sent) (new : HostPhase) →
@@ -186,7 +186,7 @@ module _ (set_of : List ℕ → Option Configuration) (limits : LimitView) (spee
         elim (stays replies h r.device place t k r.reply new image takes) [
           | inl (result, wants, e) ↦ inl (e, wanting_heard table f.device.packet t k place sent fate d result asks wants)
           | inr ok ↦
-              inr (subst (λ e. (let y = advance plan limits.naks replies e.host e.host.transfer.stage e.device in Image y.replies y.phase new × (y.device ≡ r.device)))
+              inr (subst (λ e. (let y = advance plan limits.naks no_data replies e.host e.host.transfer.stage e.device in Image y.replies y.phase new × (y.device ≡ r.device)))
               (sym there) (ok, advanced_device replies z z.transfer.stage r.device))
         ]
     attempt_matches fate replies Succeeded d place t k sent new image asks takes = absurd (image)
@@ -211,7 +211,7 @@ module _ (set_of : List ℕ → Option Configuration) (limits : LimitView) (spee
         elim (attempt_matches fate a.replies a.phase a.device place t k sent phase image (is_due (due t) sent asks) heard_here) [
           | inl (wants, arrived) ↦ inl ((place, phase_is ∙ ap (λ z. settled limits.attempts x.host.resets z) wants), arrived)
           | inr ok ↦
-              let z = attempt_step plan limits.naks table f.device.packet fate a.replies a.phase a.device in
+              let z = attempt_step plan limits.naks no_data table f.device.packet fate a.replies a.phase a.device in
               let same_device : z.device ≡ y.device = ok.1 ∙ ap (λ d. (carried table f.device.packet d sent fate).device) device_is ∙ sym device in
               let now = settles_match s.attempts z z.phase phase y.device refl (subst (λ n. n ≤ limits.attempts) (sym attempts_are) few) ok.0 same_device in
               let resets_are : s.attempts ≡ y.host.resets = attempts_are ∙ sym (ap (λ h. h.resets) host_is) in
@@ -236,13 +236,13 @@ module _ (set_of : List ℕ → Option Configuration) (limits : LimitView) (spee
     sends_nothing v sent w e = absurd (let z = sym e ∙ ap wanted w.1 in cc)
 
     series_more : (used : List Fate) (fate : Fate) (s : Series) →
-        series_run plan limits.naks limits.attempts table f.device.packet (used ++ fate ∷ []) s
-        ≡ stepped fate (series_run plan limits.naks limits.attempts table f.device.packet used s)
+        series_run plan limits.naks limits.attempts no_data table f.device.packet (used ++ fate ∷ []) s
+        ≡ stepped fate (series_run plan limits.naks limits.attempts no_data table f.device.packet used s)
     series_more [] fate s = refl
     series_more (g ∷ used) fate s = series_more used fate (stepped g s)
 
     abbrev pub after : List Fate → ℕ → Series
-    after fates n = series_run plan limits.naks limits.attempts table f.device.packet (fates_used fates n) (begin 1)
+    after fates n = series_run plan limits.naks limits.attempts no_data table f.device.packet (fates_used fates n) (begin 1)
 
     pub runs_match : (some : 0 < limits.attempts) (fates : List Fate) (earlier : List Pair) (n : ℕ) (last : Pair) → RunsAt table f.device.packet fates (new_pair limits speed) earlier n last →
         (IsWanting last.host × (ends_heard (fates_used fates n) ≡ true)) ⊎ Follows last (after fates n)
@@ -260,7 +260,7 @@ module _ (set_of : List ℕ → Option Configuration) (limits : LimitView) (spee
           | inr ok ↦
               let same : stepped (fate_at fates m) (after fates m) ≡ after fates n =
               sym (series_more (fates_used fates m) (fate_at fates m) (begin 1))
-              ∙ ap (λ used. series_run plan limits.naks limits.attempts table f.device.packet used (begin 1)) (sym (fates_used-more fates m))
+              ∙ ap (λ used. series_run plan limits.naks limits.attempts no_data table f.device.packet used (begin 1)) (sym (fates_used-more fates m))
               ∙ ap (λ k. after fates k) (sym count) in
               elim (transaction_matches (fate_at fates m) x last (after fates m) t ok) [
                 | inl (wants, arrived) ↦ inl (wants, last_heard fates m n count arrived)

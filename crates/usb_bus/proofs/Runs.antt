@@ -36,9 +36,9 @@ fates_used-drop zero (f ∷ fates) n = refl
 fates_used-drop (suc k) [] n = refl
 fates_used-drop (suc k) (f ∷ fates) n = fates_used-drop k fates n
 
-module _ (plan : List Reply → Plan) (naks : ℕ) (answer : State → SetupPacket → Outcome) (cut : ℕ) (fates : List Fate) where
+module _ (plan : List Reply → Plan) (naks : ℕ) (sends : List Reply → List ℕ) (answer : State → SetupPacket → Outcome) (cut : ℕ) (fates : List Fate) where
   abbrev next : ℕ → Attempt → Attempt
-  next k x = attempt_step plan naks answer cut (fate_at fates k) x.replies x.phase x.device
+  next k x = attempt_step plan naks sends answer cut (fate_at fates k) x.replies x.phase x.device
 
   -- the points on the way
   pub points : ℕ → ℕ → Attempt → List Attempt
@@ -52,10 +52,10 @@ module _ (plan : List Reply → Plan) (naks : ℕ) (answer : State → SetupPack
 
   -- a transaction is due at point n from x on
   abbrev pub IsDue : ℕ → Attempt → ℕ → Type 0
-  IsDue k x n = (sent : Sent) × (due_in (point plan naks answer cut fates k n x).phase ≡ Some sent)
+  IsDue k x n = (sent : Sent) × (let y = point plan naks sends answer cut fates k n x in due_in (sends y.replies) y.phase ≡ Some sent)
 
   -- one point more at which a transaction is due
-  pub AreDue-more : (k n : ℕ) (x : Attempt) → AreDue plan naks answer cut fates k n x → IsDue k x n → AreDue plan naks answer cut fates k (suc n) x
+  pub AreDue-more : (k n : ℕ) (x : Attempt) → AreDue plan naks sends answer cut fates k n x → IsDue k x n → AreDue plan naks sends answer cut fates k (suc n) x
   AreDue-more k n x due last i less =
       elim (cases_lt i n) [
         | inl before ↦ due i before
@@ -63,8 +63,8 @@ module _ (plan : List Reply → Plan) (naks : ℕ) (answer : State → SetupPack
       ]
 
   -- the points are steps, where a transaction is due at each
-  pub Steps-points : (k n : ℕ) (x : Attempt) → AreDue plan naks answer cut fates k n x →
-      Steps plan naks answer cut fates k x (points k n x) (point plan naks answer cut fates k n x)
+  pub Steps-points : (k n : ℕ) (x : Attempt) → AreDue plan naks sends answer cut fates k n x →
+      Steps plan naks sends answer cut fates k x (points k n x) (point plan naks sends answer cut fates k n x)
   unfolding points
   Steps-points k zero x due = refl
   Steps-points k (suc n) x due =
@@ -75,30 +75,30 @@ module _ (plan : List Reply → Plan) (naks : ℕ) (answer : State → SetupPack
 
   -- steps, and those that go on from where they end
   pub Steps-append : (k m : ℕ) (start : Attempt) (ps : List Attempt) (middle : Attempt) (qs : List Attempt) (end : Attempt) → m ≡ k + length ps →
-      Steps plan naks answer cut fates k start ps middle → Steps plan naks answer cut fates m middle qs end → Steps plan naks answer cut fates k start (ps ++ qs) end
+      Steps plan naks sends answer cut fates k start ps middle → Steps plan naks sends answer cut fates m middle qs end → Steps plan naks sends answer cut fates k start (ps ++ qs) end
   Steps-append k m start [] middle qs end at a b =
       let same : m ≡ k = omega arith in
-      subst (λ x. Steps plan naks answer cut fates k x qs end) a (subst (λ j. Steps plan naks answer cut fates j middle qs end) same b)
+      subst (λ x. Steps plan naks sends answer cut fates k x qs end) a (subst (λ j. Steps plan naks sends answer cut fates j middle qs end) same b)
   Steps-append k m start (p ∷ ps) middle qs end at a b = (a.0, Steps-append (suc k) m p ps middle qs end (omega arith) a.1 b)
 
   -- steps are a run under the fates that were used
-  pub Steps-run : (k : ℕ) (start : Attempt) (ps : List Attempt) (end : Attempt) → Steps plan naks answer cut fates k start ps end →
-      end ≡ attempt_run plan naks answer cut (fates_used (drop k fates) (length ps)) start
+  pub Steps-run : (k : ℕ) (start : Attempt) (ps : List Attempt) (end : Attempt) → Steps plan naks sends answer cut fates k start ps end →
+      end ≡ attempt_run plan naks sends answer cut (fates_used (drop k fates) (length ps)) start
   Steps-run k start [] end a = a
   Steps-run k start (p ∷ ps) end a =
       Steps-run (suc k) p ps end a.1
-      ∙ ap (λ x. attempt_run plan naks answer cut (fates_used (drop (suc k) fates) (length ps)) x) a.0.next
-      ∙ sym (ap (λ fs. attempt_run plan naks answer cut fs start) (fates_used-drop k fates (length ps)))
+      ∙ ap (λ x. attempt_run plan naks sends answer cut (fates_used (drop (suc k) fates) (length ps)) x) a.0.next
+      ∙ sym (ap (λ fs. attempt_run plan naks sends answer cut fs start) (fates_used-drop k fates (length ps)))
 
   -- two runs from one point that both end where nothing is due are as long as each other, and end alike
-  pub Steps-same : (k : ℕ) (start : Attempt) (ps qs : List Attempt) (x y : Attempt) → Steps plan naks answer cut fates k start ps x →
-      Steps plan naks answer cut fates k start qs y → due_in x.phase ≡ None → due_in y.phase ≡ None → (length ps ≡ length qs) × (x ≡ y)
+  pub Steps-same : (k : ℕ) (start : Attempt) (ps qs : List Attempt) (x y : Attempt) → Steps plan naks sends answer cut fates k start ps x →
+      Steps plan naks sends answer cut fates k start qs y → due_in (sends x.replies) x.phase ≡ None → due_in (sends y.replies) y.phase ≡ None → (length ps ≡ length qs) × (x ≡ y)
   Steps-same k start [] [] x y a b ends over = (refl, a ∙ sym b)
   Steps-same k start [] (q ∷ qs) x y a b ends over =
-      let clash : None ≡ Some b.0.sent = sym ends ∙ ap (λ z. due_in z.phase) a ∙ b.0.is_due in absurd (cc)
+      let clash : None ≡ Some b.0.sent = sym ends ∙ ap (λ z. due_in (sends z.replies) z.phase) a ∙ b.0.is_due in absurd (cc)
   Steps-same k start (p ∷ ps) [] x y a b ends over =
-      let clash : None ≡ Some a.0.sent = sym over ∙ ap (λ z. due_in z.phase) b ∙ a.0.is_due in absurd (cc)
+      let clash : None ≡ Some a.0.sent = sym over ∙ ap (λ z. due_in (sends z.replies) z.phase) b ∙ a.0.is_due in absurd (cc)
   Steps-same k start (p ∷ ps) (q ∷ qs) x y a b ends over =
       let same : q ≡ p = b.0.next ∙ sym a.0.next in
-      let rest = Steps-same (suc k) p ps qs x y a.1 (subst (λ z. Steps plan naks answer cut fates (suc k) z qs y) same b.1) ends over in
+      let rest = Steps-same (suc k) p ps qs x y a.1 (subst (λ z. Steps plan naks sends answer cut fates (suc k) z qs y) same b.1) ends over in
       (ap suc rest.0, rest.1)

@@ -56,31 +56,31 @@ cause_blames naks used Unexpected none = absurd none
 cause_blames naks used Malformed none = absurd none
 cause_blames naks used Memory none = absurd none
 
-module _ (plan : List Reply → Plan) (naks limit : ℕ) (answer : State → SetupPacket → Outcome) (cut : ℕ) (moved : Bool) (all : List Reply) (last : State) where
+module _ (plan : List Reply → Plan) (naks limit : ℕ) (sends : List Reply → List ℕ) (answer : State → SetupPacket → Outcome) (cut : ℕ) (moved : Bool) (all : List Reply) (last : State) where
   abbrev first : Attempt
   first = after_reset plan naks limit
 
   abbrev run : List Fate → Attempt
-  run used = attempt_under plan naks limit answer cut used
+  run used = attempt_under plan naks limit sends answer cut used
 
   abbrev step : Fate → Attempt → Attempt
-  step f x = attempt_step plan naks answer cut f x.replies x.phase x.device
+  step f x = attempt_step plan naks sends answer cut f x.replies x.phase x.device
 
   abbrev After : ℕ → List Fate → Attempt → Type 0
-  After failed fates x = Attempts plan naks limit answer cut failed fates x
+  After failed fates x = Attempts plan naks limit sends answer cut failed fates x
 
   abbrev Stands : List Fate → Series → Type 0
-  Stands fates x = StandsAfter plan naks limit answer cut fates x
+  Stands fates x = StandsAfter plan naks limit sends answer cut fates x
 
-  run_from : (fates : List Fate) (f : Fate) (x : Attempt) → attempt_run plan naks answer cut (fates ++ f ∷ []) x ≡ step f (attempt_run plan naks answer cut fates x)
+  run_from : (fates : List Fate) (f : Fate) (x : Attempt) → attempt_run plan naks sends answer cut (fates ++ f ∷ []) x ≡ step f (attempt_run plan naks sends answer cut fates x)
   run_from [] f x = refl
   run_from (g ∷ fates) f x = run_from fates f (step g x)
 
   abbrev Ends : List Fate → Attempt → Phase → Type 0
   Ends used x phase = AttemptEnds naks used moved all last x.replies phase x.device.state
 
-  module _ (stays : (used : List Fate) → StaysTogether plan naks answer cut used (attempt_under plan naks limit answer cut used))
-      (ends : (used : List Fate) → (let x = attempt_under plan naks limit answer cut used in AttemptEnds naks used moved all last x.replies x.phase x.device.state)) where
+  module _ (stays : (used : List Fate) → StaysTogether plan naks sends answer cut used (attempt_under plan naks limit sends answer cut used))
+      (ends : (used : List Fate) → (let x = attempt_under plan naks limit sends answer cut used in AttemptEnds naks used moved all last x.replies x.phase x.device.state)) where
     ends_at : (used : List Fate) (x : Attempt) (phase : Phase) → x ≡ run used → x.phase ≡ phase → Ends used x phase
     ends_at used x phase is e = subst (λ p. Ends used x p) e (subst (λ y. Ends used y y.phase) (sym is) (ends used))
 
@@ -91,7 +91,7 @@ module _ (plan : List Reply → Plan) (naks limit : ℕ) (answer : State → Set
     here : (used : List Fate) (x : Attempt) → x ≡ run used → After 0 used x
     here used x is = (
       is,
-      subst (λ y. StaysTogether plan naks answer cut used y) (sym is) (stays used),
+      subst (λ y. StaysTogether plan naks sends answer cut used y) (sym is) (stays used),
       λ why e. cause_costs naks used why (cause_of used x why is e),
     )
 
@@ -153,21 +153,21 @@ module _ (plan : List Reply → Plan) (naks limit : ℕ) (answer : State → Set
     settles failed fates x (Running h) e after = stops failed fates x after (λ why i. absurd (cc))
     settles failed fates x Succeeded e after = stops failed fates x after (λ why i. absurd (cc))
 
-    series_keeps : (fates : List Fate) (fate : Fate) (x : Series) → Stands fates x → Stands (fates ++ fate ∷ []) (series_step plan naks limit answer cut fate x)
+    series_keeps : (fates : List Fate) (fate : Fate) (x : Series) → Stands fates x → Stands (fates ++ fate ∷ []) (series_step plan naks limit sends answer cut fate x)
     series_keeps fates fate x h =
         let y = step fate x.attempt in
         subst (λ n. Stands (fates ++ fate ∷ []) (settle plan naks limit n y y.phase)) (sym h.count)
         (settles h.failed (fates ++ fate ∷ []) y y.phase refl (goes_on h.failed fates x.attempt fate h.attempts))
 
-    series_all : (used fates : List Fate) (x : Series) → Stands used x → Stands (used ++ fates) (series_run plan naks limit answer cut fates x)
+    series_all : (used fates : List Fate) (x : Series) → Stands used x → Stands (used ++ fates) (series_run plan naks limit sends answer cut fates x)
     series_all used [] x h = subst (λ y. Stands y x) (sym (append-nil used)) h
     series_all used (f ∷ fates) x h =
-        let y = series_step plan naks limit answer cut f x in
-        subst (λ z. Stands z (series_run plan naks limit answer cut fates y)) (append_assoc used (f ∷ []) fates)
+        let y = series_step plan naks limit sends answer cut f x in
+        subst (λ z. Stands z (series_run plan naks limit sends answer cut fates y)) (append_assoc used (f ∷ []) fates)
         (series_all (used ++ f ∷ []) fates y (series_keeps used f x h))
 
     -- each reset brings both ends together again
-    pub series_stands : (fates : List Fate) → Stands fates (series_run plan naks limit answer cut fates (fresh plan naks limit 1))
+    pub series_stands : (fates : List Fate) → Stands fates (series_run plan naks limit sends answer cut fates (fresh plan naks limit 1))
     series_stands fates = series_all [] fates (fresh plan naks limit 1) (starts 0 [] (here [] first refl))
 
     -- Each failed attempt cost a loss of its own, or a whole measure of Busy.
@@ -222,8 +222,8 @@ module _ (plan : List Reply → Plan) (naks limit : ℕ) (answer : State → Set
           )
 
       pub series_judged : (fates : List Fate) →
-          (let x = series_run plan naks limit answer cut fates (fresh plan naks limit 1) in
+          (let x = series_run plan naks limit sends answer cut fates (fresh plan naks limit 1) in
           Verdict naks limit all last (losses fates) (busies fates) x.attempts x.attempt x.attempt.phase)
       series_judged fates =
-          let x = series_run plan naks limit answer cut fates (fresh plan naks limit 1) in
+          let x = series_run plan naks limit sends answer cut fates (fresh plan naks limit 1) in
           judged fates x x.attempt.phase refl (series_stands fates)

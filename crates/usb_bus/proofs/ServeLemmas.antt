@@ -86,8 +86,9 @@ module _ (f : DescriptorFile) where
         let kept : s ≡ carried_out s (answer f s (get_descriptor kind i language wants)) = sym (ap (λ x. carried_out s x) a) in (
           record {
             address = refl;
-            reply = ap reply_to a;
+            reply = ap (reply_to []) a;
             is_cut = λ x ex. (let same : b' ≡ x = cc in subst (λ y. CutsAlike n packet wants y) same cut);
+            sizes = λ judge ex. absurd (cc);
           },
           (λ z ez. absurd (no_address kind i language wants z)),
           subst (λ x. D x more) kept d,
@@ -98,7 +99,7 @@ module _ (f : DescriptorFile) where
     declines s packet kind i language wants more small e d =
         let a = missing s kind i language wants small e in
         let kept : s ≡ carried_out s (answer f s (get_descriptor kind i language wants)) = sym (ap (λ x. carried_out s x) a) in (
-          record { address = refl; reply = ap reply_to a; is_cut = λ x ex. absurd (cc) },
+          record { address = refl; reply = ap (reply_to []) a; is_cut = λ x ex. absurd (cc); sizes = λ judge ex. absurd (cc) },
           (λ z ez. absurd (no_address kind i language wants z)),
           subst (λ x. D x more) kept d,
         )
@@ -200,7 +201,7 @@ module _ (set_of : List ℕ → Option Configuration) (speed : Speed) (address :
   serves_last : Serves (answer f) m last there (last_script address m f)
   serves_last =
       let a = configured_done f address some (value_some f d.accepted.rules) d.value_fits in (
-        record { address = refl; reply = ap reply_to a; is_cut = λ x ex. absurd (cc) },
+        record { address = refl; reply = ap (reply_to []) a; is_cut = λ x ex. absurd (cc); sizes = λ judge ex. absurd (cc) },
         (λ z ez. absurd (cc)),
         ap (λ x. carried_out there x) a,
       )
@@ -209,7 +210,7 @@ module _ (set_of : List ℕ → Option Configuration) (speed : Speed) (address :
       Serves (answer f) m last zero_state (exchange 0 m (set_address address) replied.Done ∷ xs)
   serves_more xs more s =
       let a = addressed_done f address small in (
-        record { address = refl; reply = ap reply_to a; is_cut = λ x ex. absurd (cc) },
+        record { address = refl; reply = ap (reply_to []) a; is_cut = λ x ex. absurd (cc); sizes = λ judge ex. absurd (cc) },
         (λ z ez. more ez),
         subst (λ x. Serves (answer f) m last x xs) (sym (ap (λ x. carried_out zero_state x) a)) s,
       )

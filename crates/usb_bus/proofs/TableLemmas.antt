@@ -14,7 +14,7 @@ use Rattle.usb_file_data.specs.declared.file.DescriptorFile.{DescriptorFile}
 use Rattle.usb_device.specs.Descriptors.{descriptor}
 use Rattle.usb_device.specs.declared.state.State.{State}
 use Rattle.usb_device.specs.States.{first_alternates, has_address, is_configured, halt_of, without_halt}
-use Rattle.usb_device.specs.Requests.{Outcome, Bytes, Done, Refused, when, bytes_in, gives, tells, does, is_device, is_interface, names_interface, names_alternate, names_endpoint, names_endpoint_zero, selected_settings, interface_addresses, shown_attributes, one_if, can_wake, has_value, changed_halts, status_of, status_of_endpoint, feature_of, set_configuration, set_interface, row, answer_of, answer}
+use Rattle.usb_device.specs.Requests.{Outcome, Bytes, Done, Refused, Takes, when, bytes_in, gives, tells, does, is_device, is_interface, names_interface, names_alternate, names_endpoint, names_endpoint_zero, selected_settings, interface_addresses, shown_attributes, one_if, can_wake, has_value, changed_halts, status_of, status_of_endpoint, feature_of, set_configuration, set_interface, row, answer_of, answer}
 use Rattle.usb_device.specs.Step.{is_set_address}
 use Rattle.usb_bus.specs.Beside.{IsTable}
 
@@ -24,6 +24,7 @@ Kept s q (Bytes b) = (0 < q.length) × (direction_of q.request_type ≡ directio
 Kept s q (Done t) =
     (q.length ≡ 0) × (is_set_address q ≡ false → t.address ≡ s.address) × (is_set_address q ≡ true → (q.value < 128) × (t ≡ record s { address = q.value }))
 Kept s q Refused = Unit {0}
+Kept s q (Takes judge) = (0 < q.length) × (direction_of q.request_type ≡ directions.Out)
 
 if_kept : (s : State) (q : Setup) (c : Bool) (a b : Outcome) → (c ≡ true → Kept s q a) → (c ≡ false → Kept s q b) → Kept s q (if c then a else b)
 if_kept s q true a b x y = x refl
@@ -184,6 +185,7 @@ table_kept f =
     record {
       answering = λ s q. record {
         bytes = λ b e. (let kept = subst (λ a. Kept s q a) e (answer_kept f s q) in (kept.0, kept.1));
+        takes = λ judge e. subst (λ a. Kept s q a) e (answer_kept f s q);
         done = λ t e. (subst (λ a. Kept s q a) e (answer_kept f s q)).0;
         stays = λ t e. (subst (λ a. Kept s q a) e (answer_kept f s q)).1;
       };

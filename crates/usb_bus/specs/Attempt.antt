@@ -1,5 +1,5 @@
 -- Transfers one after another, each by a plan of what the replies before it ask for, with no bus reset between.
-use Rattle.std.specs.Prelude.{◌≡◌, ℕ, Bool, true, false, if◌then◌else◌, ◌==◌, List, [], ◌∷◌, ◌++◌, ◌<◌, ◌≤◌, ◌⊎◌, length, take}
+use Rattle.std.specs.Prelude.{◌≡◌, ◌≢◌, ℕ, Bool, true, false, if◌then◌else◌, ◌==◌, List, [], ◌∷◌, ◌++◌, ◌<◌, ◌≤◌, ◌⊎◌, length, take}
 use Rattle.usb_fields.specs.declared.setup.Setup.{Setup as SetupPacket}
 use Rattle.usb_host.specs.declared.why.Why.{Why}
 use Rattle.usb_host.specs.declared.why.Why.TheVariants.{Stalled, NoAnswer, Busy}
@@ -10,11 +10,12 @@ use Rattle.usb_host.specs.declared.reply.Reply.TheVariants as replied
 use Rattle.usb_host.specs.Plan.{Plan, Begin, Success, GivesUp}
 use Rattle.usb_host.specs.Transfer.{begun}
 use Rattle.usb_device.specs.declared.state.State.{State}
-use Rattle.usb_device.specs.Requests.{Outcome, Bytes, Done, Refused}
+use Rattle.usb_device.specs.Requests.{Outcome, Bytes, Done, Refused, Takes}
 use Rattle.usb_device.specs.Step.{DeviceView, is_set_address, carried_out}
+use Rattle.usb_device.specs.Beside.{brings_bytes}
 use Rattle.usb_bus.specs.declared.fate.Fate.{Fate}
-use Rattle.usb_bus.specs.Bus.{HostEnd, step, losses, busies, acks_lost}
-use Rattle.usb_bus.specs.Beside.{IsAnswering, CutsAlike}
+use Rattle.usb_bus.specs.Bus.{HostEnd, step_of, losses, busies, acks_lost}
+use Rattle.usb_bus.specs.Beside.{IsAnswering, CutsAlike, SizesAlike}
 
 -- Transfers one after another, each by a plan of what the replies before it ask for, with no bus reset between them.
 
@@ -30,15 +31,30 @@ pub record Attempt : Type 0 where
   pub phase : Phase
   pub device : DeviceView
 
--- an answer to a request, as a reply
-abbrev pub reply_to : Outcome → Reply
-reply_to (Bytes b) = replied.Bytes b
-reply_to (Done next) = replied.Done
-reply_to Refused = replied.Refused
+-- the data that go with a request: none, or the wLength bytes that it brings to the device
+abbrev pub AreDataOf : SetupPacket → List ℕ → Type 0
+AreDataOf q bytes = (bytes ≡ []) ⊎ ((brings_bytes q ≡ true) × (length bytes ≡ q.length))
 
--- the reply that a transfer that has completed brought
-abbrev pub reply_from : HostEnd → Reply
-reply_from h = if h.transfer.request.length == 0 then replied.Done else replied.Bytes h.got
+-- where no transfer has data to the device
+abbrev pub no_data : List Reply → List ℕ
+no_data replies = []
+
+-- the reply where a device would take data: none were sent, which it stalls, or its owner judges them
+abbrev pub judged_reply : (List ℕ → Bool) → List ℕ → Reply
+judged_reply judge [] = replied.Refused
+judged_reply judge bytes = if judge bytes then replied.Done else replied.Refused
+
+-- an answer to a request, as a reply, where these are the data to the device
+abbrev pub reply_to : List ℕ → Outcome → Reply
+reply_to bytes (Bytes b) = replied.Bytes b
+reply_to bytes (Done next) = replied.Done
+reply_to bytes Refused = replied.Refused
+reply_to bytes (Takes judge) = judged_reply judge bytes
+
+-- the reply that a transfer that has completed brought, where so many bytes went to the device: bytes, unless all wLength
+-- went there
+abbrev pub reply_from : ℕ → HostEnd → Reply
+reply_from sent h = if h.transfer.request.length == sent then replied.Done else replied.Bytes h.got
 
 -- a transfer begins, its end with no bytes yet
 abbrev pub begins : ℕ → ℕ → ℕ → SetupPacket → HostEnd
@@ -61,25 +77,26 @@ is_moved_last plan replies [] = false
 is_moved_last plan replies (r ∷ []) = is_moving (plan replies)
 is_moved_last plan replies (r ∷ next ∷ todo) = is_moved_last plan (replies ++ r ∷ []) (next ∷ todo)
 
--- For any plan, which says what comes next of the replies so far, and any limit of NAKs.
+-- For any plan, which says what comes next of the replies so far, and any limit of NAKs; and for the data to the device in the
+-- transfer that comes next.
 module _ (plan : List Reply → Plan) (naks : ℕ) where
   -- after these replies the plan goes on
   abbrev pub proceed : List Reply → DeviceView → Attempt
   proceed replies d = record { replies = replies; phase = phase_of naks (plan replies); device = d }
 
   -- After a transaction, by the stage: a transfer that completed or was stalled has its reply, and the plan goes on.
-  abbrev pub advance : List Reply → HostEnd → TransferStage → DeviceView → Attempt
-  advance replies h Completed d = proceed (replies ++ reply_from h ∷ []) d
-  advance replies h (Failed Stalled) d = proceed (replies ++ replied.Refused ∷ []) d
-  advance replies h (Failed why) d = record { replies = replies; phase = Broken why; device = d }
-  advance replies h stage d = record { replies = replies; phase = Running h; device = d }
+  abbrev pub advance : (List Reply → List ℕ) → List Reply → HostEnd → TransferStage → DeviceView → Attempt
+  advance sends replies h Completed d = proceed (replies ++ reply_from (length (sends replies)) h ∷ []) d
+  advance sends replies h (Failed Stalled) d = proceed (replies ++ replied.Refused ∷ []) d
+  advance sends replies h (Failed why) d = record { replies = replies; phase = Broken why; device = d }
+  advance sends replies h stage d = record { replies = replies; phase = Running h; device = d }
 
-  module _ (answer : State → SetupPacket → Outcome) (cut : ℕ) where
+  module _ (sends : List Reply → List ℕ) (answer : State → SetupPacket → Outcome) (cut : ℕ) where
     -- one transaction of the transfer that is under way, and what it brings the plan to; after the end nothing moves
     abbrev pub attempt_step : Fate → List Reply → Phase → DeviceView → Attempt
     attempt_step fate replies (Running h) d =
-        let e = step answer cut fate (record { host = h; device = d }) in
-        advance replies e.host e.host.transfer.stage e.device
+        let e = step_of answer cut (sends replies) fate (record { host = h; device = d }) in
+        advance sends replies e.host e.host.transfer.stage e.device
     attempt_step fate replies phase d = record { replies = replies; phase = phase; device = d }
 
     -- transactions under these fates
@@ -87,13 +104,15 @@ module _ (plan : List Reply → Plan) (naks : ℕ) where
     attempt_run [] x = x
     attempt_run (f ∷ fates) x = attempt_run fates (attempt_step f x.replies x.phase x.device)
 
-    -- a transfer of the plan that the device answers with this reply, in packets that the host takes; SET_ADDRESS changes the
-    -- address alone
+    -- a transfer of the plan, with its data, that the device answers with this reply, in packets that the host takes; SET_ADDRESS
+    -- changes the address alone
     pub record IsPlanned (s : State) (replies : List Reply) (r : Reply) (packet : ℕ) (q : SetupPacket) : Type 0 where
       pub begins : plan replies ≡ Begin s.address packet q
+      pub data_out : AreDataOf q (sends replies)
       pub answering : IsAnswering answer s q
       pub is_cut : (b : List ℕ) → answer s q ≡ Bytes b → CutsAlike cut packet q.length b
-      pub reply : reply_to (answer s q) ≡ r
+      pub sizes : (judge : List ℕ → Bool) → answer s q ≡ Takes judge → SizesAlike cut packet
+      pub reply : reply_to (sends replies) (answer s q) ≡ r
       pub address : (next : State) → answer s q ≡ Done next → is_set_address q ≡ true → next ≡ record s { address = next.address }
 
     -- From these replies on, a device in state s answers what the plan asks for by those to come, one after another; then the
@@ -105,18 +124,33 @@ module _ (plan : List Reply → Plan) (naks : ℕ) where
 
 -- What comes of transfers that have ended.
 
--- One transfer of request q, begun in state s, by its stage after so many losses, Busy and lost ACKs. Completed, it brought
--- the answer, and the device is in the next state, or the ACK after which it takes its new address was lost. Failed, it had
--- three losses, or more busy transactions than the limit of NAKs, or was refused. While it goes on there is nothing to say.
-abbrev pub TransferEnds : (State → SetupPacket → Outcome) → State → SetupPacket → ℕ → ℕ → ℕ → ℕ → TransferStage → List ℕ → State → Type 0
-TransferEnds answer s q naks l b a Completed got d =
+-- Of a write with these data wLength bytes came to its owner, who accepted them.
+pub record IsAccepted (o : Outcome) (q : SetupPacket) (bytes : List ℕ) : Type 0 where
+  pub judge : List ℕ → Bool
+  pub answered : o ≡ Takes judge
+  pub enough : q.length ≤ length bytes
+  pub accepts : judge (take q.length bytes) ≡ true
+
+-- Of a write, which its owner would take, the data were not wLength bytes, or these came to him and he refused them.
+pub record IsDeclined (o : Outcome) (q : SetupPacket) (bytes : List ℕ) : Type 0 where
+  pub judge : List ℕ → Bool
+  pub answered : o ≡ Takes judge
+  pub declines : (length bytes ≢ q.length) ⊎ (judge (take q.length bytes) ≡ false)
+
+-- One transfer of request q, begun in state s, by its stage after so many losses, Busy and lost ACKs; these were the data to the
+-- device. Completed, it brought the answer, and the device is in the next state, or the ACK after which it takes its new address
+-- was lost; or the data were accepted. Failed, it had three losses, or more busy transactions than the limit of NAKs, or it
+-- was refused, or its data were. While it goes on there is nothing to say.
+abbrev pub TransferEnds : (State → SetupPacket → Outcome) → State → SetupPacket → ℕ → List ℕ → ℕ → ℕ → ℕ → TransferStage → List ℕ → State → Type 0
+TransferEnds answer s q naks bytes l b a Completed got d =
     ((answer s q ≡ Bytes got) × (d ≡ s))
     ⊎ ((next : State) × ((answer s q ≡ Done next) × ((d ≡ next) ⊎ ((d ≡ s) × (is_set_address q ≡ true) × (0 < a)))))
-TransferEnds answer s q naks l b a (Failed NoAnswer) got d = 3 ≤ l
-TransferEnds answer s q naks l b a (Failed Busy) got d = naks < b
-TransferEnds answer s q naks l b a (Failed Stalled) got d = (answer s q ≡ Refused) × (d ≡ s)
-TransferEnds answer s q naks l b a (Failed why) got d = ⊥
-TransferEnds answer s q naks l b a stage got d = Unit {0}
+    ⊎ (IsAccepted (answer s q) q bytes × (d ≡ s))
+TransferEnds answer s q naks bytes l b a (Failed NoAnswer) got d = 3 ≤ l
+TransferEnds answer s q naks bytes l b a (Failed Busy) got d = naks < b
+TransferEnds answer s q naks bytes l b a (Failed Stalled) got d = ((answer s q ≡ Refused) ⊎ IsDeclined (answer s q) q bytes) × (d ≡ s)
+TransferEnds answer s q naks bytes l b a (Failed why) got d = ⊥
+TransferEnds answer s q naks bytes l b a stage got d = Unit {0}
 
 -- why transfers under these fates break off: no answer, after three losses or a lost ACK, or more busy transactions
 -- than the limit of NAKs

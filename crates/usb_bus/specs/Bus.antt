@@ -4,7 +4,7 @@ use Rattle.usb_bus.specs.declared.fate.Fate.{Fate}
 use Rattle.usb_bus.specs.declared.fate.Fate.TheVariants.{Pass, Busy, LostAck, LostDown, LostUp}
 use Rattle.usb_fields.specs.declared.setup.Setup.{Setup}
 use Rattle.usb_fields.specs.Packets.{Sent, Reply, DataReply, NoReply}
-use Rattle.usb_host.specs.Transfer.{TransferView, Hearing, Brings, Taken, taken, due}
+use Rattle.usb_host.specs.Transfer.{TransferView, Hearing, Brings, Taken, taken, due_of}
 use Rattle.usb_device.specs.declared.state.State.{State}
 use Rattle.usb_device.specs.Requests.{Outcome}
 use Rattle.usb_device.specs.Step.{DeviceView, Served, served, acked}
@@ -111,11 +111,15 @@ module _ (answer : State → Setup → Outcome) (packet : ℕ) where
   exchanged h d (Some sent) fate =
       let r = carried d sent fate in record { host = hears h r.reply; device = r.device }
 
-  -- the transaction that the transfer is due
-  abbrev pub step : Fate → Ends → Ends
-  step fate e = exchanged e.host e.device (due e.host.transfer) fate
+  -- the transaction that the transfer is due, where these are the data to the device
+  abbrev pub step_of : List ℕ → Fate → Ends → Ends
+  step_of bytes fate e = exchanged e.host e.device (due_of e.host.transfer bytes) fate
 
   -- transactions under these fates
-  abbrev pub run : List Fate → Ends → Ends
-  run [] e = e
-  run (f ∷ fates) e = run fates (step f e)
+  abbrev pub run_of : List ℕ → List Fate → Ends → Ends
+  run_of bytes [] e = e
+  run_of bytes (f ∷ fates) e = run_of bytes fates (step_of bytes f e)
+
+  -- and where no data go to the device
+  abbrev pub step : Fate → Ends → Ends
+  step fate e = step_of [] fate e

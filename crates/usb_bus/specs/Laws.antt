@@ -6,17 +6,17 @@ use Rattle.usb_file_data.specs.declared.file.DescriptorFile.{DescriptorFile}
 use Rattle.usb_host.specs.declared.reply.Reply.{Reply}
 use Rattle.usb_host.specs.Plan.{Plan}
 use Rattle.usb_device.specs.declared.state.State.{State}
-use Rattle.usb_device.specs.Requests.{Outcome, Bytes, answer}
+use Rattle.usb_device.specs.Requests.{Outcome, Bytes, Takes, answer}
 use Rattle.usb_device.specs.Step.{DeviceView, new_device, served, acked}
 use Rattle.usb_device.specs.Beside.{Response, beside, Gives}
 use Rattle.usb_bus.specs.declared.fate.Fate.{Fate}
 use Rattle.usb_bus.specs.declared.conversation.Talk.{Talk}
-use Rattle.usb_bus.specs.Bus.{losses, busies, acks_lost, run}
-use Rattle.usb_bus.specs.Beside.{IsAnswering, IsTable, CutsAlike, served_with, Moment, fates_of, IsAmong, run_moments, IsBeside}
+use Rattle.usb_bus.specs.Bus.{losses, busies, acks_lost, run_of}
+use Rattle.usb_bus.specs.Beside.{IsAnswering, IsTable, CutsAlike, SizesAlike, served_with, Moment, fates_of, IsAmong, run_moments, IsBeside}
 use Rattle.usb_bus.specs.Attempt.{Answers, begins, attempt_run, is_moved_last, proceed, TransferEnds, AttemptEnds}
 use Rattle.usb_bus.specs.Together.{InOneTransfer, StaysTogether}
 use Rattle.usb_bus.specs.Series.{StandsAfter, fresh, series_run}
-use Rattle.usb_bus.specs.Converse.{ends_with_address, talk_plan, replies_to, state_after, IsTalkRun, first_place, talk_start}
+use Rattle.usb_bus.specs.Converse.{AskedView, ends_with_address, talk_data, talk_plan, replies_to, state_after, IsTalkRun, first_place, talk_start}
 use Rattle.usb_fields.specs.Bytes.{AreBytes}
 use Rattle.usb_fields.specs.declared.packet.Speed.{Speed}
 use Rattle.usb_file_data.specs.File.{file_bytes}
@@ -30,61 +30,63 @@ use Rattle.usb_bus.specs.Enumerate.{EndsWell, IsEnumeration, IsEnumerationAt}
 -- The laws of two ends over a bus, under every list of fates: how both ends stand together, and what comes of transfers that
 -- have ended.
 
--- One transfer, begun at the device's address, of a device that cuts the packets that the host expects: whatever is lost,
--- both ends stay in it.
+-- One transfer, begun at the device's address, of a device that cuts the packets that the host expects, and awaits those that it
+-- cuts, with any data to the device: whatever is lost, both ends stay in it.
 abbrev pub TransfersStayTogether : Type 0
 TransfersStayTogether =
-    (answer : State → SetupPacket → Outcome) (cut naks size : ℕ) (q : SetupPacket) (d : DeviceView) (fates : List Fate) →
+    (answer : State → SetupPacket → Outcome) (cut naks size : ℕ) (q : SetupPacket) (d : DeviceView) (data_out : List ℕ) (fates : List Fate) →
     IsAnswering answer d.state q →
     ((bytes : List ℕ) → answer d.state q ≡ Bytes bytes → CutsAlike cut size q.length bytes) →
-    (let e = run answer cut fates (record { host = begins d.state.address size naks q; device = d }) in
-    InOneTransfer answer cut d.state q size naks (losses fates) (busies fates) (acks_lost fates) e.host e.device)
+    ((judge : List ℕ → Bool) → answer d.state q ≡ Takes judge → SizesAlike cut size) →
+    (let e = run_of answer cut data_out fates (record { host = begins d.state.address size naks q; device = d }) in
+    InOneTransfer answer cut d.state q size naks data_out (losses fates) (busies fates) (acks_lost fates) e.host e.device)
 
 -- An attempt: both ends are together in each transfer of a plan that a device answers, or the ACK of a SET_ADDRESS's status
 -- stage was lost, and every later transaction is silent.
 abbrev pub AttemptsStayTogether : Type 0
 AttemptsStayTogether =
-    (plan : List Reply → Plan) (naks : ℕ) (answer : State → SetupPacket → Outcome) (cut : ℕ) (all : List Reply) (last : State)
-    (d : DeviceView) (fates : List Fate) → Answers plan naks answer cut last [] d.state all →
-    StaysTogether plan naks answer cut fates (attempt_run plan naks answer cut fates (proceed plan naks [] d))
+    (plan : List Reply → Plan) (naks : ℕ) (sends : List Reply → List ℕ) (answer : State → SetupPacket → Outcome) (cut : ℕ) (all : List Reply) (last : State)
+    (d : DeviceView) (fates : List Fate) → Answers plan naks sends answer cut last [] d.state all →
+    StaysTogether plan naks sends answer cut fates (attempt_run plan naks sends answer cut fates (proceed plan naks [] d))
 
 -- All attempts: each reset brings both ends together again, and each failed attempt has its cost.
 abbrev pub ResetsBringTogether : Type 0
 ResetsBringTogether =
-    (plan : List Reply → Plan) (naks limit : ℕ) (answer : State → SetupPacket → Outcome) (cut : ℕ) (all : List Reply) (last : State)
-    (fates : List Fate) → Answers plan naks answer cut last [] new_device.state all →
-    StandsAfter plan naks limit answer cut fates (series_run plan naks limit answer cut fates (fresh plan naks limit 1))
+    (plan : List Reply → Plan) (naks limit : ℕ) (sends : List Reply → List ℕ) (answer : State → SetupPacket → Outcome) (cut : ℕ) (all : List Reply) (last : State)
+    (fates : List Fate) → Answers plan naks sends answer cut last [] new_device.state all →
+    StandsAfter plan naks limit sends answer cut fates (series_run plan naks limit sends answer cut fates (fresh plan naks limit 1))
 
 -- What comes of such a transfer.
 abbrev pub TransfersHaveCauses : Type 0
 TransfersHaveCauses =
-    (answer : State → SetupPacket → Outcome) (cut naks size : ℕ) (q : SetupPacket) (d : DeviceView) (fates : List Fate) →
+    (answer : State → SetupPacket → Outcome) (cut naks size : ℕ) (q : SetupPacket) (d : DeviceView) (data_out : List ℕ) (fates : List Fate) →
     IsAnswering answer d.state q →
     ((bytes : List ℕ) → answer d.state q ≡ Bytes bytes → CutsAlike cut size q.length bytes) →
-    (let e = run answer cut fates (record { host = begins d.state.address size naks q; device = d }) in
-    TransferEnds answer d.state q naks (losses fates) (busies fates) (acks_lost fates) e.host.transfer.stage e.host.got e.device.state)
+    ((judge : List ℕ → Bool) → answer d.state q ≡ Takes judge → SizesAlike cut size) →
+    (let e = run_of answer cut data_out fates (record { host = begins d.state.address size naks q; device = d }) in
+    TransferEnds answer d.state q naks data_out (losses fates) (busies fates) (acks_lost fates) e.host.transfer.stage e.host.got e.device.state)
 
 -- What comes of an attempt: transfers by a plan that a device answers, with no bus reset between them.
 abbrev pub AttemptsHaveCauses : Type 0
 AttemptsHaveCauses =
-    (plan : List Reply → Plan) (naks : ℕ) (answer : State → SetupPacket → Outcome) (cut : ℕ) (all : List Reply) (last : State)
-    (d : DeviceView) (fates : List Fate) → Answers plan naks answer cut last [] d.state all →
-    (let x = attempt_run plan naks answer cut fates (proceed plan naks [] d) in AttemptEnds naks fates (is_moved_last plan [] all) all last x.replies x.phase x.device.state)
+    (plan : List Reply → Plan) (naks : ℕ) (sends : List Reply → List ℕ) (answer : State → SetupPacket → Outcome) (cut : ℕ) (all : List Reply) (last : State)
+    (d : DeviceView) (fates : List Fate) → Answers plan naks sends answer cut last [] d.state all →
+    (let x = attempt_run plan naks sends answer cut fates (proceed plan naks [] d) in AttemptEnds naks fates (is_moved_last plan [] all) all last x.replies x.phase x.device.state)
 
 -- A talk with any device that keeps its table, with packets of any size above 0. Its replies and its last state are those
--- that the table gives to the requests in turn.
+-- that the table gives to the requests in turn, with their data.
 abbrev pub TalksHaveCauses : Type 0
 TalksHaveCauses =
-    (answer : State → SetupPacket → Outcome) (packet naks : ℕ) (qs : List SetupPacket) (fates : List Fate) → 0 < packet → IsTable answer →
+    (answer : State → SetupPacket → Outcome) (packet naks : ℕ) (qs : List AskedView) (fates : List Fate) → 0 < packet → IsTable answer →
     (let s = new_device.state in
-    let x = attempt_run (talk_plan packet (first_place qs)) naks answer packet fates (talk_start packet naks qs) in
+    let x = attempt_run (talk_plan packet (first_place qs)) naks (talk_data (first_place qs)) answer packet fates (talk_start packet naks qs) in
     AttemptEnds naks fates (ends_with_address qs) (replies_to answer s qs) (state_after answer s qs) x.replies x.phase x.device.state)
 
 -- The same requests under the same fates have one talk: its replies, its end, its state, and how many transactions
 -- there were.
 abbrev pub TalksAreDetermined : Type 0
 TalksAreDetermined =
-    (f : DescriptorFile) (naks : ℕ) (requests : List SetupPacket) (fates : List Fate) (a b : Talk) →
+    (f : DescriptorFile) (naks : ℕ) (requests : List AskedView) (fates : List Fate) (a b : Talk) →
     IsTalkRun f naks requests fates a → IsTalkRun f naks requests fates b → a ≡ b
 
 -- A device and its responder are one device, of the table with the responder beside it: step by step, so that the responder
@@ -105,15 +107,15 @@ RespondersKeepTables =
     (room : ℕ) (table : State → SetupPacket → Outcome) (respond : State → SetupPacket → Response) → IsTable table → IsTable (beside room table respond)
 
 -- Whatever a responder answers at each moment, a transfer ends as one with the responder of a single moment, under the same
--- losses: its bytes are never pieces of two answers.
+-- losses: its bytes are never pieces of two answers, and all its data are judged by one.
 abbrev pub TransfersReadOneAnswer : Type 0
 TransfersReadOneAnswer =
-    (room : ℕ) (table : State → SetupPacket → Outcome) (packet naks : ℕ) (q : SetupPacket) (d : DeviceView) (first : Moment) (more : List Moment) →
-    0 < packet → IsTable table →
+    (room : ℕ) (table : State → SetupPacket → Outcome) (packet naks : ℕ) (q : SetupPacket) (d : DeviceView) (data_out : List ℕ)
+    (first : Moment) (more : List Moment) → 0 < packet → IsTable table →
     (let fates = fates_of (first ∷ more) in
-    let e = run_moments room table packet (first ∷ more) (record { host = begins d.state.address packet naks q; device = d }) in
+    let e = run_moments room table packet data_out (first ∷ more) (record { host = begins d.state.address packet naks q; device = d }) in
     (respond : State → SetupPacket → Response) × IsAmong respond (first ∷ more)
-    × TransferEnds (beside room table respond) d.state q naks (losses fates) (busies fates) (acks_lost fates) e.host.transfer.stage e.host.got e.device.state)
+    × TransferEnds (beside room table respond) d.state q naks data_out (losses fates) (busies fates) (acks_lost fates) e.host.transfer.stage e.host.got e.device.state)
 
 -- What holds of an enumeration over a bus.
 

@@ -4,6 +4,7 @@ pub mod Attempt
 pub mod Converse
 pub mod Run
 pub mod Together
+pub mod Arrivals
 pub mod Series
 pub mod Laws
 pub mod Enumerate

@@ -20,7 +20,7 @@ use Rattle.usb_device.specs.View.{acknowledged}
 use Rattle.usb_bus.specs.declared.fate.Fate.{Fate}
 use Rattle.usb_bus.specs.declared.fate.Fate.TheVariants as fates
 use Rattle.usb_host.specs.declared.step.Step.{Step}
-use Rattle.usb_bus.specs.Bus.{brought}
+use Rattle.usb_bus.specs.Bus.{brought, busies, losses}
 use Rattle.usb_bus.specs.Exchanges.{is_lost_ack, is_lost_down, is_lost_up}
 
 -- The requests of an enumeration in words (USB 2.0, 9.4).
@@ -198,6 +198,8 @@ stage_words stages.Sending sent = codes "sending " ++ decimal sent
 stage_words stages.StatusOut sent = codes "status out"
 stage_words stages.Over sent = codes "over"
 stage_words stages.StatusIn sent = codes "status in"
+stage_words stages.Receiving sent = codes "receiving"
+stage_words stages.Written sent = codes "written"
 
 -- what the device has, where this is its packet size: its address, its configuration value, and its stage
 unfoldable pub device_words : ℕ → DeviceView → List ℕ
@@ -225,3 +227,8 @@ given_up_line attempt why = numbered (codes "attempt ") attempt ++ codes " given
 abbrev pub given_up_part : ℕ → Option Why → List ℕ
 given_up_part attempt None = []
 given_up_part attempt (Some why) = given_up_line attempt why
+
+-- The last line of a log: how many of its transactions have lost something, and in how many the device was not ready, by their
+-- fates.
+unfoldable pub tally_line : List Fate → List ℕ
+tally_line used = numbered (codes "fates: losses ") (losses used) ++ numbered (codes ", busy ") (busies used) ++ codes "\n"

@@ -1,5 +1,5 @@
--- The log of a run: the lines of its steps, and of no others.
-use Rattle.std.specs.Prelude.{◌≡◌, ℕ, ◌-◌, List, [], ◌∷◌, ◌++◌, Option, Some, if◌then◌else◌}
+-- The log of a run: the lines of its steps, and one that counts losses.
+use Rattle.std.specs.Prelude.{◌≡◌, ℕ, ◌-◌, ◌⊎◌, List, [], ◌∷◌, ◌++◌, Option, Some, if◌then◌else◌}
 use Rattle.std.specs.Io.KnownBytes.{Appends, Keeps}
 use Rattle.usb_fields.specs.declared.packet.Speed.{Speed}
 use Rattle.usb_file_data.specs.declared.file.DescriptorFile.{DescriptorFile}
@@ -12,14 +12,14 @@ use Rattle.usb_host.specs.declared.why.Why.{Why}
 use Rattle.usb_host.specs.Limits.{LimitView}
 use Rattle.usb_host.specs.Transfer.{TransferView, due, is_untried, taken}
 use Rattle.usb_bus.specs.declared.fate.Fate.{Fate}
-use Rattle.usb_bus.specs.Run.{fate_at}
+use Rattle.usb_bus.specs.Run.{fate_at, fates_used}
 use Rattle.usb_host.specs.declared.step.Step.{Step}
 use Rattle.usb_host.specs.Steps.{HostPhase, Wanted, WantsNothing, WantsReset, WantsSent, outcome_of, step_in, transfer_in, wanted}
 use Rattle.usb_bus.specs.declared.enumeration.Run.{Run}
 use Rattle.usb_bus.specs.Enumerate.{Pair, Runs, new_pair, Moves}
 use Rattle.usb_bus.specs.Bus.{brought}
 use Rattle.usb_bus.specs.Exchanges.{answered_in, cause_of, trouble_why}
-use Rattle.usb_bus.specs.Lines.{data_below, data_of, device_words, given_up_part, host_words, packets_part, reset_line, transfer_line}
+use Rattle.usb_bus.specs.Lines.{data_below, data_of, device_words, given_up_part, host_words, packets_part, reset_line, tally_line, transfer_line}
 
 -- the line of a transfer, before its first transaction
 abbrev pub transfer_part : Step → TransferView → List ℕ
@@ -62,7 +62,7 @@ count_before WantsReset n = n
 count_before (WantsSent sent) n = n - 1
 count_before WantsNothing n = n
 
--- The log of a run of n transactions over these pairs, the newest first, up to the last one: a line of headings, a line for each
+-- The log of a run of n transactions over these pairs, the newest first, up to its last line: a line of headings, a line for each
 -- reset and each transaction, in their order, before the first transaction of a transfer a line of that, and after the last one of an attempt
 -- that is given up a line of that.
 unfoldable pub log_text : DescriptorFile → List Fate → List Pair → ℕ → Pair → List ℕ
@@ -78,7 +78,7 @@ pub record IsLogOf (f : DescriptorFile) (speed : Speed) (limits : LimitView) (fa
   pub attempts : last.host.resets ≡ run.attempts
   pub outcome : outcome_of last.host.phase ≡ Some run.outcome
   pub state : last.device.state ≡ run.state
-  pub text : log ≡ log_text f fates earlier run.transactions last
+  pub text : log ≡ log_text f fates earlier run.transactions last ++ tally_line (fates_used fates run.transactions)
 
 -- the log of that run was written
 pub record WritesLog (f : DescriptorFile) (speed : Speed) (limits : LimitView) (fates : List Fate) (held holds : Held) (run : Run) : Type 0 where
@@ -92,7 +92,7 @@ CutsOff outs.Write held holds lines = AppendsLess held holds lines
 CutsOff outs.Memory held holds lines = Keeps held holds
 
 -- The log of a run so far was written. Then a step was made, which leads from `before` to `last`, and its lines were cut off.
-pub record WritesLogLess (f : DescriptorFile) (speed : Speed) (limits : LimitView) (fates : List Fate) (held holds : Held) (fault : OutFault) : Type 0 where
+pub record WritesStepsLess (f : DescriptorFile) (speed : Speed) (limits : LimitView) (fates : List Fate) (held holds : Held) (fault : OutFault) : Type 0 where
   pub earlier : List Pair
   pub before : Pair
   pub transactions : ℕ
@@ -103,3 +103,17 @@ pub record WritesLogLess (f : DescriptorFile) (speed : Speed) (limits : LimitVie
   pub between : Held
   pub logged : Appends held between (log_text f fates earlier transactions before)
   pub written : CutsOff fault between holds (step_lines f fates now before last)
+
+-- The log of a run that has ended was written, but for its last line, which was cut off.
+pub record WritesTallyLess (f : DescriptorFile) (speed : Speed) (limits : LimitView) (fates : List Fate) (held holds : Held) (fault : OutFault) : Type 0 where
+  pub run : Run
+  pub log : List ℕ
+  pub of_run : IsLogOf f speed limits fates run log
+  pub between : Held
+  pub logged : Appends held between (log_text f fates of_run.earlier run.transactions of_run.last)
+  pub written : CutsOff fault between holds (tally_line (fates_used fates run.transactions))
+
+-- a log was cut off, in the lines of a step or in its last line
+abbrev pub WritesLogLess : DescriptorFile → Speed → LimitView → List Fate → Held → Held → OutFault → Type 0
+WritesLogLess f speed limits fates held holds fault =
+    WritesStepsLess f speed limits fates held holds fault ⊎ WritesTallyLess f speed limits fates held holds fault

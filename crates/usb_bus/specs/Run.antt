@@ -2,7 +2,7 @@
 use Rattle.std.specs.Prelude.{◌≡◌, ℕ, zero, suc, List, [], ◌∷◌, Option, Some, None, slice_get, unwrap_or}
 use Rattle.usb_fields.specs.Packets.{Sent}
 use Rattle.usb_fields.specs.declared.setup.Setup.{Setup as SetupPacket}
-use Rattle.usb_host.specs.Transfer.{due}
+use Rattle.usb_host.specs.Transfer.{due_of}
 use Rattle.usb_device.specs.declared.state.State.{State}
 use Rattle.usb_device.specs.Requests.{Outcome}
 use Rattle.usb_bus.specs.declared.fate.Fate.{Fate}
@@ -21,17 +21,17 @@ fates_used fates zero = []
 fates_used [] (suc n) = Pass ∷ fates_used [] n
 fates_used (f ∷ fates) (suc n) = f ∷ fates_used fates n
 
--- the transaction that is due, where a transfer is under way; after the end there is none
-abbrev pub due_in : Phase → Option Sent
-due_in (Running host) = due host.transfer
-due_in phase = None
+-- the transaction that is due, where a transfer is under way with these data to the device; after the end there is none
+abbrev pub due_in : List ℕ → Phase → Option Sent
+due_in bytes (Running host) = due_of host.transfer bytes
+due_in bytes phase = None
 
-module _ (plan : List Reply → Plan) (naks : ℕ) (answer : State → SetupPacket → Outcome) (cut : ℕ) where
+module _ (plan : List Reply → Plan) (naks : ℕ) (sends : List Reply → List ℕ) (answer : State → SetupPacket → Outcome) (cut : ℕ) where
   -- one transaction under this fate: it is due at x, and y is what it brings x to
   pub record IsAttemptTransaction (fate : Fate) (x y : Attempt) : Type 0 where
     pub sent : Sent
-    pub is_due : due_in x.phase ≡ Some sent
-    pub next : y ≡ attempt_step plan naks answer cut fate x.replies x.phase x.device
+    pub is_due : due_in (sends x.replies) x.phase ≡ Some sent
+    pub next : y ≡ attempt_step plan naks sends answer cut fate x.replies x.phase x.device
 
   -- These points follow `start`, each one transaction after the one before it, from transaction k on, and the last of
   -- them is `end`.

@@ -41,11 +41,11 @@ module _ (plan : List Reply → Plan) (naks limit : ℕ) where
   settle attempts x (Broken Busy) = again attempts x
   settle attempts x phase = record { attempts = attempts; attempt = x }
 
-  module _ (answer : State → SetupPacket → Outcome) (cut : ℕ) where
+  module _ (sends : List Reply → List ℕ) (answer : State → SetupPacket → Outcome) (cut : ℕ) where
     -- one transaction under a fate
     abbrev pub series_step : Fate → Series → Series
     series_step fate x =
-        let y = attempt_step plan naks answer cut fate x.attempt.replies x.attempt.phase x.attempt.device in
+        let y = attempt_step plan naks sends answer cut fate x.attempt.replies x.attempt.phase x.attempt.device in
         settle x.attempts y y.phase
 
     -- transactions under these fates
@@ -55,13 +55,13 @@ module _ (plan : List Reply → Plan) (naks limit : ℕ) where
 
     -- the attempt that these fates make of one that begins after a reset
     abbrev pub attempt_under : List Fate → Attempt
-    attempt_under used = attempt_run plan naks answer cut used after_reset
+    attempt_under used = attempt_run plan naks sends answer cut used after_reset
 
     -- After so many failed attempts this one was begun. Each began with both ends together again, after a reset, and had the
     -- next of these fates. One that failed had its cost.
     abbrev pub Attempts : ℕ → List Fate → Attempt → Type 0
     Attempts zero used x =
-        (x ≡ attempt_under used) × StaysTogether plan naks answer cut used x × ((why : Why) → x.phase ≡ Broken why → HasCost naks used)
+        (x ≡ attempt_under used) × StaysTogether plan naks sends answer cut used x × ((why : Why) → x.phase ≡ Broken why → HasCost naks used)
     Attempts (suc failed) fates x =
         (used : List Fate) × (more : List Fate) × (fates ≡ used ++ more)
         × ((why : Why) × ((attempt_under used).phase ≡ Broken why)) × HasCost naks used × Attempts failed more x

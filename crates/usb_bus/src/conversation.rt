@@ -1,11 +1,12 @@
 //! A talk between a host and a device: requests one after another.
-ghost use Rattle.std.specs.Prelude.{◌≡◌, ◌↔◌, ◌<◌, ◌≤◌, ◌++◌, ◌∷◌, [], List, IfOk, IfSome, None, OnOk, length};
+ghost use Rattle.std.specs.Prelude.{◌≡◌, ◌↔◌, ◌<◌, ◌≤◌, ◌++◌, ◌∷◌, [], List, IfOk, IfSome, None, OnOk, length, map};
 ghost use Rattle.usb_bus.specs.Bus.{losses, busies, acks_lost};
-ghost use Rattle.usb_bus.specs.Converse.{followed, IsTalkRun, HasFirstReplies, HasLastState};
+ghost use Rattle.usb_bus.specs.Converse.{asked_of, followed, IsTalkRun, IsWholeTalk, HasFirstReplies, HasLastState, without_data};
 ghost use Rattle.usb_bus.specs.Run.{fates_used};
 ghost use Rattle.usb_bus.specs.Attempt.{IsCause};
 ghost use Rattle.usb_bus.specs.inside.Running.{settled};
 
+use crate::asked::Asked;
 use crate::exchange::{Ended, transfer_over};
 use crate::fate::Fate;
 use std::alloc::Global;
@@ -29,12 +30,12 @@ pub struct Talk {
 }
 
 /// What a transfer brings to the talk, or why the talk stops.
-fn settle(request: Setup, ended: Ended) -> Result<Reply, Why>
-    ensures { result ≡ settled request.length ended.bytes.items ended.failure }
+fn settle(request: Setup, sent: &[u8], ended: Ended) -> Result<Reply, Why>
+    ensures { result ≡ settled request.length (length sent.now) ended.bytes.items ended.failure }
 {
     match ended.failure {
         None => {
-            if request.length == 0 {
+            if usize::from(request.length) == sent.len() {
                 Ok(Reply::Done)
             } else {
                 Ok(Reply::Bytes(Sequence::from_vec(ended.bytes)))
@@ -51,7 +52,7 @@ fn follow(request: Setup, reply: &Reply, address: u8) -> u8
 {
     match reply {
         Reply::Done => {
-            if is_set_address(request) {
+            if is_set_address(request) && request.length == 0 {
                 (request.value % 128) as u8
             } else {
                 address
@@ -96,7 +97,7 @@ impl<'d> Model for Conversation<'d> {
 }
 
 impl<'d> Conversation<'d> {
-    ghost use Rattle.usb_bus.specs.Converse.{IsTalk};
+    ghost use Rattle.usb_bus.specs.Converse.{AskedView, IsTalk, asked_of, without_data};
 
     /// Before the first request, with a new device at address 0. A transfer retries so many NAKs without progress.
     pub fn new(alloc: Global, d: &'d Description, naks: u16) -> Conversation<'d>
@@ -127,7 +128,27 @@ impl<'d> Conversation<'d> {
     ///
     /// Only when out of memory. Nothing is promised of the talk then.
     pub fn request(&mut self, alloc: Global, request: Setup, fates: &[Fate]) -> Result<(), NoMemory>
-        ensures goes_on { OnOk result ((requests : List Setup) → IsTalk requests fates.now self.old → IsTalk (requests ++ request ∷ []) fates.now self.new) }
+        ensures goes_on { OnOk result ((requests : List AskedView) → IsTalk requests fates.now self.old → IsTalk (requests ++ without_data request ∷ []) fates.now self.new) }
+        ensures file { self.new.file ≡ self.old.file }
+        ensures naks { self.new.naks ≡ self.old.naks }
+    {
+        self.ask(alloc, Asked::from(request), fates)
+    }
+
+    /// The same of a request with data to the device.
+    ///
+    /// ```rust
+    /// // SET_REPORT: the device of a description has no owner who takes its data, and rejects it.
+    /// let setup = Setup::from_bytes(&[0x21, 9, 0, 2, 0, 0, 1, 0]);
+    /// conversation.ask(alloc, Asked { setup, data: &[1] }, &[])?;
+    /// assert_eq!(rt; conversation.talk().replies[0], Reply::Refused);
+    /// ```
+    ///
+    /// # Errors
+    ///
+    /// Only when out of memory. Nothing is promised of the talk then.
+    pub fn ask(&mut self, alloc: Global, asked: Asked<'_>, fates: &[Fate]) -> Result<(), NoMemory>
+        ensures goes_on { OnOk result ((requests : List AskedView) → IsTalk requests fates.now self.old → IsTalk (requests ++ asked_of asked.entry ∷ []) fates.now self.new) }
         ensures file { self.new.file ≡ self.old.file }
         ensures naks { self.new.naks ≡ self.old.naks }
     {
@@ -137,10 +158,12 @@ impl<'d> Conversation<'d> {
         // For the proof alone: there are fewer than 2^64 replies.
         let _replies = self.talk.replies.len();
         let before = self.talk.transactions;
+        let request = asked.setup;
+        let sent = asked.data_sent();
         let mut transfer = Transfer::new(self.address, self.packet, self.naks, request);
-        let ended = transfer_over(alloc, &mut self.device, &mut transfer, before, fates)?;
+        let ended = transfer_over(alloc, &mut self.device, &mut transfer, sent, before, fates)?;
         let transactions = ended.transactions;
-        match settle(request, ended) {
+        match settle(request, sent, ended) {
             Ok(reply) => {
                 let address = follow(request, &reply, self.address);
                 self.talk.replies.push(reply)?;
@@ -193,12 +216,12 @@ pub fn converse(
     requests: &[Setup],
     fates: &[Fate],
 ) -> Result<Talk, NoMemory>
-    ensures run { IfOk result (IsTalkRun d.now.file naks requests.now fates.now) }
+    ensures run { IfOk result (IsTalkRun d.now.file naks (map without_data requests.now) fates.now) }
 
     // The replies are those of the device's table, up to where the talk stopped, and so is the state.
-    ensures replies { IfOk result (HasFirstReplies d.now.file requests.now) }
+    ensures replies { IfOk result (HasFirstReplies d.now.file (map without_data requests.now)) }
     ensures all { IfOk result (λ talk. (talk.stopped ≡ None) ↔ (length talk.replies ≡ length requests.now)) }
-    ensures state { IfOk result (λ talk. talk.stopped ≡ None → HasLastState d.now.file requests.now fates.now talk) }
+    ensures state { IfOk result (λ talk. talk.stopped ≡ None → HasLastState d.now.file (map without_data requests.now) fates.now talk) }
 
     // It stops for a cause, and not without one.
     ensures cause { IfOk result (λ talk. IfSome talk.stopped (IsCause naks (fates_used fates.now talk.transactions))) }
@@ -209,6 +232,37 @@ pub fn converse(
     let mut conversation = Conversation::new(alloc, d, naks);
     for request in requests {
         conversation.request(alloc, *request, fates)?;
+    }
+    Ok(conversation.into_talk())
+}
+
+/// The same of requests with data to the device.
+///
+/// ```rust
+/// // SET_LINE_CODING: the device of a description has no owner who takes its data, and rejects it.
+/// let setup = Setup::from_bytes(&[0x21, 0x20, 0, 0, 0, 0, 7, 0]);
+/// let data = &[0x80, 0x25, 0, 0, 0, 0, 8];
+/// let talk = converse_asked(alloc, &description, 16, &[Asked { setup, data }], &[])?;
+/// assert_eq!(rt; talk.replies[0], Reply::Refused);
+/// ```
+///
+/// # Errors
+///
+/// Only when out of memory.
+pub fn converse_asked(
+    alloc: Global,
+    d: &Description,
+    naks: u16,
+    requests: &[Asked<'_>],
+    fates: &[Fate],
+) -> Result<Talk, NoMemory>
+    ensures { IfOk result (IsWholeTalk d.now.file naks (map asked_of requests.now) fates.now) }
+{
+    // For the proof alone: what holds of a description.
+    let _file = d.file();
+    let mut conversation = Conversation::new(alloc, d, naks);
+    for request in requests {
+        conversation.ask(alloc, *request, fates)?;
     }
     Ok(conversation.into_talk())
 }

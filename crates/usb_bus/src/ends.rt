@@ -168,5 +168,7 @@ fn put_stage(text: &mut Text, stage: DeviceStage, sent: usize) -> Result<(), All
         DeviceStage::StatusOut => text.put("status out"),
         DeviceStage::Over => text.put("over"),
         DeviceStage::StatusIn => text.put("status in"),
+        DeviceStage::Receiving => text.put("receiving"),
+        DeviceStage::Written => text.put("written"),
     }
 }

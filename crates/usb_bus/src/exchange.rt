@@ -1,9 +1,10 @@
 //! One transaction, and one transfer, between two ends.
 ghost use Rattle.std.specs.Prelude.{◌≡◌, ◌≤◌, ◌+◌, ◌<◌, ◌^◌, [], OnOk, IfOk, None};
 ghost use Rattle.usb_fields.specs.Packets.{sent_of};
-ghost use Rattle.usb_host.specs.Transfer.{due, left};
+ghost use Rattle.usb_host.specs.Transfer.{due, due_of, left, sent_by};
 ghost use Rattle.usb_host.specs.declared.transfer.TransferStage.TheVariants.{Setup};
 ghost use Rattle.usb_device.specs.Requests.{answer};
+ghost use Rattle.usb_bus.specs.Attempt.{AreDataOf};
 ghost use Rattle.usb_bus.specs.Bus.{carried};
 ghost use Rattle.usb_bus.specs.Enumerate.{answered};
 ghost use Rattle.usb_bus.specs.inside.Running.{failure_of, LeadsTo};
@@ -108,17 +109,31 @@ pub(crate) struct Ended {
     pub(crate) transactions: u128,
 }
 
-/// One transfer to its end, after so many transactions.
+/// The transaction that is due in a transfer with these data: none, or the wLength bytes that it brings to the device.
+fn due_with<'a>(transfer: &Transfer, sent: &'a [u8]) -> Option<Transaction<'a>>
+    requires { AreDataOf transfer.now.request sent.now }
+    ensures { sent_by result ≡ due_of transfer.now sent.now }
+{
+    if sent.is_empty() {
+        transfer.next()
+    } else {
+        transfer.next_of(sent)
+    }
+}
+
+/// One transfer with these data to its end, after so many transactions.
 pub(crate) fn transfer_over(
     alloc: Global,
     device: &mut Device<'_>,
     transfer: &mut Transfer,
+    sent: &[u8],
     before: u128,
     fates: &[Fate],
 ) -> Result<Ended, AllocError>
     requires setup { transfer.old.stage ≡ Setup }
+    requires data { AreDataOf transfer.old.request sent.now }
     requires few { before + left transfer.old < 2 ^ 128 }
-    ensures leads { IfOk result (λ ended. LeadsTo (answer device.old.description.file) device.old.description.file.device.packet fates.now before (record { transfer = transfer.old; got = [] }) device.old.device ended.transactions (record { transfer = transfer.new; got = ended.bytes.items }) device.new.device) }
+    ensures leads { IfOk result (λ ended. LeadsTo (answer device.old.description.file) device.old.description.file.device.packet sent.now fates.now before (record { transfer = transfer.old; got = [] }) device.old.device ended.transactions (record { transfer = transfer.new; got = ended.bytes.items }) device.new.device) }
     ensures description { device.new.description ≡ device.old.description }
     ensures request { OnOk result (transfer.new.request ≡ transfer.old.request) }
     ensures over { OnOk result (due transfer.new ≡ None) }
@@ -128,7 +143,7 @@ pub(crate) fn transfer_over(
     let mut bytes = Vec::new(alloc);
     let mut failure = None;
     let mut transactions = before;
-    while let Some(t) = transfer.next() {
+    while let Some(t) = due_with(transfer, sent) {
         let fate = Fate::at(fates, transactions);
         failure = exchange(transfer, device, &t, fate, &mut bytes)?;
         transactions += 1;

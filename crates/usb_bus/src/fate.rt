@@ -1,5 +1,5 @@
 //! What happens to one transaction.
-ghost use Rattle.std.specs.Prelude.{◌≡◌};
+ghost use Rattle.std.specs.Prelude.{◌≡◌, ◌≤◌};
 ghost use Rattle.usb_fields.specs.Packets.{reply_of};
 
 use usb_fields::Answer;
@@ -27,7 +27,7 @@ pub enum Fate {
 }
 
 impl Fate {
-    ghost use Rattle.usb_bus.specs.Bus.{acknowledges, brought, readiness};
+    ghost use Rattle.usb_bus.specs.Bus.{acknowledges, brought, busy, lost, readiness};
     ghost use Rattle.usb_bus.specs.Run.{fate_at};
 
     /// The fate of a transaction by its number, counted from 0. After the list's end all pass.
@@ -43,6 +43,28 @@ impl Fate {
             fates[number as usize]
         } else {
             Fate::Pass
+        }
+    }
+
+    /// 1 where something is lost.
+    pub(crate) fn lost(self) -> u64
+        ensures lost { result ≡ lost self }
+        ensures most { result ≤ 1 }
+    {
+        match self {
+            Fate::Pass | Fate::Busy => 0,
+            Fate::LostDown | Fate::LostUp | Fate::LostAck => 1,
+        }
+    }
+
+    /// 1 where the device is not ready.
+    pub(crate) fn busy(self) -> u64
+        ensures busy { result ≡ busy self }
+        ensures most { result ≤ 1 }
+    {
+        match self {
+            Fate::Busy => 1,
+            Fate::Pass | Fate::LostDown | Fate::LostUp | Fate::LostAck => 0,
         }
     }
 

@@ -5,13 +5,15 @@
 ghost use Rattle.usb_device.specs.Requests.{answer};
 ghost use Rattle.usb_file_data.specs.declared.file.DescriptorFile.{DescriptorFile};
 ghost use Rattle.usb_bus.specs.Beside.{IsTable};
+ghost use Rattle.usb_bus.specs.Arrivals.{WritesComeOnce};
 ghost use Rattle.usb_bus.specs.Laws.{EnumerationsEndWell, OwnersChangeNothing, RespondersAreBeside, UsesFates, AttemptsHaveCauses, AttemptsStayTogether, ResetsBringTogether, RespondersAreOneDevice, RespondersKeepTables, TalksAreDetermined, TalksHaveCauses, TestsEndAsKnown, TransfersHaveCauses, TransfersReadOneAnswer, TransfersStayTogether};
 
 use crate::lemmas::{a_host_keeps_the_image, a_run_ends_well, descriptions_are_read};
 
 /// A transfer begun at the device's address. The host still waits for its SETUP's ACK, or both ends are in this transfer: the
-/// host has kept as many packets as the device counts acknowledged, or one more; in the status stages either end may be one
-/// handshake behind the other. Each strike has a loss of its own.
+/// host has kept as many packets as the device counts acknowledged, or one more; of a write the device has kept as many as
+/// the host counts acknowledged, or one more; in the status stages either end may be one handshake behind the other. Each
+/// strike has a loss of its own.
 pub fn both_ends_stay_in_one_transfer()
     ensures { TransfersStayTogether }
 {}
@@ -33,10 +35,17 @@ pub fn a_reset_brings_both_ends_together()
 }
 
 /// A transfer begun at the device's address. Completed, it brought the device's answer, and the device is in the state that
-/// the answer gives, or the ACK of a SET_ADDRESS was lost. Failed, it was refused, or had three losses, or more busy
-/// transactions than the NAK limit.
+/// the answer gives, or the ACK of a SET_ADDRESS was lost; or it was a write, whose data came to their owner whole, and he
+/// accepted them. Failed, it or its data were refused, or it had three losses, or more busy transactions than the NAK limit.
 pub fn a_transfer_has_causes()
     ensures { TransfersHaveCauses }
+{}
+
+/// All data of a write come to the device at most once in a transfer, so that its owner judges them once; and just once in one
+/// that completed, after its last SETUP.
+#[tactic(auto, using(crate::proofs::ArrivedLemmas::come_once))]
+pub fn the_data_of_a_write_come_once()
+    ensures { WritesComeOnce }
 {}
 
 /// Transfers by a plan, with no bus reset between them: a success has all replies, and a failed attempt has a cause. Where
@@ -45,8 +54,8 @@ pub fn an_attempt_has_causes()
     ensures { AttemptsHaveCauses }
 {}
 
-/// Requests one after another, with no bus reset between them: a talk that stops has a cause, and one that doesn't has all
-/// replies of the device's table.
+/// Requests one after another, each with its data, with no bus reset between them: a talk that stops has a cause, and one that
+/// doesn't has all replies of the device's table. A write is done where its owner accepts its data.
 #[tactic(auto, using(crate::proofs::Talks::talk_ends))]
 pub fn a_talk_has_causes()
     ensures { TalksHaveCauses }
@@ -58,15 +67,16 @@ pub fn a_talk_is_determined()
 {}
 
 /// The device's answers to requests are a table that these laws are about. Bytes go to the host and are no more than it
-/// asked for, and what is only done has no data stage. SET_ADDRESS changes the address, and nothing else does; a class or
-/// vendor request with the same bRequest is another request.
+/// asked for, data are taken only where some go to the device, and what is only done has no data stage. SET_ADDRESS changes
+/// the address, and nothing else does; a class or vendor request with the same bRequest is another request.
 #[tactic(auto, using(crate::proofs::TableLemmas::table_kept))]
 pub fn a_device_keeps_its_table()
     ensures { (f : DescriptorFile) → IsTable (answer f) }
 {}
 
-/// A device whose owner answers what it refuses, right after each SETUP that was taken, goes step by step as one device
-/// does, whose table is the device's own with the owner's answers beside it.
+/// A device whose owner answers what it refuses, right after each SETUP that was taken, and judges the data of a write right
+/// after its last packet, goes step by step as one device does, whose table is the device's own with the owner's answers
+/// beside it.
 #[tactic(auto, using(crate::proofs::ResponderSteps::one_device))]
 pub fn a_responder_makes_one_device()
     ensures { RespondersAreOneDevice }
@@ -78,7 +88,8 @@ pub fn a_responder_keeps_a_table()
     ensures { RespondersKeepTables }
 {}
 
-/// A transfer brings one answer of an owner who answers otherwise at each moment, and never pieces of two.
+/// A transfer brings one answer of an owner who answers otherwise at each moment, and never pieces of two; its data are
+/// judged by one.
 #[tactic(auto, using(crate::proofs::ResponderMoments::one_answer))]
 pub fn a_transfer_reads_one_answer()
     ensures { TransfersReadOneAnswer }

@@ -4,15 +4,17 @@
 //! and a real device's end under any list of fates. [`enumerate`] joins a real host and a real device: the host resets
 //! the device, reads its descriptors, gives it an address and configures it; its answer is a [`Run`]. [`step`] is one
 //! step of it, for a caller that looks at both ends on the way, [`step_seen`] shows an [`Observer`] what the device has
-//! answered, and [`enumerate_logged`] writes a log, a line for each bus reset, each transfer and each transaction.
+//! answered, and [`enumerate_logged`] writes a log, a line for each bus reset, each transfer and each transaction, and one
+//! that counts losses.
 //!
 //! [`laws`] says what holds, whatever is lost:
 //!
 //! - In a transfer both ends stay together: the host has kept as many packets as the device counts acknowledged, or one
-//!   more, and each strike has a loss of its own.
+//!   more, and each strike has a loss of its own. Of data to the device it has them as the host counts, or a packet more.
 //! - A transfer that completes brought what the device's table of requests answers, and the device is in the state that
 //!   the table gives. One loss is excepted: where the ACK of a SET_ADDRESS's status stage is lost, the host goes to the
 //!   new address while the device stays at the old one, and nothing answers the host any more.
+//! - A write that completes gave its owner just the data that the host sent, once, and he accepted them.
 //! - A transfer that fails does so for a cause: three losses, that lost ACK, or more busy transactions than the NAK
 //!   limit.
 //! - An enumeration that succeeds has read just the descriptors of the device. Any other end has a cause: for each
@@ -25,6 +27,7 @@
 //! with a device under test `specs/UnderTest.antt`, and a log `specs/Log.antt` with its lines in `specs/Lines.antt`.
 #![tactic(auto)]
 
+mod asked;
 mod conversation;
 mod data;
 mod ends;
@@ -37,8 +40,10 @@ mod log;
 mod packets;
 mod step_lines;
 mod steps;
+mod tally;
 
-pub use conversation::{Conversation, Talk, converse};
+pub use asked::Asked;
+pub use conversation::{Conversation, Talk, converse, converse_asked};
 pub use enumeration::{Run, enumerate, step, step_seen};
 pub use fate::Fate;
 pub use log::enumerate_logged;

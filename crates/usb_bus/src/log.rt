@@ -10,6 +10,7 @@ use crate::enumeration::{Run, step_seen};
 use crate::fate::Fate;
 use crate::step_lines::{Before, Turn, put_answered, put_done, put_reset};
 use crate::steps::{Observer, Steps, run_with};
+use crate::tally::write_tally;
 use std::alloc::{AllocError, Global};
 use std::io::Write;
 use usb_device::{Description, Device};
@@ -159,8 +160,9 @@ impl<W: Write> Steps<W> for Log {
 }
 
 /// Enumerates a device with this description as [`enumerate`](crate::enumerate) does, and writes a log of it: a line of
-/// headings, a line for each bus reset and each transaction, in their order, one for each transfer before its first transaction, and one for each
-/// attempt that is given up.
+/// headings, a line for each bus reset and each transaction, in their order, one for each transfer before its first transaction, and
+/// one for each attempt that is given up. The last line counts by their fates the transactions that have lost something, and those in
+/// which the device was not ready.
 ///
 /// The lines of a step are written as soon as it is done, and none are kept. What the other promises say of the
 /// run is what `enumerate` says.
@@ -170,14 +172,15 @@ impl<W: Write> Steps<W> for Log {
 /// let fates = [Fate::LostDown; 9];
 /// let run = enumerate_logged(alloc, &description, Limits::new(1, 16, 3)?, &fates, &mut log)?;
 /// assert_eq!(rt; run.transactions, 9);
+/// assert!(rt; log.ends_with(b"fates: losses 9, busy 0\n"));
 /// assert!(rt; log.starts_with(b"no.   f packets (lost) data             host                device\nattempt 1: bus reset\n"));
 /// ```
 ///
 /// # Errors
 ///
 /// `Write` where the writer failed, and `Memory` where the lines of a step took more memory than there is. The
-/// enumeration ends then. Its log was written up to that step. The lines of that step are cut off before their last byte;
-/// if an allocation failed, none of them is written. Out of memory in the host is no error: it ends the enumeration.
+/// enumeration ends then, if it goes on. Its log was written up to that step, or to the last line. The lines of that step, or that
+/// one, are cut off before their last byte; if an allocation failed, none of them is written. Out of memory in the host is no error: it ends the enumeration.
 pub fn enumerate_logged<W: Write>(
     alloc: Global,
     d: &Description,
@@ -192,5 +195,7 @@ pub fn enumerate_logged<W: Write>(
     ensures ends_well { IfOk result (EndsWell d.now.file limits fates.now) }
 {
     let mut log = Log::new(alloc);
-    run_with(alloc, d, limits, fates, &mut log, w)
+    let run = run_with(alloc, d, limits, fates, &mut log, w)?;
+    write_tally(alloc, fates, run.transactions, w)?;
+    Ok(run)
 }

@@ -16,7 +16,7 @@ use Rattle.usb_host.specs.declared.transfer.TransferStage.TheVariants.{DataOut}
 use Rattle.usb_host.specs.Transfer.{TransferView, stage_after_setup, taken}
 use Rattle.usb_device.specs.Step.{DeviceView}
 use Rattle.usb_bus.specs.Bus.{HostEnd, hears}
-use Rattle.usb_bus.specs.Attempt.{Phase, Running, Succeeded, Broken, advance}
+use Rattle.usb_bus.specs.Attempt.{no_data, Phase, Running, Succeeded, Broken, advance}
 use Rattle.usb_host.specs.Place.{Place, First, Reported, Stopped}
 use Rattle.usb_host.specs.Keeping.{Kept, Bytes, Set}
 use Rattle.usb_host.specs.Order.{asks, stopped}
@@ -81,5 +81,5 @@ module _ (set_of : List ℕ → Option Configuration) (limits : LimitView) (spee
       ((result : Result Progress SetFault) × (LacksMemory (taken t answer).heard k result ⊎ Grows (taken t answer).heard place)
       × (new ≡ Ended (stopped place Memory)))
       ⊎ (let e = hears h answer in
-      let x = advance plan_of limits.naks replies e e.transfer.stage d in
+      let x = advance plan_of limits.naks no_data replies e e.transfer.stage d in
       IsImage x.replies x.phase new)

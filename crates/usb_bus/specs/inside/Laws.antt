@@ -3,7 +3,7 @@ use Rattle.std.specs.Prelude.{◌≡◌, ℕ, suc, ◌+◌, ◌/◌, ◌≤◌, 
 use Rattle.usb_host.specs.declared.why.Why.TheVariants.{NoAnswer, Busy}
 use Rattle.usb_host.specs.declared.reply.Reply.{Reply}
 use Rattle.usb_device.specs.declared.state.State.{State}
-use Rattle.usb_bus.specs.Attempt.{Phase, Running, Succeeded, Broken, Attempt}
+use Rattle.usb_bus.specs.Attempt.{no_data, Phase, Running, Succeeded, Broken, Attempt}
 use Rattle.usb_fields.specs.Bytes.{AreBytes}
 use Rattle.usb_fields.specs.declared.setup.Setup.{Setup as SetupPacket}
 use Rattle.usb_fields.specs.declared.packet.Speed.{Speed}
@@ -43,9 +43,9 @@ Verdict naks limit all last losses busies attempts x (Broken why) =
 -- For any plan that a device answers as expected, with a reset before each attempt, over every list of fates.
 abbrev pub SeriesHaveCauses : Type 0
 SeriesHaveCauses =
-    (plan : List Reply → Plan) (naks limit : ℕ) (answer : State → SetupPacket → Outcome) (cut : ℕ) (all : List Reply) (last : State)
-    (fates : List Fate) → Follows plan naks answer cut false all last new_device.state [] all →
-    (let x = series_run plan naks limit answer cut fates (fresh plan naks limit 1) in
+    (plan : List Reply → Plan) (naks limit : ℕ) (sends : List Reply → List ℕ) (answer : State → SetupPacket → Outcome) (cut : ℕ) (all : List Reply) (last : State)
+    (fates : List Fate) → Follows plan naks sends answer cut false all last new_device.state [] all →
+    (let x = series_run plan naks limit sends answer cut fates (fresh plan naks limit 1) in
     Verdict naks limit all last (losses fates) (busies fates) x.attempts x.attempt x.attempt.phase)
 
 -- An enumeration of a device with accepted descriptors whose numbers fit their fields, and with any owner beside its table,
@@ -55,7 +55,7 @@ EnumerationsHaveCauses =
     (set_of : List ℕ → Option Configuration) (limits : LimitView) (speed : Speed) (f : DescriptorFile) (table : State → SetupPacket → Outcome) (fates : List Fate) →
     IsBeside (answer f) table → ReadsSets set_of → Accepted f speed → AreBytes (file_bytes f) → IsInRange limits.address limits.attempts →
     (let plan = plan_of set_of limits speed in
-    let x = series_run plan limits.naks limits.attempts table f.device.packet fates (fresh plan limits.naks limits.attempts 1) in
+    let x = series_run plan limits.naks limits.attempts no_data table f.device.packet fates (fresh plan limits.naks limits.attempts 1) in
     Verdict limits.naks limits.attempts (replies_in (script limits.address f.device.packet speed f))
     (configured_state limits.address f) (losses fates) (busies fates) x.attempts x.attempt x.attempt.phase)
 

@@ -102,28 +102,29 @@ failure_of (Failed why) = Some why
 failure_of _ = None
 
 -- the point n transactions after x, which is that before transaction k
-abbrev pub point : (List Reply → Plan) → ℕ → (State → SetupPacket → Outcome) → ℕ → List Fate → ℕ → ℕ → Attempt → Attempt
-point plan naks answer cut fates k zero x = x
-point plan naks answer cut fates k (suc n) x =
-    point plan naks answer cut fates (suc k) n (attempt_step plan naks answer cut (fate_at fates k) x.replies x.phase x.device)
+abbrev pub point : (List Reply → Plan) → ℕ → (List Reply → List ℕ) → (State → SetupPacket → Outcome) → ℕ → List Fate → ℕ → ℕ → Attempt → Attempt
+point plan naks sends answer cut fates k zero x = x
+point plan naks sends answer cut fates k (suc n) x =
+    point plan naks sends answer cut fates (suc k) n (attempt_step plan naks sends answer cut (fate_at fates k) x.replies x.phase x.device)
 
 -- a transaction is due at each of the n points from x on, which is that before transaction k
-abbrev pub AreDue : (List Reply → Plan) → ℕ → (State → SetupPacket → Outcome) → ℕ → List Fate → ℕ → ℕ → Attempt → Type 0
-AreDue plan naks answer cut fates k n x =
-    (i : ℕ) → i < n → (sent : Sent) × (due_in (point plan naks answer cut fates k i x).phase ≡ Some sent)
+abbrev pub AreDue : (List Reply → Plan) → ℕ → (List Reply → List ℕ) → (State → SetupPacket → Outcome) → ℕ → List Fate → ℕ → ℕ → Attempt → Type 0
+AreDue plan naks sends answer cut fates k n x =
+    (i : ℕ) → i < n → (sent : Sent) × (let y = point plan naks sends answer cut fates k i x in due_in (sends y.replies) y.phase ≡ Some sent)
 
--- From transaction `before` on, so many transactions lead from these two ends to those, whatever plan the transfer is
--- part of, and whatever comes after.
-abbrev pub LeadsTo : (State → SetupPacket → Outcome) → ℕ → List Fate → ℕ → HostEnd → DeviceView → ℕ → HostEnd → DeviceView → Type 0
-LeadsTo answer cut fates before h d now h' d' =
-    (n : ℕ) × (now ≡ before + n) × ((plan : List Reply → Plan) (naks : ℕ) (replies : List Reply) →
+-- From transaction `before` on, so many transactions lead from these two ends to those, whatever plan the transfer with these
+-- data is part of, and whatever comes after.
+abbrev pub LeadsTo : (State → SetupPacket → Outcome) → ℕ → List ℕ → List Fate → ℕ → HostEnd → DeviceView → ℕ → HostEnd → DeviceView → Type 0
+LeadsTo answer cut bytes fates before h d now h' d' =
+    (n : ℕ) × (now ≡ before + n) × ((plan : List Reply → Plan) (naks : ℕ) (sends : List Reply → List ℕ) (replies : List Reply) → sends replies ≡ bytes →
     let start : Attempt = record { replies = replies; phase = Running h; device = d } in
-    AreDue plan naks answer cut fates before n start
-    × ((m : ℕ) → point plan naks answer cut fates before (n + m) start
-    ≡ point plan naks answer cut fates now m (advance plan naks replies h' h'.transfer.stage d')))
+    AreDue plan naks sends answer cut fates before n start
+    × ((m : ℕ) → point plan naks sends answer cut fates before (n + m) start
+    ≡ point plan naks sends answer cut fates now m (advance plan naks sends replies h' h'.transfer.stage d')))
 
--- what a transfer that has ended brings to the talk: a reply, or the reason why the talk stops
-abbrev pub settled : ℕ → List ℕ → Option Why → Result Reply Why
-settled length got None = Ok (if length == 0 then replied.Done else replied.Bytes got)
-settled length got (Some Stalled) = Ok replied.Refused
-settled length got (Some why) = Err why
+-- What a transfer that has ended brings to the talk, where so many of wLength bytes went to the device: a reply, or the
+-- reason why the talk stops.
+abbrev pub settled : ℕ → ℕ → List ℕ → Option Why → Result Reply Why
+settled length sent got None = Ok (if length == sent then replied.Done else replied.Bytes got)
+settled length sent got (Some Stalled) = Ok replied.Refused
+settled length sent got (Some why) = Err why

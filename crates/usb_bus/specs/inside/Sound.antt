@@ -29,14 +29,14 @@ pub record IsCut (cut size limit : ℕ) (b : List ℕ) : Type 0 where
   pub due : Due size limit 0 (packets b cut limit)
   pub joins : joined (packets b cut limit) ≡ b
 
--- for any plan, limit of NAKs, answers to requests and packet size of the device
-module _ (plan : List Reply → Plan) (naks : ℕ) (answer : State → SetupPacket → Outcome) (cut : ℕ) where
+-- for any plan, limit of NAKs, data to the device, answers to requests and packet size of the device
+module _ (plan : List Reply → Plan) (naks : ℕ) (sends : List Reply → List ℕ) (answer : State → SetupPacket → Outcome) (cut : ℕ) where
   -- From these replies on the plan is answered by `todo` and then succeeds, with all replies and the device's last
   -- state. `loose` says that the last transfer may be a SET_ADDRESS.
   abbrev pub Follows : Bool → List Reply → State → State → List Reply → List Reply → Type 0
   Follows loose all last s replies [] = (plan replies ≡ Success) × (s ≡ last) × (replies ≡ all)
   Follows loose all last s replies (r ∷ todo) =
-      (packet : ℕ) × ((q : SetupPacket) × (IsPlanned plan naks answer cut s replies r packet q × (replies ++ (r ∷ todo) ≡ all) ×
+      (packet : ℕ) × ((q : SetupPacket) × (IsPlanned plan naks sends answer cut s replies r packet q × (replies ++ (r ∷ todo) ≡ all) ×
       (is_set_address q ≡ true → todo ≡ [] → loose ≡ true) × Follows loose all last (carried_out s (answer s q)) (replies ++ r ∷ []) todo))
 
   -- both ends together in a transfer of the plan
@@ -46,11 +46,11 @@ module _ (plan : List Reply → Plan) (naks : ℕ) (answer : State → SetupPack
     pub todo : List Reply
     pub packet : ℕ
     pub q : SetupPacket
-    pub planned : IsPlanned plan naks answer cut s replies r packet q
+    pub planned : IsPlanned plan naks sends answer cut s replies r packet q
     pub front : replies ++ (r ∷ todo) ≡ all
     pub ends : is_set_address q ≡ true → todo ≡ [] → loose ≡ true
     pub follows : Follows loose all last (carried_out s (answer s q)) (replies ++ r ∷ []) todo
-    pub in_one : InOneTransfer answer cut s q packet naks l b a h d
+    pub in_one : InOneTransfer answer cut s q packet naks (sends replies) l b a h d
 
   -- the last reply is that of a SET_ADDRESS, and the device has stayed as it was
   pub record HasMoved (replies : List Reply) (d : DeviceView) : Type 0 where
@@ -89,7 +89,7 @@ module _ (plan : List Reply → Plan) (naks : ℕ) (answer : State → SetupPack
 -- Where each transfer of a plan is answered as expected, an attempt is sound over every list of fates.
 abbrev pub AttemptsAreSound : Type 0
 AttemptsAreSound =
-    (plan : List Reply → Plan) (naks : ℕ) (answer : State → SetupPacket → Outcome) (cut : ℕ) (loose : Bool) (all : List Reply) (last : State)
-    (d : DeviceView) (fates : List Fate) → Follows plan naks answer cut loose all last d.state [] all →
-    (let x = attempt_run plan naks answer cut fates (proceed plan naks [] d) in
-    Sound plan naks answer cut loose all last (losses fates) (busies fates) (acks_lost fates) x.replies x.phase x.device)
+    (plan : List Reply → Plan) (naks : ℕ) (sends : List Reply → List ℕ) (answer : State → SetupPacket → Outcome) (cut : ℕ) (loose : Bool) (all : List Reply) (last : State)
+    (d : DeviceView) (fates : List Fate) → Follows plan naks sends answer cut loose all last d.state [] all →
+    (let x = attempt_run plan naks sends answer cut fates (proceed plan naks [] d) in
+    Sound plan naks sends answer cut loose all last (losses fates) (busies fates) (acks_lost fates) x.replies x.phase x.device)

@@ -1,20 +1,21 @@
-use Rattle.std.proofs.Common.{◌≡◌, ◌<◌, Some, [], refl, sym, ap, ◌∙◌, arith, add-one, rules, subst, IsSome}
+use Rattle.std.proofs.Common.{◌≡◌, ◌<◌, Some, [], sym, ap, ◌∙◌, arith, add-one, rules, subst}
 use Rattle.usb_fields.specs.Packets.{sent_of}
-use Rattle.usb_host.specs.Transfer.{due, left}
+use Rattle.usb_host.specs.Transfer.{due_of, left}
 use Rattle.usb_device.specs.Requests.{answer}
 use Rattle.usb_bus.specs.Bus.{HostEnd, Ends, exchanged}
-use Rattle.usb_bus.proofs.Leading.{Leads-more}
+use Rattle.usb_bus.proofs.Leading.{Leads-more, still_due}
 use Rattle.usb_bus.proofs.exchange.transfer_over.Goals as goal
 
 pub loop-t-preserved : goal.loop-t-preserved
 loop-t-preserved c =
     let file = c.args.device.now.description.file in
+    let bytes = c.args.sent.now in
     let sent = sent_of c.in-Some.t in
     let before : HostEnd = record { transfer = c.loop-t.transfer; got = c.loop-t.bytes.items } in
     let after : HostEnd = record { transfer = c.exchange.new.host; got = c.exchange.new.w.items } in
     let ends : Ends = record { host = after; device = c.exchange.new.device.device } in
-    let asks : due c.loop-t.transfer ≡ Some sent = sym c.in-Some.ensures in
-    let going : IsSome (due c.loop-t.transfer) = rw asks refl in
+    let asks : due_of c.loop-t.transfer bytes ≡ Some sent = sym c.in-Some.ensures in
+    let going = still_due c.loop-t.transfer bytes c.loop-t.transfer.stage sent asks in
     let heard = c.in_ok-failure.ensures.heard in
     let fewer : left c.exchange.new.host < left c.loop-t.transfer = heard.3 going in
     let got = heard.0 in
@@ -28,7 +29,7 @@ loop-t-preserved c =
     in
     record {
       leads = rw add-one
-          (Leads-more (answer file) file.device.packet c.args.fates.now c.args.before (record { transfer = c.args.transfer.now; got = [] })
+          (Leads-more (answer file) file.device.packet bytes c.args.fates.now c.args.before (record { transfer = c.args.transfer.now; got = [] })
           c.args.device.now.device c.loop-t.transactions before c.loop-t.device.device sent after c.exchange.new.device.device asks goes
           c.loop-t.invariant.leads);
       description = ap (λ d. d.description) c.in_ok-failure.ensures.device ∙ c.loop-t.invariant.description;

@@ -7,7 +7,7 @@ use Rattle.usb_bus.proofs.exchange.transfer_over.Given as goal
 abbrev pub invariant-loop-t : goal.invariant-loop-t
 invariant-loop-t l =
     record {
-      leads : LeadsTo (answer l.initial.device.description.file) l.initial.device.description.file.device.packet l.fates l.before
+      leads : LeadsTo (answer l.initial.device.description.file) l.initial.device.description.file.device.packet l.sent l.fates l.before
           (record { transfer = l.initial.transfer; got = [] }) l.initial.device.device l.transactions
           (record { transfer = l.transfer; got = l.bytes.items }) l.device.device;
       description : l.device.description ≡ l.initial.device.description;

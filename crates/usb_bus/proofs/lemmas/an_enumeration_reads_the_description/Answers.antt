@@ -3,6 +3,7 @@ use Rattle.usb_device.specs.Step.{new_device}
 use Rattle.usb_device.specs.Requests.{answer}
 use Rattle.usb_host.specs.Place.{First, Reported}
 use Rattle.usb_bus.specs.inside.Script.{replies_in, script}
+use Rattle.usb_bus.specs.Attempt.{no_data}
 use Rattle.usb_bus.specs.Enumerate.{configured_state}
 use Rattle.usb_bus.specs.inside.Image.{plan_of}
 use Rattle.usb_bus.proofs.DescribeLemmas.{described}
@@ -17,7 +18,7 @@ returns c = record {
   causes = λ set_of limits speed f table fates beside exact accepted fits range.
       let d = described set_of speed f exact accepted fits in
       let xs = script limits.address f.device.packet speed f in
-      c.attempts_have_causes.ensures (plan_of set_of limits speed) limits.naks limits.attempts table f.device.packet
+      c.attempts_have_causes.ensures (plan_of set_of limits speed) limits.naks limits.attempts no_data table f.device.packet
       (replies_in xs) (configured_state limits.address f) fates
       (follows set_of speed limits table beside.keeps f.device.packet (Reported f) refl
       (replies_in xs) (configured_state limits.address f) xs new_device.state First [] refl refl

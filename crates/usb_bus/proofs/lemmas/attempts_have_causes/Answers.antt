@@ -6,10 +6,10 @@ use Rattle.usb_bus.proofs.SeriesLemmas.{series_judged}
 use Rattle.usb_bus.proofs.lemmas.attempts_have_causes.Goals as goal
 
 pub returns : goal.returns
-returns c = λ plan naks limit answer cut all last fates follows.
-    series_judged plan naks limit answer cut false all last
-    (λ used. sound_stays plan naks answer cut false all last used (attempt_under plan naks limit answer cut used)
-    (attempts_sound plan naks answer cut false all last new_device used follows))
-    (λ used. let x = attempt_under plan naks limit answer cut used in
-    sound_ends plan naks answer cut false all last used x.replies x.phase x.device
-    (attempts_sound plan naks answer cut false all last new_device used follows)) refl fates
+returns c = λ plan naks limit sends answer cut all last fates follows.
+    series_judged plan naks limit sends answer cut false all last
+    (λ used. sound_stays plan naks sends answer cut false all last used (attempt_under plan naks limit sends answer cut used)
+    (attempts_sound plan naks sends answer cut false all last new_device used follows))
+    (λ used. let x = attempt_under plan naks limit sends answer cut used in
+    sound_ends plan naks sends answer cut false all last used x.replies x.phase x.device
+    (attempts_sound plan naks sends answer cut false all last new_device used follows)) refl fates

@@ -1,0 +1,11 @@
+use Rattle.std.proofs.Common.{◌≡◌, map, take}
+use Rattle.usb_bus.specs.Converse.{IsTalk, asked_of}
+use Rattle.usb_bus.proofs.conversation.converse_asked.Given as goal
+
+abbrev pub invariant-loop-request : goal.invariant-loop-request
+invariant-loop-request l =
+    record {
+      talk : IsTalk (map asked_of (take l.request-index l.requests)) l.fates l.conversation;
+      file : l.conversation.file ≡ l.d.file;
+      naks : l.conversation.naks ≡ l.naks;
+    }
