@@ -14,7 +14,7 @@ use Rattle.usb_set.proofs.Sets.{length-set_bytes}
 use Rattle.usb_file_data.specs.declared.file.DescriptorFile.{DescriptorFile}
 use Rattle.usb_file_data.specs.declared.file.Other.{Other}
 use Rattle.usb_file_data.specs.declared.file.Strings.{Strings}
-use Rattle.usb_file_data.specs.File.{named_indices, file_bytes, other_bytes, sets_bytes, strings_bytes, whole_set}
+use Rattle.usb_file_data.specs.File.{named_indices, file_bytes, other_bytes, sets_bytes, strings_bytes, whole_set, File}
 use Rattle.usb_file_data.specs.Front.{IsInOrder, Splits}
 use Rattle.usb_file_data.proofs.Lists.{bytes_before}
 use Rattle.usb_file_data.specs.declared.fault.FileWhy.{FileWhy}
@@ -23,9 +23,10 @@ use Rattle.usb_file_data.specs.declared.fault.FileFault.{FileFault}
 use Rattle.usb_file_data.specs.declared.likeness.Likeness.{Likeness}
 use Rattle.usb_file_data.specs.declared.likeness.Likeness.TheVariants as likes
 use Rattle.usb_file_data.specs.Inputs.{Dump}
-use Rattle.usb_file_data.specs.FileFaults.{FaultyPart, FileFaulty, IsNext, LanguagesAreNext, MissesString, NextPart, PartFaulty, a_qualifier, a_set, a_string, is_no_string, the_end, the_languages}
-use Rattle.usb_file_data.specs.Likeness.{DumpGoesOn, DumpsAreSeen, DumpsEndAtFaults, after_sets, file_likeness, goes_on_after_dump, is_bos, is_empty_string, is_report, is_string, is_text, is_usbmon_frame}
+use Rattle.usb_file_data.specs.FileFaults.{FaultyPart, FileFaulty, IsNext, LanguagesAreNext, MissesString, NextPart, PartFaulty, QualifierIsNext, a_qualifier, a_set, a_string, is_no_string, the_end, the_languages}
+use Rattle.usb_file_data.specs.Likeness.{DumpGoesOn, DumpsAreSeen, DumpsEndAtFaults, IsDumpBefore, after_sets, file_likeness, goes_on_after_dump, is_bos, is_empty_string, is_fragment, is_report, is_string, is_text, is_usbmon_frame}
 use Rattle.usb_file.proofs.Dumps.{is_dump}
+use Rattle.usb_file.proofs.Ends.{is_file}
 use Rattle.usb_file.proofs.Paths.{behind, device_first}
 use Rattle.usb_file_data.proofs.Longest.{set_count}
 
@@ -177,7 +178,7 @@ dump_of f b rest fits splits (inl next) bare none =
     bare
 
 dump_before : (f : DescriptorFile) (b rest : List ℕ) (at : ℕ) → AreBytes b → Splits b f rest → at ≡ length (file_bytes f) → LanguagesAreNext f rest ⊎ HasStrings f
-    → goes_on_after_dump files.Text at b ≡ true → DumpGoesOn b at (length (drop at b))
+    → goes_on_after_dump files.Text at b ≡ true → DumpGoesOn b (record { at = at; why = files.Text }) (length (drop at b))
 dump_before f b rest at fits splits at_is due goes =
     let all = all_due f rest splits.is_front.order due in
     let is : b ≡ device_bytes f.device ++ behind f rest = splits.parts ∙ device_first f rest in
@@ -194,26 +195,107 @@ dump_before f b rest at fits splits at_is due goes =
       more = ap length splits.parts ∙ length-append (file_bytes f) rest ∙ ap (λ n. n + length rest) (sym at_is) ∙ ap (λ l. at + length l) (sym left);
     }
 
-part_goes_on : (b : List ℕ) (at : ℕ) → AreBytes b → FaultyPart b at files.Text → goes_on_after_dump files.Text at b ≡ true → DumpGoesOn b at (length (drop at b))
+part_goes_on : (b : List ℕ) (at : ℕ) → AreBytes b → FaultyPart b at files.Text → goes_on_after_dump files.Text at b ≡ true → DumpGoesOn b (record { at = at; why = files.Text }) (length (drop at b))
 part_goes_on b at fits y goes =
     let due = text_due y.part y.front y.rest y.place y.next y.fault in
     dump_before y.front b y.rest at fits y.splits (omega (arith, y.at_is, due.at_start)) due.due goes
 
+-- ---- before a wrong qualifier
+
+-- a qualifier was due, and the fault is where it begins
+record QualifierIsDue (f : DescriptorFile) (rest : List ℕ) (place : ℕ) : Type 0 where
+  at_start : place ≡ 0
+  next : QualifierIsNext f rest
+
+truncated_no_qualifier : files.Truncated ≡ files.Qualifier → ⊥
+truncated_no_qualifier e = cc
+
+memory_no_qualifier : files.Memory ≡ files.Qualifier → ⊥
+memory_no_qualifier e = cc
+
+text_no_qualifier : files.Text ≡ files.Qualifier → ⊥
+text_no_qualifier e = cc
+
+device_no_qualifier : files.Device ≡ files.Qualifier → ⊥
+device_no_qualifier e = cc
+
+wrong_at : (short wrong : Bool) (n place : ℕ) → fixed_by short wrong n files.Qualifier ≡ Some (place, files.Qualifier) → place ≡ 0
+wrong_at true wrong n place e = absurd (truncated_no_qualifier (ap why_in e))
+wrong_at false true n place e = sym (ap place_in e)
+wrong_at false false n place e = absurd (memory_no_qualifier (ap why_in e))
+
+no_device_qualifier : (short wrong : Bool) (n place : ℕ) → fixed_by short wrong n files.Device ≡ Some (place, files.Qualifier) → ⊥
+no_device_qualifier true wrong n place e = truncated_no_qualifier (ap why_in e)
+no_device_qualifier false true n place e = device_no_qualifier (ap why_in e)
+no_device_qualifier false false n place e = memory_no_qualifier (ap why_in e)
+
+no_string_qualifier : (wrong short : Bool) (n place : ℕ) → string_by wrong short n ≡ Some (place, files.Qualifier) → ⊥
+no_string_qualifier true short n place e = text_no_qualifier (ap why_in e)
+no_string_qualifier false true n place e = truncated_no_qualifier (ap why_in e)
+no_string_qualifier false false n place e = memory_no_qualifier (ap why_in e)
+
+qualifier_due : (part : NextPart) (f : DescriptorFile) (rest : List ℕ) (place : ℕ) → IsNext part f rest → PartFaulty part rest place files.Qualifier → QualifierIsDue f rest place
+qualifier_due (a_set kind) f rest place next fault = absurd fault
+qualifier_due a_qualifier f rest place next fault = record {
+  at_start = wrong_at (nat_lt (length rest) 10) (is_some (qualifier_fault (take 10 rest))) (length rest) place fault;
+  next = next;
+}
+qualifier_due the_languages f rest place next fault =
+    absurd (no_string_qualifier (is_no_string 4 rest) (nat_lt (length rest) 2 || nat_lt (length rest) (slice_index rest 0)) (length rest) place fault)
+qualifier_due a_string f rest place next fault =
+    absurd (no_string_qualifier (is_no_string 2 rest) (nat_lt (length rest) 2 || nat_lt (length rest) (slice_index rest 0)) (length rest) place fault)
+qualifier_due the_end f [] place next fault = absurd fault
+qualifier_due the_end f (x ∷ rest) place next fault = absurd (no_qualifier fault.1)
+  where
+    no_qualifier : files.Qualifier ≡ files.Trailing → ⊥
+    no_qualifier e = cc
+
+-- a device and its sets are a file where no index is named, and else a dump
+file_or_dump : (named : ℕ) (f : DescriptorFile) (b : List ℕ) → length (named_indices f) ≡ named → AreBytes b → Splits b f [] → length f.sets ≡ f.device.configurations → f.other ≡ None → f.strings ≡ None
+    → Dump f b ⊎ (File f b × (f.other ≡ None) × (f.strings ≡ None))
+file_or_dump zero f b named fits splits all bare none = inr (
+  is_file f b (record {
+    counts = rw bare (grind (arith, nat_tests, all));
+    texts = rw (none, named) refl;
+    no_qualifier = λ _ _. refl;
+  }) splits.is_front splits.parts fits,
+  bare,
+  none,
+)
+file_or_dump (suc n) f b named fits splits all bare none =
+    inl (is_dump f b fits splits (record { all = rw bare all; no_strings = none; no_qualifier = λ _ _. refl; named = omega (arith, named) }) bare)
+
+qualifier_goes_on : (b : List ℕ) (at : ℕ) → AreBytes b → FaultyPart b at files.Qualifier → DumpGoesOn b (record { at = at; why = files.Qualifier }) (length (drop at b))
+qualifier_goes_on b at fits y =
+    let f = y.front in
+    let due = qualifier_due y.part f y.rest y.place y.next y.fault in
+    let at_is : at ≡ length (file_bytes f) = omega (arith, y.at_is, due.at_start) in
+    let left : drop at b ≡ y.rest = ap (λ n. drop n b) at_is ∙ ap (λ l. drop (length (file_bytes f)) l) y.splits.parts ∙ drop-append_seam (file_bytes f) y.rest in
+    let before : take at b ≡ file_bytes f = ap (λ n. take n b) at_is ∙ ap (λ l. take (length (file_bytes f)) l) y.splits.parts ∙ take-append_seam (file_bytes f) y.rest in
+    record {
+      file = f;
+      dump = subst (λ l. IsDumpBefore files.Qualifier f l) (sym before)
+          (file_or_dump (length (named_indices f)) f (file_bytes f) refl (bytes_before (file_bytes f) y.rest (subst AreBytes y.splits.parts fits))
+          (record { is_front = y.splits.is_front; parts = sym (append-nil (file_bytes f)) }) due.next.all due.next.no_other due.next.no_strings);
+      more = ap length y.splits.parts ∙ length-append (file_bytes f) y.rest ∙ ap (λ n. n + length y.rest) (sym at_is) ∙ ap (λ l. at + length l) (sym left);
+    }
+
 -- ---- the likeness
 
-chosen : (t g u k s r : Bool) (m j n : ℕ)
-    → (if t then Some likes.Text else if g then Some (likes.DumpAndMore m) else if u then Some (likes.UsbmonFrame j) else if k then Some likes.Bos else if s then Some likes.StringDescriptor else if r then Some likes.Report else None) ≡ Some (likes.DumpAndMore n)
+chosen : (t g u k s r p : Bool) (m j n : ℕ)
+    → (if t then Some likes.Text else if g then Some (likes.DumpAndMore m) else if u then Some (likes.UsbmonFrame j) else if k then Some likes.Bos else if s then Some likes.StringDescriptor else if r then Some likes.Report else if p then Some likes.Fragment else None) ≡ Some (likes.DumpAndMore n)
     → (g ≡ true) × (m ≡ n)
-chosen true g u k s r m j n e = absurd (text_apart e)
+chosen true g u k s r p m j n e = absurd (text_apart e)
   where
     text_apart : Some likes.Text ≡ Some (likes.DumpAndMore n) → ⊥
     text_apart e = cc
-chosen false true u k s r m j n e = (refl, cc)
-chosen false false true k s r m j n e = (cc, cc)
-chosen false false false true s r m j n e = (cc, cc)
-chosen false false false false true r m j n e = (cc, cc)
-chosen false false false false false true m j n e = (cc, cc)
-chosen false false false false false false m j n e = (cc, cc)
+chosen false true u k s r p m j n e = (refl, cc)
+chosen false false true k s r p m j n e = (cc, cc)
+chosen false false false true s r p m j n e = (cc, cc)
+chosen false false false false true r p m j n e = (cc, cc)
+chosen false false false false false true p m j n e = (cc, cc)
+chosen false false false false false false true m j n e = (cc, cc)
+chosen false false false false false false false m j n e = (cc, cc)
 
 likened : (fault : FileFault) (b : List ℕ) (n : ℕ) → file_likeness fault b ≡ Some (likes.DumpAndMore n)
     → (goes_on_after_dump fault.why fault.at b ≡ true) × (length (drop fault.at b) ≡ n)
@@ -223,19 +305,21 @@ likened fault [] n e = absurd (nothing_apart e)
     nothing_apart e = cc
 likened fault (x ∷ rest) n e =
     let b = x ∷ rest in
-    chosen (is_text b) (goes_on_after_dump fault.why fault.at b) (is_usbmon_frame b) (is_bos b) (is_string b) (is_report b) (length (drop fault.at b)) (length (drop 64 b)) n e
+    chosen (is_text b) (goes_on_after_dump fault.why fault.at b) (is_usbmon_frame b) (is_bos b) (is_string b) (is_report b) (is_fragment b) (length (drop fault.at b)) (length (drop 64 b)) n e
 
 untrue : false ≡ true → ⊥
 untrue e = cc
 
-file_goes_on : (b : List ℕ) (at : ℕ) (why : FileWhy) → AreBytes b → FileFaulty b at why → goes_on_after_dump why at b ≡ true → DumpGoesOn b at (length (drop at b))
+file_goes_on : (b : List ℕ) (at : ℕ) (why : FileWhy) → AreBytes b → FileFaulty b at why → goes_on_after_dump why at b ≡ true → DumpGoesOn b (record { at = at; why = why }) (length (drop at b))
 file_goes_on b at files.Text fits (inl device) goes =
     absurd (no_fixed_text (nat_lt (length b) 18) (is_some (device_fault (take 18 b))) (length b) at files.Device device_apart device)
 file_goes_on b at files.Text fits (inr part) goes = part_goes_on b at fits part goes
 file_goes_on b at files.Device fits faulty goes = absurd (untrue goes)
 file_goes_on b at (files.Set why) fits faulty goes = absurd (untrue goes)
 file_goes_on b at files.SetKind fits faulty goes = absurd (untrue goes)
-file_goes_on b at files.Qualifier fits faulty goes = absurd (untrue goes)
+file_goes_on b at files.Qualifier fits (inl device) goes =
+    absurd (no_device_qualifier (nat_lt (length b) 18) (is_some (device_fault (take 18 b))) (length b) at device)
+file_goes_on b at files.Qualifier fits (inr part) goes = qualifier_goes_on b at fits part
 file_goes_on b at files.Truncated fits faulty goes = absurd (untrue goes)
 file_goes_on b at files.Trailing fits faulty goes = absurd (untrue goes)
 file_goes_on b at files.Memory fits faulty goes = absurd (untrue goes)
@@ -243,7 +327,7 @@ file_goes_on b at files.Memory fits faulty goes = absurd (untrue goes)
 pub dumps_end : DumpsEndAtFaults
 dumps_end b fault n fits faulty e =
     let is = likened fault b n e in
-    subst (λ n. DumpGoesOn b fault.at n) is.1 (file_goes_on b fault.at fault.why fits faulty is.0)
+    subst (λ n. DumpGoesOn b fault n) is.1 (file_goes_on b fault.at fault.why fits faulty is.0)
 
 -- ---- a dump is seen
 

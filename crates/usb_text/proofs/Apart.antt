@@ -1,12 +1,13 @@
 -- A hexadecimal text is apart from descriptors in its first two bytes.
-use Rattle.std.proofs.Common.{◌≡◌, ℕ, suc, ◌+◌, ◌&&◌, ◌||◌, ◌==◌, ◌⊎◌, Bool, true, false, cond, eqb, nat_le, List, [], ◌∷◌, length, slice_index, Option, Some, None, option_map, refl, sym, ap, subst, ◌∙◌, inl, inr, arith}
+use Rattle.std.proofs.Common.{◌≡◌, ℕ, suc, ◌+◌, ◌<◌, ◌&&◌, ◌||◌, ◌==◌, ◌⊎◌, Bool, true, false, cond, eqb, nat_le, List, [], ◌∷◌, length, slice_index, Option, Some, None, option_map, refl, sym, ap, subst, ◌∙◌, inl, inr, arith}
 use Rattle.std.specs.List.{list_all}
 use Rattle.std.proofs.lemmas.Bool.{and_parts, eqb-true, leb-true}
 use Rattle.hex.specs.Hex.{hex_digit_value}
 use Rattle.usb_text.specs.declared.hex_text.Form.{Form}
-use Rattle.usb_text.specs.declared.hex_text.Form.TheVariants.{Plain}
+use Rattle.usb_text.specs.declared.hex_text.Form.TheVariants.{Plain, Words}
 use Rattle.usb_text.specs.HexDigits.{Item, is_gap, joined}
-use Rattle.usb_text.specs.HexText.{Reads, after_all, begins_byte, bytes_of, ends, form_by, form_of, goes_on, in_line, is_offset, is_zero, item, line_item, plain_item}
+use Rattle.usb_text.specs.Columns.{after_all, at_start, begins_zeros, column_form, ends_address, has_columns, in_line, is_blank, is_offset, is_zero}
+use Rattle.usb_text.specs.HexText.{Reads, begins_byte, begins_directive, begins_words, bytes_of, digits_in, ends, form_of, goes_on, item, line_item, plain_item}
 use Rattle.usb_text.specs.Hexadecimal.{HexAsIs, IsApart, IsNoDescriptor, is_of_source}
 
 -- nothing is read where no item begins
@@ -28,17 +29,17 @@ moved {form = form} {count = count} {left = left} rest (goes_on {rest = tail} {b
 
 -- the characters that begin no item
 eighteen : (count : ℕ) (rest : List ℕ) → item Plain count (18 ∷ rest) ≡ None
-unfolding line_item plain_item
+unfolding line_item plain_item digits_in
 eighteen count [] = refl
 eighteen count (d ∷ rest) = refl
 
 two : (count : ℕ) (rest : List ℕ) → item Plain count (2 ∷ rest) ≡ None
-unfolding line_item plain_item
+unfolding line_item plain_item digits_in
 two count [] = refl
 two count (d ∷ rest) = refl
 
 seven : (count : ℕ) (rest : List ℕ) → item Plain count (7 ∷ rest) ≡ None
-unfolding line_item plain_item
+unfolding line_item plain_item digits_in
 seven count [] = refl
 seven count (d ∷ rest) = refl
 
@@ -61,11 +62,11 @@ gap_or_none false true taken other none = inl refl
 gap_or_none false false taken other none = inr none
 
 before_two : (count c : ℕ) (rest : List ℕ) → (item Plain count (c ∷ 2 ∷ rest) ≡ Some (None, 2 ∷ rest)) ⊎ (item Plain count (c ∷ 2 ∷ rest) ≡ None)
-unfolding line_item plain_item
+unfolding line_item plain_item digits_in
 before_two count c rest = gap_or_none (c == 10) (is_gap c) _ _ (no_mark ((c == 48) || (c == 92)) (begins_byte rest) (Some (None, rest)) (hex_digit_value c) rest)
 
 before_seven : (count c : ℕ) (rest : List ℕ) → (item Plain count (c ∷ 7 ∷ rest) ≡ Some (None, 7 ∷ rest)) ⊎ (item Plain count (c ∷ 7 ∷ rest) ≡ None)
-unfolding line_item plain_item
+unfolding line_item plain_item digits_in
 before_seven count c rest = gap_or_none (c == 10) (is_gap c) _ _ (no_mark ((c == 48) || (c == 92)) (begins_byte rest) (Some (None, rest)) (hex_digit_value c) rest)
 
 not_whole : (c : ℕ) (rest : List ℕ) → [] ≡ c ∷ rest → ⊥
@@ -128,14 +129,20 @@ offset_apart text e =
       other_speed = λ is. (let no : 48 ≡ 7 = sym at.1 ∙ is in omega arith);
     }
 
+-- nothing is read of words
+no_words : (text bytes : List ℕ) → Reads Words 0 text bytes [] → 0 < length bytes → ⊥
+no_words text bytes (ends is) some = omega (arith, some)
+no_words text bytes (goes_on is read) some = cc
+
 as_is_apart : (text bytes : List ℕ) → HexAsIs text bytes → IsApart text
 unfolding form_of
-as_is_apart text bytes hex = by (is_offset text (after_all is_zero text)) refl hex.read
+as_is_apart text bytes hex = by (begins_zeros text) refl (has_columns text || begins_words text || begins_directive (at_start text)) hex.read hex.some
   where
-    by : (b : Bool) → is_offset text (after_all is_zero text) ≡ b
-        → (let form = cond b (form_by (after_all is_zero text)) Plain in Reads form 0 (in_line form text) bytes []) → IsApart text
-    by true is read = offset_apart text is
-    by false is read = plain_apart text bytes read
+    by : (b : Bool) → begins_zeros text ≡ b → (w : Bool)
+        → (let form = cond b (column_form text) (cond w Words Plain) in Reads form 0 (in_line form text) bytes []) → 0 < length bytes → IsApart text
+    by true is w read some = offset_apart text (and_parts (is_offset text (after_all is_zero text)) (ends_address (after_all is_zero text) || is_blank (slice_index (after_all is_zero text) 0)) is).0
+    by false is true read some = absurd (no_words text bytes read some)
+    by false is false read some = plain_apart text bytes read
 
 -- a source has none of these characters
 no_character : (c other : ℕ) → is_of_source c ≡ true → is_of_source other ≡ false → c ≡ other → ⊥

@@ -2,7 +2,8 @@
 use Rattle.std.proofs.Common.{◌≡◌, ℕ, ◌++◌, List, [], Option, Some, None, append_assoc, append-nil, length, subst, sym}
 use Rattle.std.proofs.lemmas.List.{length-append}
 use Rattle.usb_text.specs.declared.hex_text.Form.{Form}
-use Rattle.usb_text.specs.HexText.{Reads, bytes_of, ends, goes_on, in_line, item}
+use Rattle.usb_text.specs.Columns.{in_line}
+use Rattle.usb_text.specs.HexText.{Reads, bytes_of, ends, goes_on, item}
 use Rattle.usb_text.specs.Hexadecimal.{ReadsText}
 
 -- the bytes of what is left go on those of the text

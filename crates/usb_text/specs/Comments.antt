@@ -2,7 +2,7 @@
 --
 -- Comments are those of C and Rust, and what follows `# `; a mail quotes with `>` before a line, and a line that begins
 -- with three back quotes is a fence of Markdown.
-use Rattle.std.specs.Prelude.{ℕ, ◌==◌, ◌||◌, ◌&&◌, Bool, false, not, if◌then◌else◌, List, [], ◌∷◌, slice_index}
+use Rattle.std.specs.Prelude.{ℕ, ◌==◌, ◌||◌, ◌&&◌, Bool, false, not, true, if◌then◌else◌, List, [], ◌∷◌, slice_index}
 use Rattle.usb_text.specs.declared.comment.Place.{Place}
 use Rattle.usb_text.specs.declared.comment.Place.TheVariants.{Start, Code, LineComment, Opening, Comment, Closing}
 
@@ -64,9 +64,26 @@ is_code Opening c rest = false
 is_code Comment c rest = false
 is_code Closing c rest = false
 
--- a line feed stays one, and else a space is in place of what is no code
+abbrev pub is_end : List ℕ → Bool
+is_end [] = true
+is_end (c ∷ rest) = false
+
+-- the text ends before its comment does
+abbrev pub is_unended : Place → List ℕ → Bool
+is_unended Start rest = false
+is_unended Code rest = false
+is_unended LineComment rest = false
+is_unended Opening rest = is_end rest
+is_unended Comment rest = is_end rest
+is_unended Closing rest = false
+
+-- A line feed stays one, and else a space is in place of what is no code. A star, which begins no byte, ends a text whose
+-- comment doesn't end.
 abbrev pub shown : Place → ℕ → List ℕ → ℕ
-shown place c rest = if (c == 10) || is_code place c rest then c else 32
+shown place c rest =
+    if is_unended place rest then 42
+    else if (c == 10) || is_code place c rest then c
+    else 32
 
 -- a text that begins in this place, so shown
 unfoldable pub uncommented : Place → List ℕ → List ℕ

@@ -1,133 +1,64 @@
 -- The items of hexadecimal texts, without columns and with them.
 --
--- A text is a run of items: white space or a comma, a mark `0x` or `\x`, and two digits, which are a byte. Where it begins
--- with an offset of zeros, as `xxd`, `hexdump -C` and Wireshark write it, each line has columns: an offset, the bytes and
--- their characters. Then only the bytes are read.
-use Rattle.std.specs.Prelude.{◌≡◌, ℕ, ◌+◌, ◌*◌, ◌==◌, ◌||◌, ◌&&◌, Bool, false, not, nat_le, nat_lt, true, if◌then◌else◌, List, [], ◌∷◌, ◌++◌, length, slice_index, Option, Some, None, option_map}
-use Rattle.hex.specs.Hex.{hex_digit_value, is_hex_digit}
+-- A text is a run of items: white space or a comma, a mark `0x` or `\x`, and two digits, which are a byte. In a text with
+-- columns each line has an offset, bytes and maybe their characters (`Columns`). Then only the bytes are read.
+use Rattle.std.specs.Prelude.{◌≡◌, ℕ, ◌+◌, ◌==◌, ◌||◌, ◌&&◌, Bool, false, not, true, if◌then◌else◌, List, [], ◌∷◌, ◌++◌, length, slice_index, Option, Some, None, option_map}
+use Rattle.hex.specs.Hex.{is_hex_digit}
+use Rattle.usb_text.specs.Columns.{after_all, after_one, at_line, at_start, begins_zeros, column_form, has_columns, has_three_spaces, has_two_spaces, is_blank, is_in_line, is_too_long}
 use Rattle.usb_text.specs.HexDigits.{Item, digits, is_gap, no_byte}
-use Rattle.usb_text.specs.SourceItems.{source_item}
+use Rattle.usb_text.specs.SourceItems.{is_decimal, source_item}
 use Rattle.usb_text.specs.declared.hex_text.Form.{Form}
-use Rattle.usb_text.specs.declared.hex_text.Form.TheVariants.{Plain, Colons, Spaces, Source}
-
-abbrev pub is_zero : ℕ → Bool
-is_zero c = c == 48
-
-abbrev pub is_space : ℕ → Bool
-is_space c = c == 32
-
-abbrev pub is_in_line : ℕ → Bool
-is_in_line c = not (c == 10)
+use Rattle.usb_text.specs.declared.hex_text.Form.TheVariants.{Plain, Words, Colons, Spaces, Groups, Addresses, Source}
 
 -- `0x` or `\x`
 abbrev pub is_mark : ℕ → ℕ → Bool
 is_mark a b = ((a == 48) || (a == 92)) && (b == 120)
 
--- two digits are at the start of a text
+-- Two digits are at the start of a text, and no third one: which byte of a longer number is first isn't said.
 abbrev pub begins_byte : List ℕ → Bool
-begins_byte text = is_hex_digit (slice_index text 0) && is_hex_digit (slice_index text 1)
+begins_byte text = is_hex_digit (slice_index text 0) && is_hex_digit (slice_index text 1) && not (is_hex_digit (slice_index text 2))
 
--- what is left after all leading characters of a kind
-unfoldable pub after_all : (ℕ → Bool) → List ℕ → List ℕ
-after_all is [] = []
-after_all is (c ∷ rest) = if is c then after_all is rest else c ∷ rest
+-- a digit that is a letter
+abbrev pub is_digit_letter : ℕ → Bool
+is_digit_letter c = is_hex_digit c && not (is_decimal c)
 
--- four characters or more were before what is left of a text
-abbrev pub is_offset : List ℕ → List ℕ → Bool
-is_offset text rest = nat_le (4 + length rest) (length text)
+-- `0x` is at the start of a text
+abbrev pub begins_mark : List ℕ → Bool
+begins_mark text = (slice_index text 0 == 48) && (slice_index text 1 == 120)
 
-abbrev pub has_two_spaces : List ℕ → Bool
-has_two_spaces text = (slice_index text 0 == 32) && (slice_index text 1 == 32)
+-- letters, blanks and then `0x`, as an assembler has `db 0x12`
+abbrev pub begins_directive : List ℕ → Bool
+begins_directive text =
+    is_digit_letter (slice_index text 0) && begins_mark (after_all is_blank (after_all is_digit_letter text))
 
-abbrev pub has_three_spaces : List ℕ → Bool
-has_three_spaces text = has_two_spaces text && (slice_index text 2 == 32)
+-- so many digits of a kind and a blank are at the start of a text
+abbrev pub begins_group : ℕ → (ℕ → Bool) → List ℕ → Bool
+begins_group count is text =
+    let rest = after_all is text in
+    (length text == count + length rest) && is_blank (slice_index rest 0)
 
-abbrev pub has_colon : List ℕ → Bool
-has_colon text = slice_index text 0 == 58
+abbrev pub is_binary : ℕ → Bool
+is_binary c = (c == 48) || (c == 49)
 
-abbrev pub after_line_feed : List ℕ → List ℕ
-after_line_feed [] = []
-after_line_feed (c ∷ rest) = rest
+-- what is left after `0b`, if that is there
+abbrev pub after_radix : List ℕ → List ℕ
+after_radix text = if (slice_index text 0 == 48) && (slice_index text 1 == 98) then after_one (after_one text) else text
 
--- the line after this one begins with four zeros too
-abbrev pub has_next_offset : List ℕ → Bool
-has_next_offset text =
-    let next = after_line_feed (after_all is_in_line text) in
-    is_offset next (after_all is_zero next)
+-- A text begins with words of which nothing says which byte is first, as `od -An` writes them after a space, or with
+-- eight bits.
+abbrev pub begins_words : List ℕ → Bool
+begins_words text =
+    let start = at_start text in
+    (is_blank (slice_index text 0) && (begins_group 4 is_hex_digit start || begins_group 8 is_hex_digit start))
+    || begins_group 8 is_binary (after_radix start)
 
--- the form that the end of an offset says: `xxd` has a colon there, `od` a space, the others more of them
-abbrev pub form_by : List ℕ → Form
-form_by rest =
-    if has_colon rest then Colons
-    else if has_two_spaces rest then Spaces
-    else if (slice_index rest 0 == 32) && has_next_offset rest then Colons
-    else Plain
-
--- the form of a text
+-- The form in which a text is read as it is: with columns where it begins with an offset of zeros. None is for one whose
+-- columns begin later, nor for an assembler's, whose letters before a mark are no digits.
 unfoldable pub form_of : List ℕ → Form
 form_of text =
-    let rest = after_all is_zero text in
-    if is_offset text rest then form_by rest else Plain
-
--- the value of an offset's digits so far, which grows no more from 2^32 on, as no text of so many bytes is read
-abbrev pub grown : ℕ → ℕ → ℕ
-grown value digit = if nat_lt value 4294967296 then value * 16 + digit else value
-
-abbrev pub with_digit : ℕ → (ℕ → ℕ) → Option ℕ → ℕ
-with_digit value later None = value
-with_digit value later (Some digit) = later (grown value digit)
-
--- the value of the digits at the start of a text, after those that have a value already
-unfoldable pub offset_value : ℕ → List ℕ → ℕ
-offset_value value [] = value
-offset_value value (c ∷ rest) = with_digit value (λ v. offset_value v rest) (hex_digit_value c)
-
-abbrev pub after_colon : List ℕ → List ℕ
-after_colon [] = []
-after_colon (c ∷ rest) = if c == 58 then rest else c ∷ rest
-
--- what is left of columns after the offset of a line: four digits or more, a colon, and spaces
-abbrev pub after_offset : List ℕ → List ℕ
-after_offset text =
-    let rest = after_all is_hex_digit text in
-    if is_offset text rest then after_all is_space (after_colon rest) else text
-
--- what is left after the start of the first line
-abbrev pub in_line : Form → List ℕ → List ℕ
-in_line Plain text = text
-in_line Colons text = after_offset text
-in_line Spaces text = after_offset text
-in_line (Source style) text = text
-
--- nothing is in the line
-abbrev pub is_empty_line : List ℕ → Bool
-is_empty_line [] = true
-is_empty_line (c ∷ rest) = (c == 10) || (c == 13)
-
--- the offset of a line is the count of the bytes before it
-abbrev pub has_offset : ℕ → List ℕ → Bool
-has_offset count text = is_offset text (after_all is_hex_digit text) && (offset_value 0 text == count)
-
--- what is left after the offset of a line before which are so many bytes; none where it has another offset or none
-abbrev pub at_offset : ℕ → List ℕ → Option (List ℕ)
-at_offset count text =
-    if has_offset count text then Some (after_offset text)
-    else if is_empty_line text then Some text
-    else None
-
--- what is left after the start of a later line
-abbrev pub at_line : Form → ℕ → List ℕ → Option (List ℕ)
-at_line Plain count text = Some text
-at_line Colons count text = at_offset count text
-at_line Spaces count text = at_offset count text
-at_line (Source style) count text = Some text
-
--- the characters of a line's bytes begin here: after two spaces for `xxd`, after three or a bar for the others
-abbrev pub has_characters : Form → List ℕ → Bool
-has_characters Plain text = false
-has_characters Colons text = has_two_spaces text
-has_characters Spaces text = (slice_index text 0 == 124) || has_three_spaces text
-has_characters (Source style) text = false
+    if begins_zeros text then column_form text
+    else if has_columns text || begins_words text || begins_directive (at_start text) then Words
+    else Plain
 
 abbrev pub gap_or : Form → ℕ → ℕ → List ℕ → Item → Item
 gap_or form count c rest other =
@@ -138,22 +69,47 @@ gap_or form count c rest other =
 abbrev pub mark_or : ℕ → ℕ → List ℕ → Item → Item
 mark_or c d rest other = if is_mark c d && begins_byte rest then Some (None, rest) else other
 
+unfoldable pub digits_in : Form → ℕ → ℕ → List ℕ → Item
+digits_in form c d rest = if is_too_long form rest then None else digits c d rest
+
 unfoldable pub plain_item : Form → ℕ → List ℕ → Item
 plain_item form count [] = None
 plain_item form count (c ∷ []) = gap_or form count c [] None
-plain_item form count (c ∷ d ∷ rest) = gap_or form count c (d ∷ rest) (mark_or c d rest (digits c d rest))
+plain_item form count (c ∷ d ∷ rest) = gap_or form count c (d ∷ rest) (mark_or c d rest (digits_in form c d rest))
+
+abbrev pub is_none : Item → Bool
+is_none None = true
+is_none (Some item) = false
+
+-- two spaces, after which is nothing that a text without columns has
+abbrev pub has_no_item : ℕ → List ℕ → Bool
+has_no_item count text = has_two_spaces text && is_none (plain_item Plain count (after_one (after_one text)))
+
+-- The characters of a line's bytes begin here: after two spaces; where those may be between bytes too, after three, at
+-- a bar, or where no byte is after the two.
+abbrev pub has_characters : Form → ℕ → List ℕ → Bool
+has_characters Plain count text = false
+has_characters Words count text = false
+has_characters Colons count text = has_two_spaces text
+has_characters Spaces count text = (slice_index text 0 == 124) || has_three_spaces text || has_no_item count text
+has_characters Groups count text = has_two_spaces text
+has_characters (Addresses base) count text = has_two_spaces text
+has_characters (Source style) count text = false
 
 -- the characters of a line are one item, up to its line feed
 unfoldable pub line_item : Form → ℕ → List ℕ → Item
 line_item form count [] = None
 line_item form count (c ∷ rest) =
-    if has_characters form (c ∷ rest) then Some (None, after_all is_in_line rest) else plain_item form count (c ∷ rest)
+    if has_characters form count (c ∷ rest) then Some (None, after_all is_in_line rest) else plain_item form count (c ∷ rest)
 
 -- the item at the start of a text, after so many bytes
 abbrev pub item : Form → ℕ → List ℕ → Item
 item Plain count text = line_item Plain count text
 item Colons count text = line_item Colons count text
 item Spaces count text = line_item Spaces count text
+item Groups count text = line_item Groups count text
+item (Addresses base) count text = line_item (Addresses base) count text
+item Words count text = None
 item (Source style) count text = source_item style text
 
 abbrev pub bytes_of : Option ℕ → List ℕ

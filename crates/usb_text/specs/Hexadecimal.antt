@@ -6,16 +6,19 @@ use Rattle.std.specs.Prelude.{◌≡◌, ℕ, ◌+◌, ◌-◌, ◌<◌, ◌==�
 use Rattle.std.specs.List.{list_all}
 use Rattle.usb_text.specs.Brackets.{bracket_of, first_side, has, within}
 use Rattle.usb_text.specs.Comments.{uncommented}
-use Rattle.usb_text.specs.HexText.{Reads, column_after, form_of, in_line, is_line_feed}
+use Rattle.usb_text.specs.Columns.{column_form, columns_of, in_line}
+use Rattle.usb_text.specs.Labels.{unlabelled}
+use Rattle.usb_text.specs.HexText.{Reads, begins_words, column_after, form_of, is_line_feed}
 use Rattle.usb_text.specs.SourceItems.{is_decimal, is_parting}
 use Rattle.usb_text.specs.declared.bracket.Bracket.{Bracket}
-use Rattle.usb_text.specs.declared.comment.Place.TheVariants.{Start}
+use Rattle.usb_text.specs.declared.comment.Place.TheVariants as places
+use Rattle.usb_text.specs.declared.label.Part.TheVariants as parts
 use Rattle.usb_text.specs.declared.hex_text.Form.{Form}
-use Rattle.usb_text.specs.declared.hex_text.Form.TheVariants.{Plain, Colons, Spaces, Source}
+use Rattle.usb_text.specs.declared.hex_text.Form.TheVariants.{Source, Words}
 use Rattle.usb_text.specs.declared.hex_text.HexFault.{HexFault}
 use Rattle.usb_text.specs.declared.hex_text.HexFault.TheVariants as faults
 use Rattle.usb_text.specs.declared.source_item.Style.{Style}
-use Rattle.usb_text.specs.declared.source_item.Style.TheVariants.{Escaped, Prefixed, Pairs, Separated, Loose, Decimals}
+use Rattle.usb_text.specs.declared.source_item.Style.TheVariants.{Escaped, Prefixed, Suffixed, Pairs, Separated, Loose, Decimals}
 
 -- ---- a text in one form
 
@@ -69,11 +72,15 @@ unfoldable pub has_long_number : List ℕ → Bool
 has_long_number [] = false
 has_long_number (c ∷ rest) = (is_decimal c && is_decimal (slice_index rest 0)) || has_long_number rest
 
+abbrev pub has_suffix : List ℕ → Bool
+has_suffix inner = has 104 inner || has 72 inner
+
 -- Numbers without a prefix in an array: decimal where none has a letter and one is over 9. Where none has a letter and
 -- all are below 10 nothing says which they are.
 abbrev pub array_style : List ℕ → Style
 array_style inner =
-    if not (list_all is_of_decimals inner) then Loose
+    if has_suffix inner then Suffixed
+    else if not (list_all is_of_decimals inner) then Loose
     else if has_long_number inner then Decimals
     else Pairs
 
@@ -81,7 +88,10 @@ abbrev pub has_prefix : List ℕ → Bool
 has_prefix inner = has 120 inner || has 88 inner || has 36 inner
 
 abbrev pub line_style : List ℕ → Style
-line_style inner = if has 58 inner || has 45 inner then Separated else Pairs
+line_style inner =
+    if has 58 inner || has 45 inner then Separated
+    else if has_suffix inner then Suffixed
+    else Pairs
 
 -- numbers without a prefix
 abbrev pub bare_style : Option Bracket → List ℕ → Style
@@ -95,23 +105,28 @@ style_of bracket inner =
     else if has_prefix inner then Prefixed
     else bare_style bracket inner
 
--- the form of what is between the brackets: with columns as it is, and else of a style
-abbrev pub with_style : Style → Form → Form
-with_style style Plain = Source style
-with_style style Colons = Colons
-with_style style Spaces = Spaces
-with_style style (Source other) = Source style
-
--- a text without comments
+-- a text without comments and labels
 abbrev pub code_of : List ℕ → List ℕ
-code_of text = uncommented Start text
+code_of text = unlabelled parts.Start (uncommented places.Start text)
 
 -- what is between its brackets
+abbrev pub within_code : List ℕ → List ℕ
+within_code text = inner_of (bracket_of (code_of text)) (code_of text)
+
+-- what is read of a text: all where it has columns
+abbrev pub source_in : Option (List ℕ) → List ℕ → List ℕ
+source_in None text = within_code text
+source_in (Some line) text = text
+
 abbrev pub source_of : List ℕ → List ℕ
-source_of text = inner_of (bracket_of (code_of text)) (code_of text)
+source_of text = source_in (columns_of true text) text
+
+abbrev pub form_in : Option (List ℕ) → List ℕ → Form
+form_in None text = if begins_words text then Words else Source (style_of (bracket_of (code_of text)) (within_code text))
+form_in (Some line) text = column_form line
 
 abbrev pub source_form : List ℕ → Form
-source_form text = with_style (style_of (bracket_of (code_of text)) (source_of text)) (form_of (source_of text))
+source_form text = form_in (columns_of true text) text
 
 -- ---- any text
 

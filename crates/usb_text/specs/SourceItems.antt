@@ -1,9 +1,10 @@
 -- The items of a text that has bytes as the source of a program or another text has them.
 use Rattle.std.specs.Prelude.{ℕ, ◌+◌, ◌-◌, ◌*◌, ◌==◌, ◌||◌, ◌&&◌, Bool, false, not, nat_le, nat_lt, if◌then◌else◌, List, [], ◌∷◌, slice_index, Option, Some, None, option_map}
+use Rattle.std.specs.List.{list_all}
 use Rattle.hex.specs.Hex.{hex_digit_value, is_hex_digit}
 use Rattle.usb_text.specs.HexDigits.{Item, byte_of, digits, is_gap}
 use Rattle.usb_text.specs.declared.source_item.Style.{Style}
-use Rattle.usb_text.specs.declared.source_item.Style.TheVariants.{Escaped, Prefixed, Pairs, Separated, Loose, Decimals}
+use Rattle.usb_text.specs.declared.source_item.Style.TheVariants.{Escaped, Prefixed, Suffixed, Pairs, Separated, Loose, Decimals}
 
 -- white space, a comma or a semicolon
 abbrev pub is_parting : ℕ → Bool
@@ -11,6 +12,10 @@ is_parting c = is_gap c || (c == 59)
 
 abbrev pub is_line_end : ℕ → Bool
 is_line_end c = (c == 10) || (c == 13)
+
+abbrev pub begins_line_end : List ℕ → Bool
+begins_line_end [] = false
+begins_line_end (c ∷ rest) = is_line_end c
 
 abbrev pub is_quote : ℕ → Bool
 is_quote c = (c == 34) || (c == 39)
@@ -28,6 +33,13 @@ is_of_word c = is_decimal c || is_letter c
 abbrev pub begins_word : List ℕ → Bool
 begins_word [] = false
 begins_word (c ∷ rest) = is_of_word c
+
+-- Nothing but parentheses, semicolons, commas and white space is in a text, as after the string of a call.
+abbrev pub is_closing : ℕ → Bool
+is_closing c = (c == 41) || is_parting c
+
+abbrev pub closing_item : List ℕ → Item
+closing_item rest = if list_all is_closing rest then Some (None, []) else None
 
 abbrev pub byte_before : List ℕ → ℕ → Option ℕ × List ℕ
 byte_before rest byte = (Some byte, rest)
@@ -57,19 +69,25 @@ unfoldable pub escaped_item : List ℕ → Item
 escaped_item [] = None
 escaped_item (c ∷ rest) =
     if c == 92 then after_backslash rest
+    else if c == 41 then closing_item rest
     else if is_quote c || (is_parting c && not (begins_escape rest)) then Some (None, rest)
     else None
 
 -- Numbers with a prefix.
 
+-- what is left after an 8, as of `0x12u8`
+abbrev pub after_width : List ℕ → List ℕ
+after_width [] = []
+after_width (c ∷ rest) = if c == 56 then rest else c ∷ rest
+
 abbrev pub after_suffix : List ℕ → List ℕ
 after_suffix [] = []
-after_suffix (c ∷ rest) = if (c == 117) || (c == 85) then rest else c ∷ rest
+after_suffix (c ∷ rest) = if (c == 117) || (c == 85) then after_width rest else c ∷ rest
 
 abbrev pub ended_number : List ℕ → Option ℕ → Item
 ended_number rest byte = if begins_word rest then None else option_map (byte_before rest) byte
 
--- one or two digits, and maybe a suffix `u`, with which the number ends
+-- one or two digits, and maybe a suffix `u` or `u8`, with which the number ends
 abbrev pub number : List ℕ → Item
 number [] = None
 number (c ∷ []) = option_map (byte_before []) (hex_digit_value c)
@@ -105,15 +123,32 @@ prefixed_item (c ∷ rest) =
 
 -- Two digits for each byte.
 
--- after a byte maybe `h`
-abbrev pub after_h : List ℕ → List ℕ
-after_h [] = []
-after_h (c ∷ rest) = if (c == 104) || (c == 72) then rest else c ∷ rest
-
 unfoldable pub pair_item : List ℕ → Item
 pair_item [] = None
-pair_item (c ∷ []) = if is_parting c || is_quote c then Some (None, []) else None
-pair_item (c ∷ d ∷ rest) = if is_parting c || is_quote c then Some (None, d ∷ rest) else digits c d (after_h rest)
+pair_item (c ∷ []) = if is_closing c || is_quote c then Some (None, []) else None
+pair_item (c ∷ d ∷ rest) =
+    if is_parting c || is_quote c then Some (None, d ∷ rest)
+    else if c == 41 then closing_item (d ∷ rest)
+    else digits c d rest
+
+-- Two digits and `h` for each byte, and maybe a zero before them.
+
+-- the suffix `h`, with which a number ends
+abbrev pub ends_suffix : ℕ → List ℕ → Bool
+ends_suffix c rest = ((c == 104) || (c == 72)) && not (begins_word rest)
+
+abbrev pub suffixed : ℕ → ℕ → List ℕ → Item
+suffixed c d [] = None
+suffixed c d (e ∷ []) = if ends_suffix e [] then digits c d [] else None
+suffixed c d (e ∷ h ∷ rest) =
+    if ends_suffix e (h ∷ rest) then digits c d (h ∷ rest)
+    else if (c == 48) && ends_suffix h rest then Some (None, d ∷ e ∷ h ∷ rest)
+    else None
+
+unfoldable pub suffixed_item : List ℕ → Item
+suffixed_item [] = None
+suffixed_item (c ∷ []) = if is_parting c then Some (None, []) else None
+suffixed_item (c ∷ d ∷ rest) = if is_parting c then Some (None, d ∷ rest) else suffixed c d rest
 
 -- what is left after a colon or a hyphen between two bytes, or before the end of a line
 abbrev pub after_separator : List ℕ → Option (List ℕ)
@@ -132,11 +167,18 @@ separated_item [] = None
 separated_item (c ∷ []) = if is_parting c then Some (None, []) else None
 separated_item (c ∷ d ∷ rest) = if is_parting c then Some (None, d ∷ rest) else separated c d (after_separator rest)
 
--- Numbers in an array, of one or two hexadecimal digits.
+-- Numbers in an array, of one or two hexadecimal digits. None has a suffix, with which it would be decimal.
+
+abbrev pub short_number : List ℕ → Item
+short_number [] = None
+short_number (c ∷ []) = option_map (byte_before []) (hex_digit_value c)
+short_number (c ∷ d ∷ rest) =
+    if is_hex_digit d then ended_number rest (byte_of c d)
+    else ended_number (d ∷ rest) (hex_digit_value c)
 
 unfoldable pub loose_item : List ℕ → Item
 loose_item [] = None
-loose_item (c ∷ rest) = if is_parting c then Some (None, rest) else number (c ∷ rest)
+loose_item (c ∷ rest) = if is_parting c then Some (None, rest) else short_number (c ∷ rest)
 
 -- Decimal numbers in an array: below 256, and without a leading zero.
 
@@ -162,6 +204,7 @@ decimal_item (c ∷ rest) =
 abbrev pub source_item : Style → List ℕ → Item
 source_item Escaped text = escaped_item text
 source_item Prefixed text = prefixed_item text
+source_item Suffixed text = suffixed_item text
 source_item Pairs text = pair_item text
 source_item Separated text = separated_item text
 source_item Loose text = loose_item text

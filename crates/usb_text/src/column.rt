@@ -1,16 +1,16 @@
-//! The columns of a line.
-ghost use Rattle.std.specs.Prelude.{◌≡◌, ◌≤◌, length};
+//! The columns of a text that has them.
+ghost use Rattle.std.specs.Prelude.{◌≡◌, ◌&&◌, ◌≤◌, IfSome, MatchOption, None, Some, length, slice_index, true};
 ghost use Rattle.hex.specs.Hex.{is_hex_digit};
-ghost use Rattle.usb_text.specs.HexText.{after_all, after_colon, after_offset, grown, has_characters, has_offset, in_line, is_empty_line, is_in_line, is_offset, is_space, is_zero, offset_value};
-ghost use Rattle.std.specs.Prelude.{MatchOption, IfSome, None, Some};
-ghost use Rattle.usb_text.specs.HexText.{at_line, at_offset};
+ghost use Rattle.usb_text.specs.Columns.{after_all, after_colon, after_digits, after_mark, after_name, after_offset, after_one, after_start, at_line, at_offset, at_start, begins_address, begins_columns, begins_fence, begins_gap, begins_numbers, begins_zeros, blank_form, column_form, columns_of, ends_address, grown, has_colon, has_columns, has_digits, has_next_offset, has_offset, has_text, has_three_spaces, has_two_spaces, in_line, is_blank, is_empty_line, is_heading, is_in_line, is_in_name, is_octal, is_offset, is_too_long, is_zero, offset_value, zeros_form};
+ghost use Rattle.usb_text.specs.Comments.{is_before_line};
 
-use crate::hex_text::Form;
+use crate::comment::{is_before_line, is_fence};
+use crate::hex_text::{Form, is_gap};
 use crate::numbers::digit;
 
 /// What is left after all leading zeros.
-#[tactic(auto, unfolding(crate::specs::HexText::after_all))]
-pub(crate) fn after_zeros(text: &[u8]) -> &[u8]
+#[tactic(auto, unfolding(crate::specs::Columns::after_all))]
+fn after_zeros(text: &[u8]) -> &[u8]
     ensures is { result.now ≡ after_all is_zero text.now }
     ensures within { length result.now ≤ length text.now }
 {
@@ -21,9 +21,9 @@ pub(crate) fn after_zeros(text: &[u8]) -> &[u8]
     rest
 }
 
-/// What is left after all leading digits.
-#[tactic(auto, unfolding(crate::specs::HexText::after_all))]
-fn after_digits(text: &[u8]) -> &[u8]
+/// What is left after all leading hexadecimal digits.
+#[tactic(auto, unfolding(crate::specs::Columns::after_all))]
+pub(crate) fn after_hex_digits(text: &[u8]) -> &[u8]
     ensures is { result.now ≡ after_all is_hex_digit text.now }
     ensures within { length result.now ≤ length text.now }
 {
@@ -37,21 +37,21 @@ fn after_digits(text: &[u8]) -> &[u8]
     rest
 }
 
-/// What is left after all leading spaces.
-#[tactic(auto, unfolding(crate::specs::HexText::after_all))]
-fn after_spaces(text: &[u8]) -> &[u8]
-    ensures is { result.now ≡ after_all is_space text.now }
+/// What is left after all leading spaces and tabs.
+#[tactic(auto, unfolding(crate::specs::Columns::after_all))]
+pub(crate) fn after_blanks(text: &[u8]) -> &[u8]
+    ensures is { result.now ≡ after_all is_blank text.now }
     ensures within { length result.now ≤ length text.now }
 {
     let mut rest = text;
-    while let [b' ', tail @ ..] = rest {
+    while let [b' ' | b'\t', tail @ ..] = rest {
         rest = tail;
     }
     rest
 }
 
 /// What is left after the rest of a line, from its line feed on.
-#[tactic(auto, unfolding(crate::specs::HexText::after_all))]
+#[tactic(auto, unfolding(crate::specs::Columns::after_all))]
 pub(crate) fn after_line(text: &[u8]) -> &[u8]
     ensures is { result.now ≡ after_all is_in_line text.now }
     ensures within { length result.now ≤ length text.now }
@@ -66,12 +66,91 @@ pub(crate) fn after_line(text: &[u8]) -> &[u8]
     rest
 }
 
+/// What is left of a line from `>` on, or from its end.
+#[tactic(auto, unfolding(crate::specs::Columns::after_all))]
+fn after_in_name(text: &[u8]) -> &[u8]
+    ensures is { result.now ≡ after_all is_in_name text.now }
+    ensures within { length result.now ≤ length text.now }
+{
+    let mut rest = text;
+    while let [c, tail @ ..] = rest {
+        if *c == b'\n' || *c == b'>' {
+            break;
+        }
+        rest = tail;
+    }
+    rest
+}
+
+/// What is left from the first character of a line on that is neither white space nor before a line in a mail.
+#[tactic(auto, unfolding(crate::specs::Columns::after_all))]
+pub(crate) fn at_start(text: &[u8]) -> &[u8]
+    ensures is { result.now ≡ at_start text.now }
+    ensures within { length result.now ≤ length text.now }
+{
+    let mut rest = text;
+    while let [c, tail @ ..] = rest {
+        if !is_before_line(*c) {
+            break;
+        }
+        rest = tail;
+    }
+    rest
+}
+
+/// What is left after the first character.
+pub(crate) fn after_one(text: &[u8]) -> &[u8]
+    ensures is { result.now ≡ after_one text.now }
+    ensures within { length result.now ≤ length text.now }
+{
+    match text {
+        [_, rest @ ..] => rest,
+        [] => text,
+    }
+}
+
+/// Whether the character is a space or a tab.
+pub(crate) fn is_blank(c: u8) -> bool
+    ensures { result ≡ is_blank c }
+{
+    c == b' ' || c == b'\t'
+}
+
 /// Whether four characters or more were before what is left of a text.
-pub(crate) fn is_offset(text: &[u8], rest: &[u8]) -> bool
+fn is_offset(text: &[u8], rest: &[u8]) -> bool
     requires { length rest.now ≤ length text.now }
     ensures { result ≡ is_offset text.now rest.now }
 {
     text.len() - rest.len() >= 4
+}
+
+/// What is left after `0x`, if that is there.
+fn after_mark(text: &[u8]) -> &[u8]
+    ensures is { result.now ≡ after_mark text.now }
+    ensures within { length result.now ≤ length text.now }
+{
+    match text {
+        [b'0', b'x', rest @ ..] => rest,
+        _ => text,
+    }
+}
+
+/// What is left after the name of an address, if there is one.
+fn after_name(text: &[u8]) -> &[u8]
+    ensures is { result.now ≡ after_name text.now }
+    ensures within { length result.now ≤ length text.now }
+{
+    match text {
+        [b' ', b'<', ..] => after_one(after_in_name(text)),
+        _ => text,
+    }
+}
+
+/// Whether a colon and a blank are at the start of a text.
+fn ends_address(text: &[u8]) -> bool
+    ensures { result ≡ ends_address text.now }
+{
+    matches!(text, [b':', b' ' | b'\t', ..])
 }
 
 /// What is left after a colon, if there is one.
@@ -85,34 +164,48 @@ fn after_colon(text: &[u8]) -> &[u8]
     }
 }
 
+/// What is left after the digits of an offset.
+fn after_digits(text: &[u8]) -> &[u8]
+    ensures is { result.now ≡ after_digits text.now }
+    ensures within { length result.now ≤ length (after_mark text.now) }
+{
+    after_hex_digits(after_mark(text))
+}
+
+/// Whether a text begins with as many digits as an offset has.
+fn has_digits(text: &[u8]) -> bool
+    ensures { result ≡ has_digits text.now }
+{
+    is_offset(after_mark(text), after_digits(text))
+}
+
 /// What is left after the offset of a line.
 fn after_offset(text: &[u8]) -> &[u8]
     ensures is { result.now ≡ after_offset text.now }
     ensures within { length result.now ≤ length text.now }
 {
-    let rest = after_digits(text);
-    if is_offset(text, rest) {
-        after_spaces(after_colon(rest))
+    if has_digits(text) {
+        after_blanks(after_colon(after_name(after_digits(text))))
     } else {
         text
     }
 }
 
-/// The value of an offset's digits so far and one more; no text of 2^32 bytes or more is read.
-fn grown(value: u64, digit: u8) -> u64
-    ensures { result ≡ grown value digit }
+/// The value of an offset's digits so far and one more.
+fn grown(radix: u8, value: u64, digit: u8) -> u64
+    ensures { result ≡ grown radix value digit }
 {
-    if value < 1 << 32 {
-        value * 16 + u64::from(digit)
+    if value < 1 << 56 {
+        value * u64::from(radix) + u64::from(digit)
     } else {
         value
     }
 }
 
 /// The value of the digits at the start of a text.
-#[tactic(auto, unfolding(crate::specs::HexText::offset_value))]
-fn offset_value(text: &[u8]) -> u64
-    ensures { result ≡ offset_value 0 text.now }
+#[tactic(auto, unfolding(crate::specs::Columns::offset_value))]
+fn offset_value(radix: u8, text: &[u8]) -> u64
+    ensures { result ≡ offset_value radix 0 text.now }
 {
     let mut value = 0;
     let mut rest = text;
@@ -120,17 +213,122 @@ fn offset_value(text: &[u8]) -> u64
         let Some(digit) = digit(*c) else {
             break;
         };
-        value = grown(value, digit);
+        if digit >= radix {
+            break;
+        }
+        value = grown(radix, value, digit);
         rest = tail;
     }
     value
 }
 
-/// Whether a line begins with the offset of what is after so many bytes.
-fn has_offset(count: usize, text: &[u8]) -> bool
-    ensures { result ≡ has_offset count text.now }
+/// Whether an offset is octal, as that of `od` is.
+fn is_octal(text: &[u8]) -> bool
+    ensures { result ≡ is_octal text.now }
 {
-    is_offset(text, after_digits(text)) && offset_value(text) == count as u64
+    let rest = after_digits(text);
+    text.len() - rest.len() == 7 && !matches!(rest, [b':', ..])
+}
+
+/// Whether a line begins with the offset of this place.
+fn has_offset(place: u128, text: &[u8]) -> bool
+    ensures { result ≡ has_offset place text.now }
+{
+    has_digits(text)
+        && (u128::from(offset_value(16, after_mark(text))) == place
+            || (is_octal(text) && u128::from(offset_value(8, text)) == place))
+}
+
+/// Whether a text begins with four zeros or more as an offset.
+pub(crate) fn begins_zeros(text: &[u8]) -> bool
+    ensures { result ≡ begins_zeros text.now }
+{
+    let rest = after_zeros(text);
+    is_offset(text, rest) && (ends_address(rest) || begins_blank(rest))
+}
+
+/// Whether a space or a tab is at the start of a text.
+pub(crate) fn begins_blank(text: &[u8]) -> bool
+    ensures { result ≡ is_blank (slice_index text.now 0) }
+{
+    matches!(text, [b' ' | b'\t', ..])
+}
+
+/// Whether a text begins with an address.
+fn begins_address(text: &[u8]) -> bool
+    ensures { result ≡ begins_address text.now }
+{
+    has_digits(text) && ends_address(after_name(after_digits(text)))
+}
+
+/// Whether the line after this one begins with four zeros too.
+fn has_next_offset(text: &[u8]) -> bool
+    ensures { result ≡ has_next_offset text.now }
+{
+    let next = at_start(after_one(after_line(text)));
+    is_offset(next, after_zeros(next))
+}
+
+/// Whether a line has characters after two spaces, which don't begin with `>`.
+#[tactic(auto, unfolding(crate::specs::Columns::has_text))]
+fn has_text(text: &[u8]) -> bool
+    ensures { result ≡ has_text text.now }
+{
+    let mut rest = text;
+    while let [c, tail @ ..] = rest {
+        if *c == b'\n' {
+            return false;
+        }
+        if let [b' ', b' ', next, ..] = rest {
+            if *next > 32 {
+                return *next != b'>';
+            }
+        }
+        rest = tail;
+    }
+    false
+}
+
+/// The form of a text that begins with an offset.
+pub(crate) fn column_form(text: &[u8]) -> Form
+    ensures { result ≡ column_form text.now }
+{
+    if begins_zeros(text) {
+        zeros_form(after_zeros(text))
+    } else {
+        Form::Addresses(offset_value(16, after_mark(text)))
+    }
+}
+
+/// The form that the end of an offset of zeros says.
+fn zeros_form(rest: &[u8]) -> Form
+    ensures { result ≡ zeros_form rest.now }
+{
+    match rest {
+        [b':', ..] => Form::Colons,
+        [b' ', b' ', ..] => Form::Spaces,
+        _ => blank_form(rest),
+    }
+}
+
+/// The form after one blank.
+fn blank_form(rest: &[u8]) -> Form
+    ensures { result ≡ blank_form rest.now }
+{
+    if has_text(rest) {
+        Form::Groups
+    } else if has_next_offset(rest) {
+        Form::Addresses(0)
+    } else {
+        Form::Words
+    }
+}
+
+/// Whether a text begins with an offset of zeros or an address.
+fn begins_columns(text: &[u8]) -> bool
+    ensures { result ≡ begins_columns text.now }
+{
+    begins_zeros(text) || begins_address(text)
 }
 
 /// Whether nothing is in the line.
@@ -140,15 +338,92 @@ fn is_empty_line(text: &[u8]) -> bool
     matches!(text, [] | [b'\n' | b'\r', ..])
 }
 
-/// What is left after the offset of a line, where it is the one after so many bytes.
-fn at_offset(count: usize, text: &[u8]) -> Option<&[u8]>
-    ensures is { MatchOption result (at_offset count text.now ≡ None) (λ rest. at_offset count text.now ≡ Some rest.now) }
+/// Whether a text begins with the numbers of columns.
+fn begins_numbers(text: &[u8]) -> bool
+    ensures { result ≡ begins_numbers text.now }
+{
+    matches!(text, [b'0', b'0', b' ', b'0', b'1', b' ', b'0', b'2', ..])
+}
+
+/// Whether a gap or nothing is at the start of a text.
+fn begins_gap(text: &[u8]) -> bool
+    ensures { result ≡ begins_gap text.now }
+{
+    match text {
+        [c, ..] => is_gap(*c),
+        [] => true,
+    }
+}
+
+/// Whether a line without an offset may be before the columns.
+fn is_heading(text: &[u8]) -> bool
+    ensures { result ≡ is_heading text.now }
+{
+    is_empty_line(text) || !begins_gap(after_hex_digits(text)) || begins_numbers(text)
+}
+
+/// The text from its first offset on, where only headings are before that.
+#[tactic(auto, unfolding(crate::specs::Columns::columns_of))]
+pub(crate) fn columns_of(text: &[u8]) -> Option<&[u8]>
+    ensures is { MatchOption result (columns_of true text.now ≡ None) (λ line. columns_of true text.now ≡ Some line.now) }
+    ensures within { IfSome result (λ line. length line.now ≤ length text.now) }
+{
+    let mut starts = true;
+    let mut rest = text;
+    while let [c, tail @ ..] = rest {
+        if starts {
+            let line = at_start(rest);
+            if begins_columns(line) {
+                return Some(line);
+            }
+            if !is_heading(line) {
+                return None;
+            }
+        }
+        starts = *c == b'\n';
+        rest = tail;
+    }
+    None
+}
+
+/// What is left after the start of the first line with bytes.
+pub(crate) fn in_line(form: Form, text: &[u8]) -> &[u8]
+    ensures is { result.now ≡ in_line form text.now }
+    ensures within { length result.now ≤ length text.now }
+{
+    match form {
+        Form::Plain | Form::Words | Form::Source(_) => text,
+        Form::Colons | Form::Spaces | Form::Groups | Form::Addresses(_) => {
+            match columns_of(text) {
+                None => text,
+                Some(line) => after_offset(line),
+            }
+        }
+    }
+}
+
+/// Whether three back quotes are at the start of a line.
+fn begins_fence(text: &[u8]) -> bool
+    ensures { result ≡ begins_fence text.now }
+{
+    match text {
+        [c, rest @ ..] => is_fence(*c, rest),
+        [] => false,
+    }
+}
+
+/// What is left after the offset of a line, where it is that of this place.
+fn at_offset(place: u128, text: &[u8]) -> Option<&[u8]>
+    ensures is { MatchOption result (at_offset place text.now ≡ None) (λ rest. at_offset place text.now ≡ Some rest.now) }
     ensures within { IfSome result (λ rest. length rest.now ≤ length text.now) }
 {
-    if has_offset(count, text) {
-        Some(after_offset(text))
-    } else if is_empty_line(text) {
-        Some(text)
+    let line = at_start(text);
+    if has_offset(place, line) {
+        Some(after_offset(line))
+    } else if is_empty_line(line) {
+        Some(line)
+    } else if begins_fence(line) {
+        Some(after_line(line))
     } else {
         None
     }
@@ -160,29 +435,53 @@ pub(crate) fn at_line(form: Form, count: usize, text: &[u8]) -> Option<&[u8]>
     ensures within { IfSome result (λ rest. length rest.now ≤ length text.now) }
 {
     match form {
-        Form::Plain | Form::Source(_) => Some(text),
-        Form::Colons | Form::Spaces => at_offset(count, text),
+        Form::Plain | Form::Words | Form::Source(_) => Some(text),
+        Form::Colons | Form::Spaces | Form::Groups => at_offset(count as u128, text),
+        Form::Addresses(base) => at_offset(u128::from(base) + count as u128, text),
     }
 }
 
-/// What is left after the start of the first line.
-pub(crate) fn in_line(form: Form, text: &[u8]) -> &[u8]
-    ensures is { result.now ≡ in_line form text.now }
-    ensures within { length result.now ≤ length text.now }
+/// Whether the group of a byte goes on after it for longer than the form has it.
+pub(crate) fn is_too_long(form: Form, rest: &[u8]) -> bool
+    ensures { result ≡ is_too_long form rest.now }
 {
     match form {
-        Form::Plain | Form::Source(_) => text,
-        Form::Colons | Form::Spaces => after_offset(text),
+        Form::Plain | Form::Words | Form::Groups | Form::Source(_) => false,
+        Form::Colons => begins_three_digits(rest),
+        Form::Spaces | Form::Addresses(_) => begins_digit(rest),
     }
 }
 
-/// Whether the characters of a line's bytes begin here.
-pub(crate) fn has_characters(form: Form, text: &[u8]) -> bool
-    ensures { result ≡ has_characters form text.now }
+/// Whether three digits are at the start of a text.
+fn begins_three_digits(text: &[u8]) -> bool
+    ensures { result ≡ (is_hex_digit (slice_index text.now 0) && is_hex_digit (slice_index text.now 1) && is_hex_digit (slice_index text.now 2)) }
 {
-    match form {
-        Form::Plain | Form::Source(_) => false,
-        Form::Colons => matches!(text, [b' ', b' ', ..]),
-        Form::Spaces => matches!(text, [b'|', ..] | [b' ', b' ', b' ', ..]),
+    match text {
+        [c, d, e, ..] => digit(*c).is_some() && digit(*d).is_some() && digit(*e).is_some(),
+        _ => false,
     }
+}
+
+/// Whether a digit is at the start of a text.
+pub(crate) fn begins_digit(text: &[u8]) -> bool
+    ensures { result ≡ is_hex_digit (slice_index text.now 0) }
+{
+    match text {
+        [c, ..] => digit(*c).is_some(),
+        [] => false,
+    }
+}
+
+/// Whether two spaces are at the start of a text.
+pub(crate) fn has_two_spaces(text: &[u8]) -> bool
+    ensures { result ≡ has_two_spaces text.now }
+{
+    matches!(text, [b' ', b' ', ..])
+}
+
+/// Whether three spaces are at the start of a text.
+pub(crate) fn has_three_spaces(text: &[u8]) -> bool
+    ensures { result ≡ has_three_spaces text.now }
+{
+    matches!(text, [b' ', b' ', b' ', ..])
 }

@@ -1,6 +1,6 @@
 //! Texts without what is no code: comments, marks of quoted mail, fences and byte order marks.
 ghost use Rattle.std.specs.Prelude.{◌≡◌};
-ghost use Rattle.usb_text.specs.Comments.{after, after_code, after_start, begins_comment, begins_line_comment, ends_comment, is_before_line, is_code, is_code_here, is_fence, is_order_mark, shown};
+ghost use Rattle.usb_text.specs.Comments.{after, after_code, after_start, begins_comment, begins_line_comment, ends_comment, is_before_line, is_code, is_code_here, is_fence, is_order_mark, is_unended, shown};
 ghost use Rattle.std.specs.Prelude.{IfErr, IfOk};
 ghost use Rattle.usb_text.specs.Comments.{uncommented};
 
@@ -41,11 +41,23 @@ pub(crate) fn uncommented(alloc: Global, text: &[u8]) -> Result<Vec<u8>, HexFaul
     Ok(code)
 }
 
-/// The character, or a space for one that is no code.
+/// Whether a text ends before its comment does.
+fn is_unended(place: Place, rest: &[u8]) -> bool
+    ensures { result ≡ is_unended place rest.now }
+{
+    match place {
+        Place::Opening | Place::Comment => rest.is_empty(),
+        Place::Start | Place::Code | Place::LineComment | Place::Closing => false,
+    }
+}
+
+/// The character, a space for one that is no code, or a star at the end of a text whose comment doesn't end.
 fn shown(place: Place, c: u8, rest: &[u8]) -> u8
     ensures { result ≡ shown place c rest.now }
 {
-    if c == b'\n' || is_code(place, c, rest) {
+    if is_unended(place, rest) {
+        b'*'
+    } else if c == b'\n' || is_code(place, c, rest) {
         c
     } else {
         b' '
@@ -146,14 +158,14 @@ fn ends_comment(c: u8, rest: &[u8]) -> bool
 }
 
 /// Whether three back quotes are here.
-fn is_fence(c: u8, rest: &[u8]) -> bool
+pub(crate) fn is_fence(c: u8, rest: &[u8]) -> bool
     ensures { result ≡ is_fence c rest.now }
 {
     c == b'`' && matches!(rest, [b'`', b'`', ..])
 }
 
 /// Whether the character is white space in a line, or may be before a line in a mail.
-fn is_before_line(c: u8) -> bool
+pub(crate) fn is_before_line(c: u8) -> bool
     ensures { result ≡ is_before_line c }
 {
     matches!(c, b'\t' | b' ' | b'>') || is_order_mark(c)

@@ -3,17 +3,23 @@ ghost use Rattle.std.specs.Prelude.{◌≡◌, ◌+◌, ◌≤◌, count_by, len
 ghost use Rattle.usb_text.specs.HexText.{column_after, is_line_feed};
 ghost use Rattle.usb_text.specs.Hexadecimal.{fault_at, first_of};
 ghost use Rattle.std.specs.Prelude.{◌≡◌};
-ghost use Rattle.usb_text.specs.HexText.{after_line_feed, form_by, form_of, has_next_offset};
-ghost use Rattle.std.specs.Prelude.{◌≡◌, ◌<◌, IfSome, MatchOption, None, Some, length};
+ghost use Rattle.hex.specs.Hex.{is_hex_digit};
+ghost use Rattle.usb_text.specs.Columns.{after_all};
+ghost use Rattle.usb_text.specs.HexText.{after_radix, begins_directive, begins_group, begins_mark, begins_words, form_of, is_binary, is_digit_letter};
+ghost use Rattle.std.specs.Prelude.{◌≡◌, ◌<◌, IfSome, MatchOption, None, Some, length, slice_index, ◌&&◌, ◌==◌};
 ghost use Rattle.usb_text.specs.HexDigits.{is_gap};
-ghost use Rattle.usb_text.specs.HexText.{begins_byte, is_mark, item, line_item, plain_item};
+ghost use Rattle.usb_text.specs.HexText.{begins_byte, digits_in, has_characters, has_no_item, is_mark, item, line_item, plain_item};
 ghost use Rattle.std.specs.Prelude.{◌≡◌, ◌≤◌, ◌++◌, ◌⊎◌, IfErr, IfOk, OnOk, length};
 ghost use Rattle.usb_text.specs.HexText.{bytes_of};
 ghost use Rattle.usb_text.specs.Hexadecimal.{FaultyIn, HexIn, ReadsText};
 
-use crate::column::{after_line, after_zeros, at_line, has_characters, in_line, is_offset};
+use crate::column::{
+    after_blanks, after_hex_digits, after_line, after_one, at_line, at_start, begins_blank,
+    begins_digit, begins_zeros, column_form, columns_of, has_three_spaces, has_two_spaces, in_line,
+    is_too_long,
+};
 use crate::numbers::{byte_of, digit};
-use crate::source_item::{Style, source_item};
+use crate::source_item::{Style, is_decimal, source_item};
 use std::alloc::Global;
 
 /// Why a text has no bytes.
@@ -84,55 +90,126 @@ fn column_after(text: &[u8]) -> usize
 pub(crate) enum Form {
     /// Without columns.
     Plain,
-    /// In columns with a colon after each offset, as `xxd` writes them, or with one space, as `od` does.
+    /// In words of which nothing says which byte is first. No byte is read.
+    Words,
+    /// In columns with a colon after each offset, as `xxd` writes them.
     Colons,
     /// In columns with spaces after each offset, as `hexdump -C` and Wireshark write them.
     Spaces,
+    /// In columns with one space after each offset and characters, as `objdump -s` writes them.
+    Groups,
+    /// In columns of single bytes after offsets from this one on, as debuggers and `od` write them.
+    Addresses(u64),
     /// As the source of a program or another text has bytes.
     Source(Style),
 }
 
-/// The form of a text.
+/// The form in which a text is read as it is.
 #[tactic(auto, unfolding(crate::specs::HexText::form_of))]
 pub(crate) fn form_of(text: &[u8]) -> Form
     ensures { result ≡ form_of text.now }
 {
-    let rest = after_zeros(text);
-    if is_offset(text, rest) {
-        form_by(rest)
+    if begins_zeros(text) {
+        column_form(text)
+    } else if columns_of(text).is_some() || begins_words(text) || begins_directive(at_start(text)) {
+        Form::Words
     } else {
         Form::Plain
     }
 }
 
-/// The form that the end of an offset says.
-fn form_by(rest: &[u8]) -> Form
-    ensures { result ≡ form_by rest.now }
+/// Whether a text begins with words of which nothing says which byte is first.
+pub(crate) fn begins_words(text: &[u8]) -> bool
+    ensures { result ≡ begins_words text.now }
 {
-    match rest {
-        [b':', ..] => Form::Colons,
-        [b' ', b' ', ..] => Form::Spaces,
-        [b' ', ..] if has_next_offset(rest) => Form::Colons,
-        _ => Form::Plain,
+    let start = at_start(text);
+    (begins_blank(text) && (begins_digits(4, start) || begins_digits(8, start)))
+        || begins_bits(after_radix(start))
+}
+
+/// Whether a group of so many digits is at the start of a text, with a blank after it.
+fn begins_digits(count: usize, text: &[u8]) -> bool
+    ensures { result ≡ begins_group count is_hex_digit text.now }
+{
+    let rest = after_hex_digits(text);
+    text.len() - rest.len() == count && begins_blank(rest)
+}
+
+/// Whether eight bits are at the start of a text, with a blank after them.
+fn begins_bits(text: &[u8]) -> bool
+    ensures { result ≡ begins_group 8 is_binary text.now }
+{
+    let rest = after_bits(text);
+    text.len() - rest.len() == 8 && begins_blank(rest)
+}
+
+/// What is left after all leading bits.
+#[tactic(auto, unfolding(crate::specs::Columns::after_all))]
+fn after_bits(text: &[u8]) -> &[u8]
+    ensures is { result.now ≡ after_all is_binary text.now }
+    ensures within { length result.now ≤ length text.now }
+{
+    let mut rest = text;
+    while let [b'0' | b'1', tail @ ..] = rest {
+        rest = tail;
     }
+    rest
 }
 
-/// Whether the line after this one begins with four zeros too.
-fn has_next_offset(text: &[u8]) -> bool
-    ensures { result ≡ has_next_offset text.now }
-{
-    let next = after_line_feed(after_line(text));
-    is_offset(next, after_zeros(next))
-}
-
-/// What is left after the first character of a text.
-fn after_line_feed(text: &[u8]) -> &[u8]
-    ensures { result.now ≡ after_line_feed text.now }
+/// What is left after `0b`, if that is there.
+fn after_radix(text: &[u8]) -> &[u8]
+    ensures { result.now ≡ after_radix text.now }
 {
     match text {
-        [_, rest @ ..] => rest,
-        [] => text,
+        [b'0', b'b', rest @ ..] => rest,
+        _ => text,
     }
+}
+
+/// Whether a text begins as an assembler's line of bytes does, with letters before `0x`.
+fn begins_directive(text: &[u8]) -> bool
+    ensures { result ≡ begins_directive text.now }
+{
+    begins_digit_letter(text) && begins_mark(after_blanks(after_letters(text)))
+}
+
+/// Whether `0x` is at the start of a text.
+fn begins_mark(text: &[u8]) -> bool
+    ensures { result ≡ begins_mark text.now }
+{
+    matches!(text, [b'0', b'x', ..])
+}
+
+/// What is left after all leading digits that are letters.
+#[tactic(auto, unfolding(crate::specs::Columns::after_all))]
+fn after_letters(text: &[u8]) -> &[u8]
+    ensures { result.now ≡ after_all is_digit_letter text.now }
+{
+    let mut rest = text;
+    while let [c, tail @ ..] = rest {
+        if !is_digit_letter(*c) {
+            break;
+        }
+        rest = tail;
+    }
+    rest
+}
+
+/// Whether a digit that is a letter is at the start of a text.
+fn begins_digit_letter(text: &[u8]) -> bool
+    ensures { result ≡ is_digit_letter (slice_index text.now 0) }
+{
+    match text {
+        [c, ..] => is_digit_letter(*c),
+        [] => false,
+    }
+}
+
+/// Whether the character is a digit and a letter.
+fn is_digit_letter(c: u8) -> bool
+    ensures { result ≡ is_digit_letter c }
+{
+    digit(c).is_some() && !is_decimal(c)
 }
 
 /// The item at the start of a text, after so many bytes: the byte that it is, if it is one, and what is left.
@@ -142,7 +219,8 @@ pub(crate) fn item(form: Form, count: usize, text: &[u8]) -> Option<(Option<u8>,
 {
     match form {
         Form::Source(style) => source_item(style, text),
-        Form::Plain | Form::Colons | Form::Spaces => line_item(form, count, text),
+        Form::Words => None,
+        _ => line_item(form, count, text),
     }
 }
 
@@ -153,7 +231,7 @@ fn line_item(form: Form, count: usize, text: &[u8]) -> Option<(Option<u8>, &[u8]
     ensures less { IfSome result (λ p. length p.1.now < length text.now) }
 {
     match text {
-        [_, rest @ ..] if has_characters(form, text) => Some((None, after_line(rest))),
+        [_, rest @ ..] if has_characters(form, count, text) => Some((None, after_line(rest))),
         _ => plain_item(form, count, text),
     }
 }
@@ -167,10 +245,51 @@ fn plain_item(form: Form, count: usize, text: &[u8]) -> Option<(Option<u8>, &[u8
     match text {
         [b'\n', rest @ ..] => Some((None, at_line(form, count, rest)?)),
         [c, rest @ ..] if is_gap(*c) => Some((None, rest)),
-        [c, d, rest @ ..] if is_mark(*c, *d) && begins_byte(rest) => Some((None, rest)),
-        [c, d, rest @ ..] => Some((Some(byte_of(*c, *d)?), rest)),
+        [c, d, rest @ ..] if marks_byte(*c, *d, rest) => Some((None, rest)),
+        [c, d, rest @ ..] => {
+            let (byte, left) = digits_in(form, *c, *d, rest)?;
+            Some((byte, left))
+        }
         _ => None,
     }
+}
+
+/// The byte of two digits, where their group isn't too long.
+#[tactic(auto, unfolding(crate::specs::HexText::digits_in))]
+fn digits_in(form: Form, c: u8, d: u8, rest: &[u8]) -> Option<(Option<u8>, &[u8])>
+    ensures is { MatchOption result (digits_in form c d rest.now ≡ None) (λ p. digits_in form c d rest.now ≡ Some (p.0, p.1.now)) }
+    ensures within { IfSome result (λ p. length p.1.now ≤ length rest.now) }
+{
+    if is_too_long(form, rest) {
+        None
+    } else {
+        Some((Some(byte_of(c, d)?), rest))
+    }
+}
+
+/// Whether the characters of a line's bytes begin here.
+fn has_characters(form: Form, count: usize, text: &[u8]) -> bool
+    ensures { result ≡ has_characters form count text.now }
+{
+    match form {
+        Form::Plain | Form::Words | Form::Source(_) => false,
+        Form::Colons | Form::Groups | Form::Addresses(_) => has_two_spaces(text),
+        Form::Spaces => { begins_bar(text) || has_three_spaces(text) || has_no_item(count, text) }
+    }
+}
+
+/// Whether a bar is at the start of a text.
+fn begins_bar(text: &[u8]) -> bool
+    ensures { result ≡ (slice_index text.now 0 == 124) }
+{
+    matches!(text, [b'|', ..])
+}
+
+/// Whether nothing that a text without columns has is after two spaces.
+fn has_no_item(count: usize, text: &[u8]) -> bool
+    ensures { result ≡ has_no_item count text.now }
+{
+    has_two_spaces(text) && plain_item(Form::Plain, count, after_one(after_one(text))).is_none()
 }
 
 /// Whether the character is white space or a comma.
@@ -180,6 +299,13 @@ pub(crate) fn is_gap(c: u8) -> bool
     matches!(c, b'\t' | b'\n' | b'\r' | b' ' | b',')
 }
 
+/// Whether the characters are a mark, and a byte is after them.
+fn marks_byte(c: u8, d: u8, rest: &[u8]) -> bool
+    ensures { result ≡ (is_mark c d && begins_byte rest.now) }
+{
+    is_mark(c, d) && begins_byte(rest)
+}
+
 /// Whether the characters are `0x` or `\x`.
 fn is_mark(c: u8, d: u8) -> bool
     ensures { result ≡ is_mark c d }
@@ -187,12 +313,12 @@ fn is_mark(c: u8, d: u8) -> bool
     (c == b'0' || c == b'\\') && d == b'x'
 }
 
-/// Whether two digits are at the start of a text.
+/// Whether two digits are at the start of a text, and no third one.
 fn begins_byte(text: &[u8]) -> bool
     ensures { result ≡ begins_byte text.now }
 {
     match text {
-        [c, d, ..] => digit(*c).is_some() && digit(*d).is_some(),
+        [c, d, rest @ ..] => digit(*c).is_some() && digit(*d).is_some() && !begins_digit(rest),
         _ => false,
     }
 }

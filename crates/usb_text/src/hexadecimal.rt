@@ -2,21 +2,23 @@
 ghost use Rattle.std.specs.Prelude.{◌≡◌, slice_index};
 ghost use Rattle.usb_text.specs.SourceItems.{is_decimal};
 ghost use Rattle.std.specs.List.{list_all};
-ghost use Rattle.usb_text.specs.Hexadecimal.{array_style, bare_style, has_long_number, has_prefix, is_of_decimals, is_of_source, is_source, line_style, style_of, with_style};
+ghost use Rattle.usb_text.specs.Hexadecimal.{array_style, bare_style, has_long_number, has_prefix, has_suffix, is_of_decimals, is_of_source, is_source, line_style, style_of};
 ghost use Rattle.std.specs.Prelude.{IfErr, IfOk, ◌⊎◌};
 ghost use Rattle.usb_text.specs.Hexadecimal.{FaultyIn, HexIn, HexRefused, HexText, inner_of, source_form, source_of};
 
 use crate::bracket::{Bracket, bracket_of, has, within};
+use crate::column::{column_form, columns_of};
 use crate::comment::uncommented;
-use crate::hex_text::{Form, HexFault, form_of, read_in};
+use crate::hex_text::{Form, HexFault, begins_words, form_of, read_in};
+use crate::label::unlabelled;
 use crate::source_item::{Style, is_decimal, is_parting};
 use std::alloc::Global;
 
 /// The bytes of a hexadecimal text, one at least. Digits have either case. White space and commas may be between two
-/// bytes, and `0x` or `\x` before one. Offsets and characters in the columns of `xxd`, `hexdump -C` and Wireshark are
-/// left out, and each offset is the count of the bytes before it.
+/// bytes, and `0x` or `\x` before one. Offsets and characters in the columns of dumps and debuggers are left out, and each
+/// offset is the first one and the count of the bytes between.
 ///
-/// Another text is read without comments, and between its first bracket and the partner where it has brackets. Its bytes
+/// Another text is read without comments and labels, and between its first bracket and the partner where it has brackets. Its bytes
 /// are in strings (`"\x12\x01"`), have prefixes (`0x1`, `0X12`, `$12`), suffixes (`12h`, `0x12u`) or separators
 /// (`12:01`, `12-01`), or are decimal numbers in brackets.
 ///
@@ -54,11 +56,21 @@ fn read_source(alloc: Global, text: &[u8]) -> Result<Vec<u8>, HexFault>
     ensures ok { IfOk result (λ bytes. HexIn (source_form text.now) (source_of text.now) bytes.items) }
     ensures err { IfErr result (λ fault. (fault ≡ HexFault.Memory) ⊎ FaultyIn (source_form text.now) (source_of text.now) fault) }
 {
-    let code = uncommented(alloc, text)?;
-    let bracket = bracket_of(&code);
-    let inner = inner_of(alloc, bracket, code)?;
-    let form = with_style(style_of(bracket, &inner), form_of(&inner));
-    read_in(alloc, form, &inner)
+    match columns_of(text) {
+        Some(line) => read_in(alloc, column_form(line), text),
+        None => {
+            let code = uncommented(alloc, text)?;
+            let code = unlabelled(alloc, &code)?;
+            let bracket = bracket_of(&code);
+            let inner = inner_of(alloc, bracket, code)?;
+            let form = if begins_words(text) {
+                Form::Words
+            } else {
+                Form::Source(style_of(bracket, &inner))
+            };
+            read_in(alloc, form, &inner)
+        }
+    }
 }
 
 /// What is between the brackets of a text without comments, or all of it.
@@ -86,16 +98,6 @@ fn is_of_source(c: u8) -> bool
     (c >= 32 && c != 127) || c == b'\t' || c == b'\n' || c == b'\r'
 }
 
-/// A form with columns as it is, and else a style.
-fn with_style(style: Style, form: Form) -> Form
-    ensures { result ≡ with_style style form }
-{
-    match form {
-        Form::Colons | Form::Spaces => form,
-        Form::Plain | Form::Source(_) => Form::Source(style),
-    }
-}
-
 /// How a text has its bytes.
 fn style_of(bracket: Option<Bracket>, inner: &[u8]) -> Style
     ensures { result ≡ style_of bracket inner.now }
@@ -116,6 +118,13 @@ fn has_prefix(inner: &[u8]) -> bool
     has(b'x', inner) || has(b'X', inner) || has(b'$', inner)
 }
 
+/// Whether a text has a character of a suffix.
+fn has_suffix(inner: &[u8]) -> bool
+    ensures { result ≡ has_suffix inner.now }
+{
+    has(b'h', inner) || has(b'H', inner)
+}
+
 /// How a text has bytes without a prefix.
 fn bare_style(bracket: Option<Bracket>, inner: &[u8]) -> Style
     ensures { result ≡ bare_style bracket inner.now }
@@ -132,6 +141,8 @@ fn line_style(inner: &[u8]) -> Style
 {
     if has(b':', inner) || has(b'-', inner) {
         Style::Separated
+    } else if has_suffix(inner) {
+        Style::Suffixed
     } else {
         Style::Pairs
     }
@@ -141,7 +152,9 @@ fn line_style(inner: &[u8]) -> Style
 fn array_style(inner: &[u8]) -> Style
     ensures { result ≡ array_style inner.now }
 {
-    if !has_only_decimals(inner) {
+    if has_suffix(inner) {
+        Style::Suffixed
+    } else if !has_only_decimals(inner) {
         Style::Loose
     } else if has_long_number(inner) {
         Style::Decimals

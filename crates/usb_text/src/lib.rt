@@ -8,8 +8,8 @@
 //! - [`write_all`] writes bytes to a writer that may take a part of them at a time; [`OutFault`] is why it failed
 //!   (`specs/Output.antt`).
 //! - [`parse`] gives the bytes of a hexadecimal text as people copy it: digits alone or with marks and commas, the
-//!   columns of `xxd`, `hexdump -C` and Wireshark (`specs/HexText.antt`), or the source of a program
-//!   (`specs/Comments.antt`, `specs/Brackets.antt`, `specs/SourceItems.antt`); or the line and the column at which it
+//!   columns of dumps and debuggers (`specs/HexText.antt`, `specs/Columns.antt`), or the source of a program
+//!   (`specs/Comments.antt`, `specs/Labels.antt`, `specs/Brackets.antt`, `specs/SourceItems.antt`); or the line and the column at which it
 //!   is none (`specs/Hexadecimal.antt`). [`put_stop`] says that in words (`specs/Stops.antt`).
 #![tactic(auto)]
 
@@ -19,6 +19,7 @@ mod column;
 mod comment;
 mod hex_text;
 mod hexadecimal;
+mod label;
 mod laws;
 mod lines;
 mod numbers;

@@ -154,7 +154,7 @@ impl Page for Lines {
 
     ghost showing = { with_shown };
 
-    #[inline]
+    #[inline(always)]
     fn put(&mut self, words: &str) -> Result<(), AllocError>
         requires { IsTrue (is_words words.now) }
         ensures bytes { OnOk result (self.new ≡ with_bytes self.old words.now) }
@@ -163,7 +163,7 @@ impl Page for Lines {
         put!(self.text, self.text.put(words))
     }
 
-    #[inline]
+    #[inline(always)]
     fn put_name(&mut self, name: &str) -> Result<(), AllocError>
         requires { IsTrue (is_words name.now) }
         ensures bytes { OnOk result (self.new ≡ with_bytes self.old name.now) }
@@ -300,7 +300,7 @@ impl Page for Lines {
         put!(self.text, put_units_in(&mut self.text, self.utf8, bytes))
     }
 
-    #[inline]
+    #[inline(always)]
     fn end_line(&mut self) -> Result<(), AllocError>
         ensures bytes { OnOk result (self.new ≡ with_bytes self.old (10 ∷ [])) }
         ensures seen { OnOk result (written self.new ≡ more_lines 1 (written self.old)) }

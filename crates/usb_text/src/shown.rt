@@ -1,7 +1,7 @@
 //! The characters beyond ASCII that are shown, and units as a listing has them.
 ghost use Rattle.std.specs.Prelude.{◌≡◌, true, false, MatchOption};
 ghost use Rattle.std.specs.List.{list_any};
-ghost use Rattle.usb_text.specs.Characters.{has_code, hidden, is_shown};
+ghost use Rattle.usb_text.specs.Characters.{has_code, hidden, is_plain, is_shown};
 ghost use Rattle.std.specs.Prelude.{◌≡◌, ◌++◌, OnOk};
 ghost use Rattle.std.specs.List.{flat_map};
 ghost use Rattle.usb_text.specs.Characters.{written_unit, units_in};
@@ -102,13 +102,24 @@ pub(crate) fn put_escaped_in(text: &mut Text, b: &[u8]) -> Result<(), AllocError
 }
 
 /// Puts a unit of a string: its character, or a backslash and four digits.
+#[inline(always)]
 #[tactic(auto, unfolding(crate::specs::Characters::written_unit))]
 pub(crate) fn put_unit(text: &mut Text, unit: u16) -> Result<(), AllocError>
     ensures { OnOk result (text.new ≡ text.old ++ written_unit unit) }
 {
     if is_plain(unit) {
-        return text.put_bytes(&[unit as u8]);
+        return text.put_character(unit as u8);
     }
+    put_escape(text, unit)
+}
+
+/// The same of a unit that isn't written as its character, apart so that a character costs no call.
+#[inline(never)]
+#[tactic(auto, unfolding(crate::specs::Characters::written_unit))]
+fn put_escape(text: &mut Text, unit: u16) -> Result<(), AllocError>
+    requires { is_plain unit ≡ false }
+    ensures { OnOk result (text.new ≡ text.old ++ written_unit unit) }
+{
     text.put("\\")?;
     text.put_digits(&unit.to_be_bytes())
 }

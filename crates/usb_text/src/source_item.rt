@@ -1,9 +1,10 @@
 //! The items of a text that has bytes as the source of a program or another text has them.
-ghost use Rattle.std.specs.Prelude.{◌≡◌, ◌<◌, ◌≤◌, IfSome, MatchOption, None, Some, length, slice_index};
-ghost use Rattle.hex.specs.Hex.{is_hex_digit};
-ghost use Rattle.usb_text.specs.SourceItems.{after_backslash, decimal_item, decimals, ended_number, escape, escaped_item, loose_item, number, one_digit, pair_item, prefixed_item, separated_item, source_item};
-ghost use Rattle.usb_text.specs.SourceItems.{after_h, after_prefix, after_separator, after_suffix, begins_escape, begins_word, goes_on, is_decimal, is_letter, is_line_end, is_of_word, is_parting, is_quote};
+ghost use Rattle.std.specs.Prelude.{◌≡◌, ◌<◌, ◌≤◌, IfSome, MatchOption, None, Some, length};
+ghost use Rattle.std.specs.List.{list_all};
+ghost use Rattle.usb_text.specs.SourceItems.{after_backslash, decimal_item, decimals, ended_number, escape, escaped_item, loose_item, number, one_digit, pair_item, prefixed_item, separated_item, short_number, source_item, suffixed_item};
+ghost use Rattle.usb_text.specs.SourceItems.{after_prefix, after_separator, after_suffix, after_width, begins_escape, begins_line_end, begins_word, closing_item, ends_suffix, goes_on, is_closing, is_decimal, is_letter, is_line_end, is_of_word, is_parting, is_quote};
 
+use crate::column::begins_digit;
 use crate::hex_text::is_gap;
 use crate::numbers::{byte_of, digit};
 
@@ -14,7 +15,9 @@ pub(crate) enum Style {
     Escaped,
     /// Each after a prefix, as `0x12` or `$12`; one of one decimal digit may have none.
     Prefixed,
-    /// Each as two digits, maybe with `h` after them.
+    /// Each as two digits and `h`.
+    Suffixed,
+    /// Each as two digits.
     Pairs,
     /// Each as two digits, with colons or hyphens between them in a line.
     Separated,
@@ -32,6 +35,7 @@ pub(crate) fn source_item(style: Style, text: &[u8]) -> Option<(Option<u8>, &[u8
     match style {
         Style::Escaped => escaped_item(text),
         Style::Prefixed => prefixed_item(text),
+        Style::Suffixed => suffixed_item(text),
         Style::Pairs => pair_item(text),
         Style::Separated => separated_item(text),
         Style::Loose => loose_item(text),
@@ -47,6 +51,7 @@ fn escaped_item(text: &[u8]) -> Option<(Option<u8>, &[u8])>
 {
     match text {
         [b'\\', rest @ ..] => after_backslash(rest),
+        [b')', rest @ ..] => closing_item(rest),
         [c, rest @ ..] if is_quote(*c) || (is_parting(*c) && !begins_escape(rest)) => {
             Some((None, rest))
         }
@@ -55,7 +60,7 @@ fn escaped_item(text: &[u8]) -> Option<(Option<u8>, &[u8])>
 }
 
 /// Whether `\x` is at the start of a text.
-fn begins_escape(text: &[u8]) -> bool
+pub(crate) fn begins_escape(text: &[u8]) -> bool
     ensures { result ≡ begins_escape text.now }
 {
     matches!(text, [b'\\', b'x', ..])
@@ -167,7 +172,18 @@ fn after_suffix(text: &[u8]) -> &[u8]
     ensures within { length result.now ≤ length text.now }
 {
     match text {
-        [b'u' | b'U', rest @ ..] => rest,
+        [b'u' | b'U', rest @ ..] => after_width(rest),
+        _ => text,
+    }
+}
+
+/// What is left after an 8, if there is one.
+fn after_width(text: &[u8]) -> &[u8]
+    ensures is { result.now ≡ after_width text.now }
+    ensures within { length result.now ≤ length text.now }
+{
+    match text {
+        [b'8', rest @ ..] => rest,
         _ => text,
     }
 }
@@ -180,20 +196,31 @@ fn pair_item(text: &[u8]) -> Option<(Option<u8>, &[u8])>
 {
     match text {
         [c, rest @ ..] if is_parting(*c) || is_quote(*c) => Some((None, rest)),
-        [c, d, rest @ ..] => Some((Some(byte_of(*c, *d)?), after_h(rest))),
+        [b')', rest @ ..] => closing_item(rest),
+        [c, d, rest @ ..] => Some((Some(byte_of(*c, *d)?), rest)),
         _ => None,
     }
 }
 
-/// What is left after a suffix `h`, if there is one.
-fn after_h(text: &[u8]) -> &[u8]
-    ensures is { result.now ≡ after_h text.now }
-    ensures within { length result.now ≤ length text.now }
+/// The item among bytes of two digits and `h`.
+#[tactic(auto, unfolding(crate::specs::SourceItems::suffixed_item))]
+fn suffixed_item(text: &[u8]) -> Option<(Option<u8>, &[u8])>
+    ensures is { MatchOption result (suffixed_item text.now ≡ None) (λ p. suffixed_item text.now ≡ Some (p.0, p.1.now)) }
+    ensures less { IfSome result (λ p. length p.1.now < length text.now) }
 {
     match text {
-        [b'h' | b'H', rest @ ..] => rest,
-        _ => text,
+        [c, rest @ ..] if is_parting(*c) => Some((None, rest)),
+        [c, d, h, rest @ ..] if ends_suffix(*h, rest) => Some((Some(byte_of(*c, *d)?), rest)),
+        [b'0', _, _, h, tail @ ..] if ends_suffix(*h, tail) => Some((None, &text[1..])),
+        _ => None,
     }
+}
+
+/// Whether the character is the suffix `h`, with which a number ends.
+fn ends_suffix(c: u8, rest: &[u8]) -> bool
+    ensures { result ≡ ends_suffix c rest.now }
+{
+    (c == b'h' || c == b'H') && !begins_word(rest)
 }
 
 /// The item among bytes with colons or hyphens between them.
@@ -225,16 +252,6 @@ fn after_separator(text: &[u8]) -> Option<&[u8]>
     }
 }
 
-/// Whether a digit is at the start of a text.
-fn begins_digit(text: &[u8]) -> bool
-    ensures { result ≡ is_hex_digit (slice_index text.now 0) }
-{
-    match text {
-        [c, ..] => digit(*c).is_some(),
-        [] => false,
-    }
-}
-
 /// The item among numbers of an array.
 #[tactic(auto, unfolding(crate::specs::SourceItems::loose_item))]
 fn loose_item(text: &[u8]) -> Option<(Option<u8>, &[u8])>
@@ -243,7 +260,19 @@ fn loose_item(text: &[u8]) -> Option<(Option<u8>, &[u8])>
 {
     match text {
         [c, rest @ ..] if is_parting(*c) => Some((None, rest)),
-        _ => number(text),
+        _ => short_number(text),
+    }
+}
+
+/// The byte of one or two digits without a suffix.
+fn short_number(text: &[u8]) -> Option<(Option<u8>, &[u8])>
+    ensures is { MatchOption result (short_number text.now ≡ None) (λ p. short_number text.now ≡ Some (p.0, p.1.now)) }
+    ensures less { IfSome result (λ p. length p.1.now < length text.now) }
+{
+    match text {
+        [c, d, rest @ ..] if digit(*d).is_some() => ended_number(rest, byte_of(*c, *d)),
+        [c, rest @ ..] => ended_number(rest, digit(*c)),
+        [] => None,
     }
 }
 
@@ -287,13 +316,49 @@ pub(crate) fn is_parting(c: u8) -> bool
     is_gap(c) || c == b';'
 }
 
+/// The item of a closing parenthesis: all that is left, where nothing else is in it.
+fn closing_item(rest: &[u8]) -> Option<(Option<u8>, &[u8])>
+    ensures is { MatchOption result (closing_item rest.now ≡ None) (λ p. closing_item rest.now ≡ Some (p.0, p.1.now)) }
+    ensures less { IfSome result (λ p. length p.1.now ≤ length rest.now) }
+{
+    if closes(rest) {
+        Some((None, &[]))
+    } else {
+        None
+    }
+}
+
+/// Whether nothing but such characters is in a text.
+fn closes(text: &[u8]) -> bool
+    ensures { result ≡ list_all is_closing text.now }
+{
+    text.iter().all(|c| is_closing(*c))
+}
+
+/// Whether the character is a closing parenthesis, white space, a comma or a semicolon.
+fn is_closing(c: u8) -> bool
+    ensures { result ≡ is_closing c }
+{
+    c == b')' || is_parting(c)
+}
+
+/// Whether the end of a line is at the start of a text.
+pub(crate) fn begins_line_end(text: &[u8]) -> bool
+    ensures { result ≡ begins_line_end text.now }
+{
+    match text {
+        [c, ..] => is_line_end(*c),
+        [] => false,
+    }
+}
+
 fn is_line_end(c: u8) -> bool
     ensures { result ≡ is_line_end c }
 {
     c == b'\n' || c == b'\r'
 }
 
-fn is_quote(c: u8) -> bool
+pub(crate) fn is_quote(c: u8) -> bool
     ensures { result ≡ is_quote c }
 {
     c == b'"' || c == b'\''
@@ -305,7 +370,7 @@ pub(crate) fn is_decimal(c: u8) -> bool
     c >= b'0' && c <= b'9'
 }
 
-fn is_letter(c: u8) -> bool
+pub(crate) fn is_letter(c: u8) -> bool
     ensures { result ≡ is_letter c }
 {
     (c >= b'A' && c <= b'Z') || (c >= b'a' && c <= b'z') || c == b'_'

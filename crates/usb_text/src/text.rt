@@ -88,7 +88,7 @@ impl Text {
     /// # Errors
     ///
     /// Out of memory, here as in all that puts something.
-    #[inline]
+    #[inline(always)]
     pub fn put(&mut self, words: &str) -> Result<(), AllocError>
         ensures { OnOk result (self.new ≡ self.old ++ words.now) }
     {
@@ -96,7 +96,7 @@ impl Text {
     }
 
     /// Puts characters as they are, each of which is one byte.
-    #[inline]
+    #[inline(always)]
     pub fn put_bytes(&mut self, characters: &[u8]) -> Result<(), AllocError>
         ensures { OnOk result (self.new ≡ self.old ++ characters.now) }
     {

@@ -1,5 +1,5 @@
 use Rattle.std.proofs.Common.{◌≡◌, ◌≤◌, length}
-use Rattle.usb_text.specs.HexText.{after_all, is_zero}
+use Rattle.usb_text.specs.Columns.{after_all, is_zero}
 use Rattle.usb_text.proofs.column.after_zeros.Given as goal
 
 abbrev pub invariant-loop-rest : goal.invariant-loop-rest

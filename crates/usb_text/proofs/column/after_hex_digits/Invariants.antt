@@ -1,7 +1,7 @@
 use Rattle.std.proofs.Common.{◌≡◌, ◌≤◌, length}
 use Rattle.hex.specs.Hex.{is_hex_digit}
-use Rattle.usb_text.specs.HexText.{after_all}
-use Rattle.usb_text.proofs.column.after_digits.Given as goal
+use Rattle.usb_text.specs.Columns.{after_all}
+use Rattle.usb_text.proofs.column.after_hex_digits.Given as goal
 
 abbrev pub invariant-loop-rest : goal.invariant-loop-rest
 invariant-loop-rest l = (after_all is_hex_digit l.rest ≡ after_all is_hex_digit l.text) × (length l.rest ≤ length l.text)

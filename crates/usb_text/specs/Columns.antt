@@ -1,0 +1,230 @@
+-- The columns of a text that has them: on each line an offset, bytes and maybe their characters.
+--
+-- An offset is four digits or more. It is zero where the text begins, as `xxd`, `hexdump -C`, `od`, `objdump -s` and
+-- Wireshark have it, or an address before a colon, as a debugger has it. Each other one is the count of the bytes before it.
+use Rattle.std.specs.Prelude.{◌≡◌, ℕ, ◌+◌, ◌-◌, ◌*◌, ◌==◌, ◌||◌, ◌&&◌, Bool, false, not, nat_le, nat_lt, true, if◌then◌else◌, List, [], ◌∷◌, length, slice_index, Option, Some, None}
+use Rattle.hex.specs.Hex.{hex_digit_value, is_hex_digit}
+use Rattle.usb_text.specs.Comments.{is_before_line, is_fence}
+use Rattle.usb_text.specs.HexDigits.{is_gap}
+use Rattle.usb_text.specs.declared.hex_text.Form.{Form}
+use Rattle.usb_text.specs.declared.hex_text.Form.TheVariants.{Plain, Words, Colons, Spaces, Groups, Addresses, Source}
+
+abbrev pub is_zero : ℕ → Bool
+is_zero c = c == 48
+
+-- a space or a tab
+abbrev pub is_blank : ℕ → Bool
+is_blank c = (c == 32) || (c == 9)
+
+abbrev pub is_in_line : ℕ → Bool
+is_in_line c = not (c == 10)
+
+abbrev pub is_in_name : ℕ → Bool
+is_in_name c = not ((c == 10) || (c == 62))
+
+-- what is left after all leading characters of a kind
+unfoldable pub after_all : (ℕ → Bool) → List ℕ → List ℕ
+after_all is [] = []
+after_all is (c ∷ rest) = if is c then after_all is rest else c ∷ rest
+
+-- what is left after the first character
+abbrev pub after_one : List ℕ → List ℕ
+after_one [] = []
+after_one (c ∷ rest) = rest
+
+-- ---- offsets
+
+-- four characters or more were before what is left of a text
+abbrev pub is_offset : List ℕ → List ℕ → Bool
+is_offset text rest = nat_le (4 + length rest) (length text)
+
+-- what is left after `0x`, if that is there
+abbrev pub after_mark : List ℕ → List ℕ
+after_mark text = if (slice_index text 0 == 48) && (slice_index text 1 == 120) then after_one (after_one text) else text
+
+-- what is left after the name of an address, as in ` <name+8>`
+abbrev pub after_name : List ℕ → List ℕ
+after_name text =
+    if (slice_index text 0 == 32) && (slice_index text 1 == 60) then after_one (after_all is_in_name text) else text
+
+abbrev pub has_colon : List ℕ → Bool
+has_colon text = slice_index text 0 == 58
+
+-- a colon and a blank
+abbrev pub ends_address : List ℕ → Bool
+ends_address text = has_colon text && is_blank (slice_index text 1)
+
+abbrev pub after_colon : List ℕ → List ℕ
+after_colon text = if has_colon text then after_one text else text
+
+-- what is left after the digits of an offset
+abbrev pub after_digits : List ℕ → List ℕ
+after_digits text = after_all is_hex_digit (after_mark text)
+
+abbrev pub has_digits : List ℕ → Bool
+has_digits text = is_offset (after_mark text) (after_digits text)
+
+-- what is left after the offset of a line, a name, a colon and blanks
+abbrev pub after_offset : List ℕ → List ℕ
+after_offset text = if has_digits text then after_all is_blank (after_colon (after_name (after_digits text))) else text
+
+-- the value of an offset's digits so far, which grows no more from 2^56 on
+abbrev pub grown : ℕ → ℕ → ℕ → ℕ
+grown radix value digit = if nat_lt value 0x100_0000_0000_0000 then value * radix + digit else value
+
+abbrev pub with_digit : ℕ → ℕ → (ℕ → ℕ) → Option ℕ → ℕ
+with_digit radix value later None = value
+with_digit radix value later (Some digit) = if nat_lt digit radix then later (grown radix value digit) else value
+
+-- the value of the digits at the start of a text, after those that have a value already
+unfoldable pub offset_value : ℕ → ℕ → List ℕ → ℕ
+offset_value radix value [] = value
+offset_value radix value (c ∷ rest) = with_digit radix value (λ v. offset_value radix v rest) (hex_digit_value c)
+
+-- seven digits without a colon, as `od` writes offsets, which are octal
+abbrev pub is_octal : List ℕ → Bool
+is_octal text = (length text == 7 + length (after_digits text)) && not (has_colon (after_digits text))
+
+-- the line begins with the offset of this place
+abbrev pub has_offset : ℕ → List ℕ → Bool
+has_offset place text =
+    has_digits text
+    && ((offset_value 16 0 (after_mark text) == place) || (is_octal text && (offset_value 8 0 text == place)))
+
+-- ---- the form of a text with columns
+
+abbrev pub has_two_spaces : List ℕ → Bool
+has_two_spaces text = (slice_index text 0 == 32) && (slice_index text 1 == 32)
+
+abbrev pub has_three_spaces : List ℕ → Bool
+has_three_spaces text = has_two_spaces text && (slice_index text 2 == 32)
+
+-- four zeros or more, and a colon with a blank or a blank
+abbrev pub begins_zeros : List ℕ → Bool
+begins_zeros text =
+    let rest = after_all is_zero text in
+    is_offset text rest && (ends_address rest || is_blank (slice_index rest 0))
+
+-- an address, which has a colon after it
+abbrev pub begins_address : List ℕ → Bool
+begins_address text = has_digits text && ends_address (after_name (after_digits text))
+
+-- what is at the start of a line, after blanks and marks of quoted mail
+abbrev pub at_start : List ℕ → List ℕ
+at_start text = after_all is_before_line text
+
+-- the line after this one begins with four zeros too
+abbrev pub has_next_offset : List ℕ → Bool
+has_next_offset text =
+    let next = at_start (after_one (after_all is_in_line text)) in
+    is_offset next (after_all is_zero next)
+
+-- The line has characters after two spaces. Those of `od` begin with `>`.
+unfoldable pub has_text : List ℕ → Bool
+has_text [] = false
+has_text (c ∷ rest) =
+    if c == 10 then false
+    else if has_two_spaces (c ∷ rest) && nat_lt 32 (slice_index rest 1) then not (slice_index rest 1 == 62)
+    else has_text rest
+
+-- One blank after an offset of zeros: `objdump` has characters, `od` an offset on the next line. Of others nothing says
+-- that it is an offset.
+abbrev pub blank_form : List ℕ → Form
+blank_form rest = if has_text rest then Groups else if has_next_offset rest then Addresses 0 else Words
+
+abbrev pub zeros_form : List ℕ → Form
+zeros_form rest = if has_colon rest then Colons else if has_two_spaces rest then Spaces else blank_form rest
+
+-- the form of a text that begins with an offset
+abbrev pub column_form : List ℕ → Form
+column_form text =
+    if begins_zeros text then zeros_form (after_all is_zero text) else Addresses (offset_value 16 0 (after_mark text))
+
+abbrev pub begins_columns : List ℕ → Bool
+begins_columns text = begins_zeros text || begins_address text
+
+-- nothing is in the line
+abbrev pub is_empty_line : List ℕ → Bool
+is_empty_line [] = true
+is_empty_line (c ∷ rest) = (c == 10) || (c == 13)
+
+-- `00 01 02`, as the numbers of columns begin
+abbrev pub begins_numbers : List ℕ → Bool
+begins_numbers text =
+    (slice_index text 0 == 48) && (slice_index text 1 == 48) && (slice_index text 2 == 32)
+    && (slice_index text 3 == 48) && (slice_index text 4 == 49) && (slice_index text 5 == 32)
+    && (slice_index text 6 == 48) && (slice_index text 7 == 50)
+
+-- a gap or the end
+abbrev pub begins_gap : List ℕ → Bool
+begins_gap [] = true
+begins_gap (c ∷ rest) = is_gap c
+
+-- The line is empty, or no number is at its start, or it numbers the columns.
+abbrev pub is_heading : List ℕ → Bool
+is_heading text = is_empty_line text || not (begins_gap (after_all is_hex_digit text)) || begins_numbers text
+
+-- Where the columns of a text begin: at its first line with an offset, where only headings are before it.
+unfoldable pub columns_of : Bool → List ℕ → Option (List ℕ)
+columns_of starts [] = None
+columns_of starts (c ∷ rest) =
+    if starts && begins_columns (at_start (c ∷ rest)) then Some (at_start (c ∷ rest))
+    else if starts && not (is_heading (at_start (c ∷ rest))) then None
+    else columns_of (c == 10) rest
+
+abbrev pub is_some : Option (List ℕ) → Bool
+is_some None = false
+is_some (Some rest) = true
+
+abbrev pub has_columns : List ℕ → Bool
+has_columns text = is_some (columns_of true text)
+
+-- ---- the lines of a text with columns
+
+abbrev pub after_start : List ℕ → Option (List ℕ) → List ℕ
+after_start text None = text
+after_start text (Some line) = after_offset line
+
+-- what is left after the start of the first line with bytes
+abbrev pub in_line : Form → List ℕ → List ℕ
+in_line Plain text = text
+in_line Words text = text
+in_line Colons text = after_start text (columns_of true text)
+in_line Spaces text = after_start text (columns_of true text)
+in_line Groups text = after_start text (columns_of true text)
+in_line (Addresses base) text = after_start text (columns_of true text)
+in_line (Source style) text = text
+
+abbrev pub begins_fence : List ℕ → Bool
+begins_fence [] = false
+begins_fence (c ∷ rest) = is_fence c rest
+
+-- what is left after the offset of a line at this place; none where it has another offset or none
+abbrev pub at_offset : ℕ → List ℕ → Option (List ℕ)
+at_offset place text =
+    let line = at_start text in
+    if has_offset place line then Some (after_offset line)
+    else if is_empty_line line then Some line
+    else if begins_fence line then Some (after_all is_in_line line)
+    else None
+
+-- what is left after the start of a later line, before which are so many bytes
+abbrev pub at_line : Form → ℕ → List ℕ → Option (List ℕ)
+at_line Plain count text = Some text
+at_line Words count text = Some text
+at_line Colons count text = at_offset count text
+at_line Spaces count text = at_offset count text
+at_line Groups count text = at_offset count text
+at_line (Addresses base) count text = at_offset (base + count) text
+at_line (Source style) count text = Some text
+
+-- After a byte its group goes on for longer than the form has it: `xxd` has two bytes in one, the others one. Of longer
+-- ones nothing says which byte is first; `objdump` writes them in order.
+abbrev pub is_too_long : Form → List ℕ → Bool
+is_too_long Plain rest = false
+is_too_long Words rest = false
+is_too_long Colons rest = is_hex_digit (slice_index rest 0) && is_hex_digit (slice_index rest 1) && is_hex_digit (slice_index rest 2)
+is_too_long Spaces rest = is_hex_digit (slice_index rest 0)
+is_too_long Groups rest = false
+is_too_long (Addresses base) rest = is_hex_digit (slice_index rest 0)
+is_too_long (Source style) rest = false
