@@ -1,5 +1,5 @@
 -- What bytes that are no input look like.
-use Rattle.std.specs.Prelude.{◌≡◌, ℕ, zero, suc, ◌+◌, ◌%◌, List, [], ◌∷◌, length, take, drop, slice_index, Bool, true, false, not, nat_le, ◌==◌, ◌&&◌, ◌||◌, Option, Some, None, if◌then◌else◌}
+use Rattle.std.specs.Prelude.{◌≡◌, ℕ, zero, suc, ◌+◌, ◌%◌, List, [], ◌∷◌, length, take, drop, slice_index, Bool, true, false, not, nat_le, ◌==◌, ◌&&◌, ◌||◌, ◌⊎◌, Option, Some, None, if◌then◌else◌}
 use Rattle.std.specs.List.{list_all}
 use Rattle.usb_fields.specs.Bytes.{AreBytes, little_endian_at}
 use Rattle.usb_file_data.specs.declared.file.DescriptorFile.{DescriptorFile}
@@ -10,6 +10,7 @@ use Rattle.usb_file_data.specs.declared.fault.InputFault.{InputFault}
 use Rattle.usb_file_data.specs.declared.fault.InputFault.TheVariants as faults
 use Rattle.usb_file_data.specs.declared.likeness.Likeness.{Likeness}
 use Rattle.usb_file_data.specs.declared.likeness.Likeness.TheVariants as likes
+use Rattle.usb_file_data.specs.File.{File}
 use Rattle.usb_file_data.specs.Inputs.{Dump}
 use Rattle.usb_file_data.specs.FileFaults.{FileFaulty}
 
@@ -31,10 +32,11 @@ abbrev pub is_empty_string : List ℕ → Bool
 is_empty_string b = (slice_index b 0 == 2) && (slice_index b 1 == 3)
 
 -- Bytes go on after a dump: no string descriptor is at the place of the fault, where the sets end that bNumConfigurations
--- of the device counts (USB 2.0, 9.6.1). So the language list was due there.
+-- of the device counts (USB 2.0, 9.6.1). So the language list was due there. A wrong qualifier is always right after those sets.
 abbrev pub goes_on_after_dump : FileWhy → ℕ → List ℕ → Bool
 goes_on_after_dump files.Text at b =
     (length (drop at b) == length (after_sets (slice_index b 17) (drop 18 b))) && not (is_empty_string (drop at b))
+goes_on_after_dump files.Qualifier at b = true
 goes_on_after_dump why at b = false
 
 -- a BOS descriptor is of type 15 and has 5 bytes (USB 3.2, 9.6.2)
@@ -81,6 +83,25 @@ is_usbmon_frame b =
     nat_le 64 (length b) && ((slice_index b 8 == 0x53) || (slice_index b 8 == 0x43) || (slice_index b 8 == 0x45))
     && nat_le (slice_index b 9) 3 && (little_endian_at b 36 == length (drop 64 b)) && (little_endian_at b 38 == 0)
 
+-- The type of a descriptor that stands in an input behind others: interface, endpoint, qualifier, association (USB 2.0, table
+-- 9-5, and the association's ECN), HID (HID 1.11, 7.1), those of a class for an interface and an endpoint, and hub (11.23.2).
+abbrev pub is_inner_type : ℕ → Bool
+is_inner_type kind =
+    (kind == 4) || (kind == 5) || (kind == 6) || (kind == 11) || (kind == 0x21) || (kind == 0x24) || (kind == 0x25) || (kind == 0x29)
+
+-- the bytes begin with such a descriptor, which is all there
+abbrev pub begins_inside : List ℕ → Bool
+begins_inside b = is_inner_type (slice_index b 1) && nat_le 3 (slice_index b 0) && nat_le (slice_index b 0) (length b)
+
+-- The bytes are the setup packet of a standard request, by bmRequestType to a device, an interface or an endpoint and bRequest
+-- up to 12 (USB 2.0, 9.3 and table 9-4).
+abbrev pub is_standard_request : List ℕ → Bool
+is_standard_request b = (length b == 8) && nat_le (slice_index b 0 % 128) 2 && nat_le (slice_index b 1) 12
+
+-- a fragment of an input
+abbrev pub is_fragment : List ℕ → Bool
+is_fragment b = begins_inside b || is_standard_request b
+
 -- such a frame, where the bytes look like one
 abbrev pub frame_likeness : List ℕ → Option Likeness
 frame_likeness b = if is_usbmon_frame b then Some (likes.UsbmonFrame (length (drop 64 b))) else None
@@ -96,6 +117,7 @@ file_likeness fault (x ∷ rest) =
     else if is_bos b then Some likes.Bos
     else if is_string b then Some likes.StringDescriptor
     else if is_report b then Some likes.Report
+    else if is_fragment b then Some likes.Fragment
     else None
 
 -- What bytes with this fault look like: a frame or nothing, where they are read as a set by their second byte.
@@ -103,17 +125,23 @@ abbrev pub likeness_of : InputFault → List ℕ → Option Likeness
 likeness_of (faults.File fault) b = file_likeness fault b
 likeness_of fault b = frame_likeness b
 
--- the bytes before this place are a dump, and so many follow
-pub record DumpGoesOn (b : List ℕ) (at n : ℕ) : Type 0 where
+-- What these bytes before a fault are: a dump, and so an index is named. Before a wrong qualifier none may be; then they are a
+-- file, which ends with the sets of the device too.
+abbrev pub IsDumpBefore : FileWhy → DescriptorFile → List ℕ → Type 0
+IsDumpBefore files.Qualifier f b = Dump f b ⊎ (File f b × (f.other ≡ None) × (f.strings ≡ None))
+IsDumpBefore why f b = Dump f b
+
+-- the bytes before the place of this fault are a dump, and so many follow
+pub record DumpGoesOn (b : List ℕ) (fault : FileFault) (n : ℕ) : Type 0 where
   pub file : DescriptorFile
-  pub dump : Dump file (take at b)
-  pub more : length b ≡ at + n
+  pub dump : IsDumpBefore fault.why file (take fault.at b)
+  pub more : length b ≡ fault.at + n
 
 -- bytes that look like a dump and more are one up to the place of the fault that they show
 abbrev pub DumpsEndAtFaults : Type 0
 DumpsEndAtFaults =
     (b : List ℕ) (fault : FileFault) (n : ℕ) → AreBytes b → FileFaulty b fault.at fault.why → likeness_of (faults.File fault) b ≡ Some (likes.DumpAndMore n) →
-    DumpGoesOn b fault.at n
+    DumpGoesOn b fault n
 
 -- each dump that is followed by no string descriptor is seen
 abbrev pub DumpsAreSeen : Type 0

@@ -34,7 +34,7 @@ pub use std::alloc::AllocError as NoMemory;
 pub fn check(alloc: Global, f: &DescriptorFile) -> Result<Vec<Finding>, NoMemory>
     ensures { IfOk result (λ v. v.items ≡ findings f.now) }
 {
-    by_rule(alloc, walk_file(alloc, false, f)?.findings(alloc)?)
+    by_rule(alloc, &walk_file(alloc, false, f)?.in_order())
 }
 
 /// Everything in a dump that breaks a rule, in the order of [`check`]. From bcdUSB 0300 on it is of a SuperSpeed
@@ -52,7 +52,7 @@ pub fn check(alloc: Global, f: &DescriptorFile) -> Result<Vec<Finding>, NoMemory
 pub fn check_dump(alloc: Global, f: &DescriptorFile) -> Result<Vec<Finding>, NoMemory>
     ensures { IfOk result (λ v. v.items ≡ dump_findings f.now) }
 {
-    by_rule(alloc, walk_file(alloc, true, f)?.findings(alloc)?)
+    by_rule(alloc, &walk_file(alloc, true, f)?.in_order())
 }
 
 /// Everything in a set alone that breaks a rule, in the order of [`check`]: it is the only set of its part, the main one
@@ -71,7 +71,7 @@ pub fn check_dump(alloc: Global, f: &DescriptorFile) -> Result<Vec<Finding>, NoM
 pub fn check_set(alloc: Global, c: &Configuration) -> Result<Vec<Finding>, NoMemory>
     ensures { IfOk result (λ v. v.items ≡ set_findings c.now) }
 {
-    by_rule(alloc, walk_set(alloc, c)?.findings(alloc)?)
+    by_rule(alloc, &walk_set(alloc, c)?.in_order())
 }
 
 /// Everything in an input that breaks a rule of chapter 9: [`check_set`] of a set, [`check`] of a file and
@@ -89,7 +89,7 @@ pub fn check_set(alloc: Global, c: &Configuration) -> Result<Vec<Finding>, NoMem
 pub fn check_input(alloc: Global, input: &Input) -> Result<Vec<Finding>, NoMemory>
     ensures { IfOk result (λ findings. findings.items ≡ input_findings input.now) }
 {
-    by_rule(alloc, walk(alloc, input)?.findings(alloc)?)
+    by_rule(alloc, &walk(alloc, input)?.in_order())
 }
 
 /// What [`check_input`] finds, in the order of the bytes: at each descriptor the rules that it breaks, and why.

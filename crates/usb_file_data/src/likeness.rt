@@ -1,7 +1,7 @@
 //! What bytes that are no input look like.
 ghost use Rattle.std.specs.Prelude.{◌≡◌};
 ghost use Rattle.std.specs.List.{list_all};
-ghost use Rattle.usb_file_data.specs.Likeness.{after_sets, are_languages, begins_usage, file_likeness, frame_likeness, goes_on_after_dump, is_bos, is_empty_string, is_of_language, is_of_text, is_report, is_string, is_text, is_usbmon_frame, likeness_of, names_languages};
+ghost use Rattle.usb_file_data.specs.Likeness.{after_sets, are_languages, begins_inside, begins_usage, file_likeness, frame_likeness, goes_on_after_dump, is_bos, is_empty_string, is_fragment, is_inner_type, is_of_language, is_of_text, is_report, is_standard_request, is_string, is_text, is_usbmon_frame, likeness_of, names_languages};
 
 use crate::fault::{FileFault, FileWhy, InputFault};
 use usb_fields::{after, byte_at, descriptor_length, descriptor_type, word_at};
@@ -42,6 +42,9 @@ pub enum Likeness {
     StringDescriptor,
     /// A report descriptor, by its first two items: a Usage Page and a Usage (HID 1.11, 6.2.2).
     Report,
+    /// First a whole descriptor that stands behind others: interface, endpoint, qualifier, association, HID, of a class, hub; or the
+    /// setup packet of a standard request (USB 2.0, 9.3).
+    Fragment,
 }
 
 /// What bytes with this fault look like: a frame of usbmon where they are read as a set, and else the first of the likenesses
@@ -80,6 +83,8 @@ fn file_likeness(fault: FileFault, b: &[u8]) -> Option<Likeness>
         Some(Likeness::StringDescriptor)
     } else if is_report(b) {
         Some(Likeness::Report)
+    } else if is_fragment(b) {
+        Some(Likeness::Fragment)
     } else {
         None
     }
@@ -134,7 +139,7 @@ fn is_empty_string(b: &[u8]) -> bool
     byte_at(b, 0) == descriptor_length::HEAD && byte_at(b, 1) == descriptor_type::STRING
 }
 
-/// Whether the fault is that something else follows the sets of a dump where the language list was due.
+/// Whether the fault is that something else follows the sets of a dump, where the language list was due or a qualifier begins.
 fn goes_on_after_dump(fault: FileFault, b: &[u8]) -> bool
     ensures { result ≡ goes_on_after_dump fault.why fault.at b.now }
 {
@@ -144,6 +149,7 @@ fn goes_on_after_dump(fault: FileFault, b: &[u8]) -> bool
             let rest = after(b, fault.at);
             rest.len() == due.len() && !is_empty_string(rest)
         }
+        FileWhy::Qualifier => true,
         _ => false,
     }
 }
@@ -222,4 +228,32 @@ fn begins_usage(b: &[u8]) -> bool
         WIDE_USAGE => b.len() >= 3,
         _ => false,
     }
+}
+
+/// Whether a descriptor of this type stands in an input behind others (USB 2.0, table 9-5; HID 1.11, 7.1; USB 2.0, 11.23.2).
+fn is_inner_type(kind: u8) -> bool
+    ensures { result ≡ is_inner_type kind }
+{
+    matches!(kind, 4 | 5 | 6 | 11 | 0x21 | 0x24 | 0x25 | 0x29)
+}
+
+fn begins_inside(b: &[u8]) -> bool
+    ensures { result ≡ begins_inside b.now }
+{
+    let length = byte_at(b, 0);
+    is_inner_type(byte_at(b, 1)) && length >= 3 && usize::from(length) <= b.len()
+}
+
+/// Whether the bytes are the setup packet of a standard request (USB 2.0, table 9-4).
+fn is_standard_request(b: &[u8]) -> bool
+    ensures { result ≡ is_standard_request b.now }
+{
+    b.len() == 8 && byte_at(b, 0) % 128 <= 2 && byte_at(b, 1) <= 12
+}
+
+/// Whether the bytes begin like a fragment of an input.
+fn is_fragment(b: &[u8]) -> bool
+    ensures { result ≡ is_fragment b.now }
+{
+    begins_inside(b) || is_standard_request(b)
 }

@@ -4,6 +4,7 @@ ghost use Rattle.usb_fields.specs.Marks.{is_marked};
 ghost use Rattle.usb_file_data.specs.Findings.{by_rule, of_rule};
 ghost use Rattle.usb_file_data.specs.Places.{is_among};
 
+use crate::cause::Found;
 use crate::finding::Finding;
 use crate::rule::Rule;
 use std::alloc::{AllocError, Global};
@@ -12,25 +13,36 @@ use usb_fields::Marks;
 /// The number of the last rule.
 const LAST_RULE: u8 = 13;
 
-/// The findings rule by rule.
-pub(crate) fn by_rule(alloc: Global, findings: Vec<Finding>) -> Result<Vec<Finding>, AllocError>
-    ensures { IfOk result (λ v. v.items ≡ by_rule findings.items) }
+/// The findings rule by rule, without their causes.
+pub(crate) fn by_rule(alloc: Global, found: &[Found]) -> Result<Vec<Finding>, AllocError>
+    ensures { IfOk result (λ v. v.items ≡ by_rule (map (λ f. f.finding) found.now)) }
 {
-    if is_by_rule(&findings) {
-        Ok(findings)
+    if is_by_rule(found) {
+        in_order(alloc, found)
     } else {
-        sorted(alloc, &findings)
+        sorted(alloc, found)
     }
 }
 
-/// A copy of the findings, rule by rule.
-fn sorted(alloc: Global, findings: &[Finding]) -> Result<Vec<Finding>, AllocError>
-    ensures { IfOk result (λ v. v.items ≡ by_rule findings.now) }
+/// The findings as they come.
+fn in_order(alloc: Global, found: &[Found]) -> Result<Vec<Finding>, AllocError>
+    ensures { IfOk result (λ v. v.items ≡ map (λ f. f.finding) found.now) }
 {
-    let broken = broken_rules(findings);
-    let mut out = Vec::with_capacity(alloc, findings.len())?;
+    let mut findings = Vec::with_capacity(alloc, found.len())?;
+    for one in found {
+        findings.push(one.finding)?;
+    }
+    Ok(findings)
+}
+
+/// The findings sorted by their rules.
+fn sorted(alloc: Global, found: &[Found]) -> Result<Vec<Finding>, AllocError>
+    ensures { IfOk result (λ v. v.items ≡ by_rule (map (λ f. f.finding) found.now)) }
+{
+    let broken = broken_rules(found);
+    let mut out = Vec::with_capacity(alloc, found.len())?;
     for rule in Rule::ALL {
-        copy_of(rule, findings, &broken, &mut out)?;
+        copy_of(rule, found, &broken, &mut out)?;
     }
     Ok(out)
 }
@@ -38,31 +50,31 @@ fn sorted(alloc: Global, findings: &[Finding]) -> Result<Vec<Finding>, AllocErro
 /// Copies the findings of a rule, if it is one of the broken.
 fn copy_of(
     rule: Rule,
-    findings: &[Finding],
+    found: &[Found],
     numbers: &Marks,
     out: &mut Vec<Finding>,
 ) -> Result<(), AllocError>
-    requires { is_marked numbers.now ≡ is_among (map (λ f. f.rule) findings.now) }
-    ensures { OnOk result (out.new.items ≡ out.old.items ++ of_rule rule findings.now) }
+    requires { is_marked numbers.now ≡ is_among (map (λ f. f.finding.rule) found.now) }
+    ensures { OnOk result (out.new.items ≡ out.old.items ++ of_rule rule (map (λ f. f.finding) found.now)) }
 {
     if !numbers.has(rule.number()) {
         return Ok(());
     }
-    for finding in findings {
-        if finding.rule == rule.number() {
-            out.push(*finding)?;
+    for one in found {
+        if one.finding.rule == rule.number() {
+            out.push(one.finding)?;
         }
     }
     Ok(())
 }
 
 /// Whether the findings come rule by rule as they are.
-fn is_by_rule(findings: &[Finding]) -> bool
-    ensures { result ≡ true → by_rule findings.now ≡ findings.now }
+fn is_by_rule(found: &[Found]) -> bool
+    ensures { result ≡ true → by_rule (map (λ f. f.finding) found.now) ≡ map (λ f. f.finding) found.now }
 {
     let mut last = 1;
-    for finding in findings {
-        let number = finding.rule;
+    for one in found {
+        let number = one.finding.rule;
         if number < last || number > LAST_RULE {
             return false;
         }
@@ -72,12 +84,12 @@ fn is_by_rule(findings: &[Finding]) -> bool
 }
 
 /// The numbers of the rules that are broken.
-fn broken_rules(findings: &[Finding]) -> Marks
-    ensures { is_marked result ≡ is_among (map (λ f. f.rule) findings.now) }
+fn broken_rules(found: &[Found]) -> Marks
+    ensures { is_marked result ≡ is_among (map (λ f. f.finding.rule) found.now) }
 {
     let mut numbers = Marks::new();
-    for finding in findings {
-        numbers.add(finding.rule);
+    for one in found {
+        numbers.add(one.finding.rule);
     }
     numbers
 }

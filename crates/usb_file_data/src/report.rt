@@ -1,8 +1,7 @@
 //! What a walk over an input finds.
-ghost use Rattle.std.specs.Prelude.{◌≡◌, ◌++◌, [], map, IfOk, OnOk};
+ghost use Rattle.std.specs.Prelude.{◌≡◌, ◌++◌, [], OnOk};
 
 use crate::cause::{Cause, Found};
-use crate::finding::Finding;
 use crate::place::Place;
 use std::alloc::{AllocError, Global};
 use std::marker::Model;
@@ -56,16 +55,5 @@ impl Report {
         ensures { result.items ≡ self }
     {
         self.found
-    }
-
-    /// The findings without their causes.
-    pub(crate) fn findings(self, alloc: Global) -> Result<Vec<Finding>, AllocError>
-        ensures { IfOk result (λ v. v.items ≡ map (λ f. f.finding) self) }
-    {
-        let mut findings = Vec::with_capacity(alloc, self.found.len())?;
-        for found in &self.found {
-            findings.push(found.finding)?;
-        }
-        Ok(findings)
     }
 }

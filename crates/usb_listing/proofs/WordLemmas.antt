@@ -1,14 +1,16 @@
 -- On the first word of a line.
 use Rattle.std.proofs.Common.{◌≡◌, ◌≢◌, ℕ, zero, suc, ◌+◌, ◌<◌, ◌==◌, Bool, true, false, cond, List, [], ◌∷◌, ◌++◌, Option, Some, None, unwrap_or, length, take, drop, slice_index, refl, ap, sym, subst, ◌∙◌, arith}
 use Rattle.std.specs.Str.{bytes_eq}
-use Rattle.std.proofs.lemmas.Bool.{eqb-true, eq-eqb, ne_eqb}
+use Rattle.std.proofs.Math.Seq.{take-append_seam}
+use Rattle.std.proofs.lemmas.List.{take-append-drop}
+use Rattle.std.proofs.lemmas.Bool.{true≢false, eqb-true, eq-eqb}
 use Rattle.std.proofs.lemmas.Slice.Eq.{bytes_eq-Decides}
 use Rattle.memchr.specs.Find.{IsFirstByte, is_byte}
 use Rattle.usb_listing.specs.declared.word.Word.{Word}
 use Rattle.usb_listing.specs.declared.word.Word.TheVariants as words
 use Rattle.usb_listing.specs.declared.word.ExtraWord.TheVariants as extra
 use Rattle.usb_listing.specs.Words.{first_word, word_text}
-use Rattle.usb_listing.specs.inside.Rows.{all_extra_words, often_words, or_among, other_words, word_among, word_in}
+use Rattle.usb_listing.specs.inside.Rows.{all_extra_words, often_words, or_among, other_words, word_among, word_in, word_with, IsSplit, ends_word, likely_word}
 use Rattle.usb_listing.specs.inside.Walking.{Cut, HasNo}
 
 -- ---- a word and its text
@@ -68,23 +70,6 @@ byte_nowhere c text r is e = at (subst (IsFirstByte (is_byte c) text) e is)
 
 -- ---- the first word
 
--- what has no space is a word, up to a space or to the end
-first_before : (text rest : List ℕ) → HasNo 32 text → first_word (text ++ 32 ∷ rest) ≡ text
-first_before [] rest h = refl
-first_before (x ∷ text) rest h = rw (ne_eqb x 32 h.0) (ap (λ (xs : List ℕ). x ∷ xs) (first_before text rest h.1))
-
-first_all : (text : List ℕ) → HasNo 32 text → first_word text ≡ text
-first_all [] h = refl
-first_all (x ∷ text) h = rw (ne_eqb x 32 h.0) (ap (λ (xs : List ℕ). x ∷ xs) (first_all text h.1))
-
-pub space_found : (line : List ℕ) (r : Option ℕ) (n : ℕ) → IsFirstByte (is_byte 32) line r → r ≡ Some n → take n line ≡ first_word line
-space_found line r n is e =
-    let cut = byte_found 32 line r n is e in
-    sym (first_before (take n line) (drop (n + 1) line) cut.none) ∙ ap first_word (sym cut.parts)
-
-pub space_nowhere : (line : List ℕ) (r : Option ℕ) → IsFirstByte (is_byte 32) line r → r ≡ None → line ≡ first_word line
-space_nowhere line r is e = sym (first_all line (byte_nowhere 32 line r is e))
-
 -- a word with such a text behind it is the first word
 pub first_behind : (w : Word) (text : List ℕ) → first_word text ≡ [] → first_word (word_text w ++ text) ≡ word_text w
 first_behind words.Device text h = rw h refl
@@ -100,3 +85,89 @@ word_first (x ∷ line) = cases (x == 32) (word_first line)
         → x ∷ line ≡ cond b [] (x ∷ first_word line) ++ drop (length (cond b [] (x ∷ first_word line))) (x ∷ line)
     cases true ih = refl
     cases false ih = ap (λ (xs : List ℕ). x ∷ xs) ih
+
+-- after its first word a line ends, or a space follows
+pub word_end : (line : List ℕ) → first_word (drop (length (first_word line)) line) ≡ []
+word_end [] = refl
+word_end (x ∷ line) = cases (x == 32) refl (word_end line)
+  where
+    cases : (b : Bool) → (x == 32) ≡ b → first_word (drop (length (first_word line)) line) ≡ [] → first_word (drop (length (cond b [] (x ∷ first_word line))) (x ∷ line)) ≡ []
+    cases true is ih = rw is refl
+    cases false is ih = ih
+
+ended_word : (rest : List ℕ) → ends_word rest ≡ true → first_word rest ≡ []
+ended_word [] ends = refl
+ended_word (x ∷ rest) ends = let is : (x == 32) ≡ true = ends in rw is refl
+
+-- ---- a line that begins with a word
+
+-- where nothing or a space follows a text without a space, it is the first word
+pub first_split : (w : Word) (line rest : List ℕ) → IsSplit line (word_text w) rest → first_word line ≡ word_text w
+first_split w line rest split = ap first_word split.parts ∙ first_behind w rest (ended_word rest split.ends)
+
+pub split_is : (w : Word) (line rest : List ℕ) → IsSplit line (word_text w) rest → (word_in (first_word line) ≡ Some w) × (line ≡ first_word line ++ rest)
+split_is w line rest split =
+    let first = first_split w line rest split in
+    (ap word_in first ∙ word_again w, split.parts ∙ ap (λ (xs : List ℕ). xs ++ rest) (sym first))
+
+-- the letter of a word
+abbrev letter : Word → ℕ
+letter w = slice_index (word_text w) 0
+
+letter_again : (w : Word) → word_with (letter w) ≡ Some w
+letter_again (words.Extra extra.Raw) = refl
+letter_again (words.Extra extra.Association) = refl
+letter_again w = refl
+
+no_text : (w : Word) → [] ≢ word_text w
+no_text (words.Extra extra.Raw) e = cc
+no_text (words.Extra extra.Association) e = cc
+no_text w e = cc
+
+-- a line whose first word is one begins with its letter
+letter_of : (x : ℕ) (line : List ℕ) (w : Word) → first_word (x ∷ line) ≡ word_text w → word_with x ≡ Some w
+letter_of x line w e = cases (x == 32) e
+  where
+    cases : (b : Bool) → cond b [] (x ∷ first_word line) ≡ word_text w → word_with x ≡ Some w
+    cases true e = absurd (no_text w e)
+    cases false e = ap word_with (ap (λ (xs : List ℕ). slice_index xs 0) e) ∙ letter_again w
+
+none_where : (line : List ℕ) → ((w : Word) → first_word line ≢ word_text w) → word_in (first_word line) ≡ None
+none_where line h = cases (word_in (first_word line)) refl
+  where
+    cases : (o : Option Word) → word_in (first_word line) ≡ o → word_in (first_word line) ≡ None
+    cases None e = e
+    cases (Some w) e = absurd (h w (word_read (first_word line) w e))
+
+pub none_likely : (line : List ℕ) → likely_word line ≡ None → word_in (first_word line) ≡ None
+none_likely [] none = none_where [] no_text
+none_likely (x ∷ line) none = none_where (x ∷ line) (λ w e. let is = letter_of x line w e in cc)
+
+pub no_other : (line : List ℕ) (w : Word) → likely_word line ≡ Some w → first_word line ≢ word_text w → word_in (first_word line) ≡ None
+no_other [] w is other = none_where [] no_text
+no_other (x ∷ line) w is other =
+    none_where (x ∷ line) (λ v e. let same : v ≡ w = ap (λ (o : Option Word). unwrap_or o w) (sym (letter_of x line v e) ∙ is) in other (e ∙ ap word_text same))
+
+-- what is after a text that a line begins with
+pub is_split : (line word rest : List ℕ) → bytes_eq (take (length word) line) word ≡ true → rest ≡ drop (length word) line → ends_word rest ≡ true → IsSplit line word rest
+is_split line word rest begins is ends =
+    let front = (bytes_eq-Decides (take (length word) line) word).0 begins in
+    record { parts = sym (take-append-drop (length word) line) ∙ ap (λ (xs : List ℕ). xs ++ drop (length word) line) front ∙ ap (λ (xs : List ℕ). word ++ xs) (sym is); ends = ends }
+
+front_is : (line word : List ℕ) → first_word line ≡ word → take (length word) line ≡ word
+front_is line word e =
+    ap (λ (xs : List ℕ). take (length word) xs) (subst (λ (xs : List ℕ). line ≡ xs ++ drop (length xs) line) e (word_first line)) ∙ take-append_seam word (drop (length word) line)
+
+pub not_split : (line word : List ℕ) → bytes_eq (take (length word) line) word ≡ false → first_word line ≢ word
+not_split line word differs e = true≢false (sym ((bytes_eq-Decides (take (length word) line) word).1 (front_is line word e)) ∙ differs)
+
+-- where no space follows, the line's first word is longer
+more_word : (rest : List ℕ) → ends_word rest ≡ false → first_word rest ≢ []
+more_word [] more e = cc
+more_word (x ∷ rest) more e =
+    let is : (x == 32) ≡ false = more in
+    let here : first_word (x ∷ rest) ≡ x ∷ first_word rest = rw is refl in
+    cc
+
+pub not_ended : (line word rest : List ℕ) → rest ≡ drop (length word) line → ends_word rest ≡ false → first_word line ≢ word
+not_ended line word rest is more e = more_word rest more (ap first_word is ∙ subst (λ (xs : List ℕ). first_word (drop (length xs) line) ≡ []) e (word_end line))

@@ -1,5 +1,5 @@
 -- Which texts are listings, and what is wrong with the others.
-use Rattle.std.specs.Prelude.{◌≡◌, ◌≢◌, ℕ, ◌+◌, List, [], ◌∷◌, ◌++◌, length, Bool, true, false, is_none, Option, Some, None}
+use Rattle.std.specs.Prelude.{◌≡◌, ◌≢◌, ℕ, ◌+◌, ◌-◌, List, [], ◌∷◌, ◌++◌, get_or, length, map, Bool, true, false, is_none, Option, Some, None}
 use Rattle.std.specs.List.{list_all}
 use Rattle.usb_fields.specs.Numbers.{number_in}
 use Rattle.usb_file_data.specs.declared.file.DescriptorFile.{DescriptorFile}
@@ -12,6 +12,7 @@ use Rattle.usb_listing.specs.Says.{Item, Says}
 use Rattle.usb_listing.specs.declared.fault.ListWhy.{ListWhy}
 use Rattle.usb_listing.specs.contracts.fault.ListWhy.{the_type as list_whys}
 use Rattle.usb_listing.specs.declared.fault.ListWhy.TheVariants as whys
+use Rattle.usb_listing.specs.declared.fault.TheConstants.{LIST_MESSAGES}
 use Rattle.usb_listing.specs.Order.{IsOneMore, IsOrdered, MayStand, has_over, items_of}
 
 -- The text is the listing of the file, and the file has bytes.
@@ -122,8 +123,12 @@ pub data ListingOrFault (text : List ℕ) : Type 0 where
   is_listing : (f : DescriptorFile) → Lists text f → ListingOrFault text
   is_faulty : (line : ℕ) (why : ListWhy) → ListFaulty text line why → ListingOrFault text
 
--- The numbers of the faults.
+-- The numbers of the faults, and their messages.
 
 -- the number of what is wrong with a line
 abbrev pub why_number : ListWhy → ℕ
 why_number why = number_in list_whys why
+
+-- its message, for people
+abbrev pub why_message : ListWhy → List ℕ
+why_message why = get_or (map (λ message. message.now) LIST_MESSAGES) (why_number why - 1) []

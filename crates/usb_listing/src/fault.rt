@@ -1,36 +1,31 @@
 //! Why a text is no listing.
-ghost use Rattle.std.specs.Prelude.{◌≡◌};
-ghost use Rattle.usb_listing.specs.Listings.{why_number};
+ghost use Rattle.std.specs.Prelude.{◌≡◌, Some};
+ghost use Rattle.usb_listing.specs.Listings.{why_message, why_number};
 
+use std::{error, fmt};
 use thiserror::Error;
 
-/// What is wrong with a line of a listing. Of several that hold of one line the first is reported.
+/// What is wrong with a line of a listing. Of several that hold of one line the first is reported. Its `Display` is a message
+/// for people.
 ///
 /// ```rust
 /// assert_eq!(rt; ListWhy::TooLong.number(), 5);
 /// ```
-#[derive(Clone, Copy, Debug, Drop, Error, PartialEq, Eq, Hash)]
+#[derive(Clone, Copy, Debug, Drop, PartialEq, Eq, Hash)]
 pub enum ListWhy {
     /// The last line lacks its line feed, or a byte is none of 20 to 7e hexadecimal.
-    #[error("no whole line of printable text")]
     Line,
     /// The line begins with none of the ten words.
-    #[error("no known word")]
     Word,
     /// The word isn't allowed here.
-    #[error("the word can't stand here")]
     Place,
     /// A field is missing, superfluous or not in its form.
-    #[error("a field is missing, superfluous or not in its form")]
     Field,
     /// The descriptor takes its set over 65,535 bytes.
-    #[error("the set is over 65,535 bytes")]
     TooLong,
     /// The text ended and something is still due: the line is the one after the last.
-    #[error("the text ends before the file does")]
     Missing,
     /// Out of memory on this line.
-    #[error("out of memory")]
     Memory,
 }
 
@@ -41,7 +36,35 @@ impl ListWhy {
     {
         self as u8 + 1
     }
+
+    /// The message, for people.
+    pub fn message(self) -> &'static str
+        ensures { result.now ≡ why_message self }
+    {
+        LIST_MESSAGES[usize::from(self.number()) - 1]
+    }
 }
+
+/// The messages, in the order of the numbers.
+const LIST_MESSAGES: [&str; 7] = [
+    "no whole line of printable text",
+    "no known word",
+    "the word can't stand here",
+    "a field is missing, superfluous or not in its form",
+    "the set is over 65,535 bytes",
+    "the text ends before the file does",
+    "out of memory",
+];
+
+impl fmt::Display for ListWhy {
+    ghost output = { λ why. Some (why_message why) };
+
+    fn fmt<W: fmt::Write>(&self, f: &mut fmt::Formatter<W>) -> fmt::Result {
+        f.write_str(self.message())
+    }
+}
+
+impl error::Error for ListWhy {}
 
 /// A fault of a listing, and the line where it is.
 ///

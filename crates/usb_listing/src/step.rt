@@ -1,7 +1,8 @@
 //! A file so far, and the next line.
-ghost use Rattle.std.specs.Prelude.{◌≡◌, IfErr, IfOk, None, OnOk, Some, true};
+ghost use Rattle.std.specs.Prelude.{◌≡◌, ◌++◌, IfErr, IfOk, None, OnOk, Some, true};
 ghost use Rattle.usb_listing.specs.Says.{IsItem, fields, is_typed_raw};
 ghost use Rattle.usb_listing.specs.inside.Drafts.{AreHeld, Drafted, IsJudged, IsMisplaced, Stops, so_far};
+ghost use Rattle.usb_listing.specs.Words.{first_word};
 ghost use Rattle.usb_listing.specs.inside.Rows.{word_in, item_in, says_fields};
 ghost use Rattle.usb_listing.specs.inside.Growing.{may_stand};
 ghost use Rattle.usb_listing.specs.inside.Walking.{add, add_item, add_line};
@@ -11,7 +12,7 @@ use crate::draft::{Draft, add_described, add_languages, add_string, begin};
 use crate::fault::ListWhy;
 use crate::order::may_stand;
 use crate::row::{read_fields, read_languages, read_string};
-use crate::word::{ExtraWord, Word, split_word, word_of};
+use crate::word::{ExtraWord, Word, read_word};
 use std::alloc::Global;
 use usb_set::is_typed;
 
@@ -130,18 +131,19 @@ fn read_behind(
     }
 }
 
-/// The word that is written so, where it may come next.
-fn placed_word(draft: &Option<Draft>, first: &[u8]) -> Result<Word, ListWhy>
+/// The line's first word, where it may come next, and what is after it.
+fn placed_word<'l>(draft: &Option<Draft>, line: &'l [u8]) -> Result<(Word, &'l [u8]), ListWhy>
     requires { AreHeld draft.now }
-    ensures word { IfOk result (λ word. word_in first.now ≡ Some word) }
-    ensures may { IfOk result (λ word. may_stand (so_far draft.now) word ≡ true) }
-    ensures err { IfErr result (λ why. IsMisplaced (so_far draft.now) (word_in first.now) why) }
+    ensures word { IfOk result (λ p. word_in (first_word line.now) ≡ Some p.0) }
+    ensures parts { IfOk result (λ p. line.now ≡ first_word line.now ++ p.1.now) }
+    ensures may { IfOk result (λ p. may_stand (so_far draft.now) p.0 ≡ true) }
+    ensures err { IfErr result (λ why. IsMisplaced (so_far draft.now) (word_in (first_word line.now)) why) }
 {
-    let Some(word) = word_of(first) else {
+    let Some((word, text)) = read_word(line) else {
         return Err(ListWhy::Word);
     };
     if may_stand(draft, word) {
-        Ok(word)
+        Ok((word, text))
     } else {
         Err(ListWhy::Place)
     }
@@ -154,9 +156,8 @@ pub(crate) fn step(alloc: Global, draft: &mut Option<Draft>, line: &[u8]) -> Res
     ensures err { IfErr result (λ why. Stops (add_line (so_far draft.old) line.now) why) }
     ensures judged { IfErr result (λ why. IsJudged (so_far draft.old) line.now why) }
 {
-    let (first, text) = split_word(line);
-    match placed_word(draft, first) {
-        Ok(word) => read_behind(alloc, draft, word, text),
+    match placed_word(draft, line) {
+        Ok((word, text)) => read_behind(alloc, draft, word, text),
         Err(why) => Err(why),
     }
 }

@@ -1,15 +1,11 @@
 //! The words that the lines of a listing begin with.
-ghost use Rattle.std.specs.Prelude.{◌≡◌, ◌++◌, map};
+ghost use Rattle.std.specs.Prelude.{◌≡◌, ◌≢◌, ◌++◌, MatchOption, None, OnOk, Some};
 ghost use Rattle.usb_listing.specs.Words.{first_word, word_text};
-ghost use Rattle.usb_listing.specs.declared.word.Word.TheVariants as of_line;
-ghost use Rattle.usb_listing.specs.inside.Rows.{word_among, word_in};
-ghost use Rattle.std.specs.Prelude.{◌≡◌, ◌++◌, OnOk};
+ghost use Rattle.usb_listing.specs.inside.Rows.{IsSplit, ends_word, likely_word, word_in, word_with};
 ghost use Rattle.usb_listing.specs.Listing.{extra_line};
-ghost use Rattle.usb_listing.specs.Table.{extra_row};
 ghost use Rattle.usb_set.specs.declared.extra.Extra.TheVariants as extras;
 
 use crate::line::put_line_with_tail;
-use memchr::memchr;
 use std::alloc::AllocError;
 use usb_fields::Width;
 use usb_set::{ASSOCIATION_WIDTHS, Association, Extra, Raw};
@@ -38,88 +34,92 @@ pub(crate) enum Word {
     String,
 }
 
-/// The words of most lines.
-const OFTEN: [Word; 2] = [Word::Endpoint, Word::Interface];
-
-/// The words of the lines that are neither those nor of extras.
-const OTHERS: [Word; 6] = [
-    Word::String,
-    Word::Configuration,
-    Word::OtherSpeed,
-    Word::Device,
-    Word::Qualifier,
-    Word::Languages,
-];
-
 impl Word {
-    /// How the word is written.
-    fn text(self) -> &'static str
-        ensures { result.now ≡ word_text self }
+    /// The word that begins with the letter. No two begin with the same one.
+    #[inline(always)]
+    fn with_letter(letter: u8) -> Option<Word>
+        ensures { result ≡ word_with letter }
+    {
+        match letter {
+            b'a' => Some(Word::Extra(ExtraWord::Association)),
+            b'c' => Some(Word::Configuration),
+            b'd' => Some(Word::Device),
+            b'e' => Some(Word::Endpoint),
+            b'i' => Some(Word::Interface),
+            b'l' => Some(Word::Languages),
+            b'o' => Some(Word::OtherSpeed),
+            b'q' => Some(Word::Qualifier),
+            b'r' => Some(Word::Extra(ExtraWord::Raw)),
+            b's' => Some(Word::String),
+            _ => None,
+        }
+    }
+
+    /// What is after the word, where it is the line's first. Each text is compared apart, so that its length is known
+    /// and it is compared as integers.
+    #[inline(always)]
+    fn behind(self, line: &[u8]) -> Option<&[u8]>
+        ensures { MatchOption result (first_word line.now ≢ word_text self) (λ rest. IsSplit line.now (word_text self) rest.now) }
     {
         match self {
-            Word::Device => "device",
-            Word::Configuration => "configuration",
-            Word::OtherSpeed => "other_speed",
-            Word::Interface => "interface",
-            Word::Endpoint => "endpoint",
-            Word::Extra(word) => word.text(),
-            Word::Qualifier => "qualifier",
-            Word::Languages => "languages",
-            Word::String => "string",
+            Word::Device => behind(b"device", line),
+            Word::Configuration => behind(b"configuration", line),
+            Word::OtherSpeed => behind(b"other_speed", line),
+            Word::Interface => behind(b"interface", line),
+            Word::Endpoint => behind(b"endpoint", line),
+            Word::Extra(ExtraWord::Raw) => behind(b"raw", line),
+            Word::Extra(ExtraWord::Association) => behind(b"association", line),
+            Word::Qualifier => behind(b"qualifier", line),
+            Word::Languages => behind(b"languages", line),
+            Word::String => behind(b"string", line),
         }
     }
 }
 
-/// The one of these words that is written so.
+/// Whether a word ends before this: before nothing or a space.
 #[inline(always)]
-fn find_word(words: &[Word], text: &[u8]) -> Option<Word>
-    ensures { result ≡ word_among words.now text.now }
+fn ends_word(rest: &[u8]) -> bool
+    ensures { result ≡ ends_word rest.now }
 {
-    for word in words {
-        if text == word.text().as_bytes() {
-            return Some(*word);
-        }
+    match rest {
+        [] => true,
+        [first, ..] => *first == b' ',
     }
-    None
 }
 
-/// The one of these words of extras that is written so.
+/// What is after a word, where it is the line's first.
 #[inline(always)]
-fn find_extra_word(words: &[ExtraWord], text: &[u8]) -> Option<Word>
-    ensures { result ≡ word_among (map of_line.Extra words.now) text.now }
+#[tactic(auto, using(crate::proofs::WordLemmas::not_split))]
+fn behind<'l>(word: &[u8], line: &'l [u8]) -> Option<&'l [u8]>
+    ensures { MatchOption result (first_word line.now ≢ word.now) (λ rest. IsSplit line.now word.now rest.now) }
 {
-    for word in words {
-        if text == word.text().as_bytes() {
-            return Some(Word::Extra(*word));
-        }
-    }
-    None
+    let rest = line.strip_prefix(word)?;
+    if ends_word(rest) { Some(rest) } else { None }
 }
 
-/// The word that is written so.
-#[tactic(auto, unfolding(crate::specs::inside::Rows::word_in))]
-pub(crate) fn word_of(text: &[u8]) -> Option<Word>
-    ensures { result ≡ word_in text.now }
+/// The only word that the line may begin with.
+#[inline(always)]
+fn likely_word(line: &[u8]) -> Option<Word>
+    ensures { result ≡ likely_word line.now }
 {
-    if let Some(word) = find_word(&OFTEN, text) {
-        return Some(word);
+    match line {
+        [] => None,
+        [letter, ..] => Word::with_letter(*letter),
     }
-    if let Some(word) = find_extra_word(&EXTRA_WORDS, text) {
-        return Some(word);
-    }
-    find_word(&OTHERS, text)
 }
 
 /// The line's first word, and what is after it.
-#[tactic(auto, using(crate::proofs::WordLemmas::space_found, crate::proofs::WordLemmas::space_nowhere))]
-pub(crate) fn split_word(line: &[u8]) -> (&[u8], &[u8])
-    ensures first { result.0.now ≡ first_word line.now }
-    ensures parts { line.now ≡ result.0.now ++ result.1.now }
+#[tactic(auto, using(crate::proofs::WordLemmas::split_is, crate::proofs::WordLemmas::none_likely, crate::proofs::WordLemmas::no_other))]
+pub(crate) fn read_word(line: &[u8]) -> Option<(Word, &[u8])>
+    ensures { MatchOption result (word_in (first_word line.now) ≡ None) (λ p. (word_in (first_word line.now) ≡ Some p.0) × (line.now ≡ first_word line.now ++ p.1.now)) }
 {
-    match memchr(b' ', line) {
-        Some(end) => (&line[..end], &line[end..]),
-        None => (line, &[]),
-    }
+    let Some(word) = likely_word(line) else {
+        return None;
+    };
+    let Some(rest) = word.behind(line) else {
+        return None;
+    };
+    Some((word, rest))
 }
 
 /// The word of a line whose descriptor belongs to the one before it.
@@ -130,9 +130,6 @@ pub(crate) enum ExtraWord {
     /// `association`, of an interface association descriptor.
     Association,
 }
-
-/// All of them, those of most lines first.
-pub(crate) const EXTRA_WORDS: [ExtraWord; 2] = [ExtraWord::Raw, ExtraWord::Association];
 
 /// The widths of the fields that the line of a raw descriptor has before its body: bDescriptorType.
 pub(crate) const RAW_WIDTHS: [Width; 1] = [Width::One];
@@ -160,19 +157,6 @@ macro_rules! with_extra_row {
             }
         }
     };
-}
-
-impl ExtraWord {
-    /// How the word is written.
-    #[inline]
-    pub fn text(self) -> &'static str
-        ensures { result.now ≡ (extra_row self).word }
-    {
-        match self {
-            ExtraWord::Raw => "raw",
-            ExtraWord::Association => "association",
-        }
-    }
 }
 
 #[tactic(auto, unfolding(crate::specs::Listing::extra_line))]

@@ -1,9 +1,10 @@
 -- The descriptor of a line, read: what stands after the first word.
-use Rattle.std.specs.Prelude.{ℕ, List, [], ◌∷◌, map, if◌then◌else◌, Option, Some, None, ◌==◌, option_and_then, drop, length, is_some, Bool}
+use Rattle.std.specs.Prelude.{ℕ, List, [], ◌∷◌, map, if◌then◌else◌, Option, Some, None, ◌==◌, option_and_then, drop, length, is_some, Bool, true, ◌≡◌, ◌++◌}
 use Rattle.std.specs.Str.{bytes_eq}
 use Rattle.usb_listing.specs.Table.{extra_words, Row}
 use Rattle.usb_listing.specs.declared.word.Word.{Word}
 use Rattle.usb_listing.specs.declared.word.Word.TheVariants as words
+use Rattle.usb_listing.specs.declared.word.ExtraWord.TheVariants as extra
 use Rattle.usb_listing.specs.Words.{word_text, first_word}
 use Rattle.std.specs.Option.{option_map}
 use Rattle.usb_listing.specs.declared.row.Written.TheVariants as forms
@@ -35,6 +36,36 @@ or_among (Some w) ws text = Some w
 -- the word that is written so, if there is one
 unfoldable pub word_in : List ℕ → Option Word
 word_in text = or_among (or_among (word_among often_words text) all_extra_words text) other_words text
+
+-- the word that begins with the letter
+abbrev pub word_with : ℕ → Option Word
+word_with letter =
+    if letter == 97 then Some (words.Extra extra.Association)
+    else if letter == 99 then Some words.Configuration
+    else if letter == 100 then Some words.Device
+    else if letter == 101 then Some words.Endpoint
+    else if letter == 105 then Some words.Interface
+    else if letter == 108 then Some words.Languages
+    else if letter == 111 then Some words.OtherSpeed
+    else if letter == 113 then Some words.Qualifier
+    else if letter == 114 then Some (words.Extra extra.Raw)
+    else if letter == 115 then Some words.String
+    else None
+
+-- the only word that a line may begin with
+abbrev pub likely_word : List ℕ → Option Word
+likely_word [] = None
+likely_word (x ∷ line) = word_with x
+
+-- whether a word ends before this
+abbrev pub ends_word : List ℕ → Bool
+ends_word [] = true
+ends_word (x ∷ rest) = x == 32
+
+-- the line begins with the word, and then this follows: nothing, or a space first
+pub record IsSplit (line word rest : List ℕ) : Type 0 where
+  pub parts : line ≡ word ++ rest
+  pub ends : ends_word rest ≡ true
 
 -- the bytes of a descriptor of this row
 abbrev pub row_bytes : Option Row → List ℕ → Option (List ℕ)

@@ -1,11 +1,11 @@
-use Rattle.std.proofs.Common.{◌≡◌, ◌≤◌, take}
+use Rattle.std.proofs.Common.{◌≡◌, ◌≤◌, map, take}
 use Rattle.usb_file_data.specs.Findings.{by_rule}
 use Rattle.usb_file_data.proofs.Sorting.{EndsAt}
 use Rattle.usb_file_data.proofs.order.is_by_rule.Given as goal
 
-abbrev pub invariant-loop-finding : goal.invariant-loop-finding
-invariant-loop-finding l = record {
+abbrev pub invariant-loop-one : goal.invariant-loop-one
+invariant-loop-one l = record {
   some : 1 ≤ l.last;
-  ends : EndsAt l.last (take l.finding-index l.findings);
-  same : by_rule (take l.finding-index l.findings) ≡ take l.finding-index l.findings;
+  ends : EndsAt l.last (map (λ f. f.finding) (take l.one-index l.found));
+  same : by_rule (map (λ f. f.finding) (take l.one-index l.found)) ≡ map (λ f. f.finding) (take l.one-index l.found);
 }
