@@ -16,7 +16,7 @@ use Rattle.usb_text.proofs.WrittenLines.{less_more, lines_more, no_lines_written
 use Rattle.usb_explain.specs.Descriptors.{found_lines, fields, heading, heading_shown, lines_of}
 use Rattle.usb_explain.specs.declared.manner.Manner.{Manner}
 use Rattle.usb_explain.specs.Explanations.{EndsBetween, beginning, descriptors_of, ending, explanation, first_line, found_of, last_line, rest_lines}
-use Rattle.usb_explain.specs.Faults.{fault_lines, fault_shown, likeness_line}
+use Rattle.usb_explain.specs.Faults.{fault_lines, fault_shown, likeness_line, seen_likeness}
 use Rattle.usb_file_data.specs.Likeness.{likeness_of}
 use Rattle.usb_explain.specs.Lines.{place_shown}
 use Rattle.usb_explain.specs.Outline.{Described, bytes_of}
@@ -210,8 +210,8 @@ ending_has m (Ok input) b at =
     let some = last_has (length (found_of (Ok input))) in
     omega (arith, parts, some)
 ending_has m (Err fault) b at =
-    let likeness = likeness_line (likeness_of fault b) in
-    let parts = ends_joined (fault_lines fault b) (rest_lines m.look at (drop at b)) in
+    let likeness = likeness_line (seen_likeness m.decoded (likeness_of fault b)) in
+    let parts = ends_joined (fault_lines m.decoded fault b) (rest_lines m.look at (drop at b)) in
     let fault_parts = ends_joined (fault_shown fault) (End ∷ likeness) in
     omega (arith, parts, fault_parts)
 

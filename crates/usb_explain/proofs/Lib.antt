@@ -2,6 +2,7 @@ pub mod Positions
 pub mod Outlines
 pub mod NumberedLemmas
 pub mod Explaining
+pub mod Fragments
 pub mod Telling
 pub mod Spans
 pub mod EndpointsShown

@@ -1,7 +1,8 @@
 -- What is remarked of a device, its qualifier, and a set: a release of USB that there is none of, a size of packets that the
 -- speed doesn't have, no set, too much current, and an association whose device doesn't say that it has some (USB 2.0, 5.5.3,
 -- 7.2.1, 9.6.1 and 9.6.3; USB 3.2, 9.6.1 and chapter 11; the association's ECN).
-use Rattle.std.specs.Prelude.{ℕ, List, [], ◌∷◌, Bool, true, false, nat_lt, not, ◌==◌, ◌&&◌, ◌||◌, Option, Some, None, option_and_then}
+use Rattle.std.specs.Prelude.{ℕ, List, [], ◌∷◌, Bool, true, false, nat_le, nat_lt, not, ◌==◌, ◌&&◌, ◌||◌, Option, Some, None, option_and_then}
+use Rattle.std.specs.Option.{option_or}
 use Rattle.usb_file_data.specs.declared.cause.Found.{Found}
 use Rattle.usb_names.specs.declared.codes.ClassCodes.{ClassCodes}
 use Rattle.usb_explain.specs.declared.speed.SetSpeed.{SetSpeed}
@@ -21,6 +22,21 @@ is_release usb =
 
 abbrev pub release_remark : ℕ → Option Remark
 release_remark usb = remark_if (not (is_release usb)) remarks.Release
+
+-- the same of a qualifier, whose release is 2.0 at least (9.6.2)
+abbrev pub qualifier_release_remark : ℕ → Option Remark
+qualifier_release_remark usb = option_or (release_remark usb) (remark_if (nat_lt usb 0x0200) remarks.OldQualifier)
+
+-- A class that interfaces alone have, by the list of base classes that the USB-IF keeps: audio, HID, physical, image, printer, mass
+-- storage, CDC data, smart card, content security, video, personal healthcare, and audio and video.
+abbrev pub is_of_interfaces : ℕ → Bool
+is_of_interfaces class =
+    (class == 1) || (class == 3) || (nat_le 5 class && nat_le class 8) || (class == 0x0a) || (class == 0x0b)
+    || (nat_le 0x0d class && nat_le class 0x10)
+
+-- such a class of a device or of a qualifier, whose class is then 00 (9.6.1)
+abbrev pub device_class_remark : ℕ → Option Remark
+device_class_remark class = remark_if (is_of_interfaces class) remarks.InterfaceClass
 
 -- The values of bMaxPacketSize0 at a speed that is known (5.5.3): at SuperSpeed it is the exponent of 512 (USB 3.2, 9.6.1).
 abbrev pub first_packets : SetSpeed → Option PacketSizes

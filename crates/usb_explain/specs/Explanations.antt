@@ -61,7 +61,7 @@ last_line n = if n == 0 then End ∷ [] else Number n ∷ End ∷ []
 -- is at fault with the bytes
 abbrev pub ending : Manner → Reading → List ℕ → ℕ → List Shown
 ending manner (Ok input) b at = rest_lines manner.look at (drop at b) ++ last_line (length (found_of (Ok input)))
-ending manner (Err fault) b at = fault_lines fault b ++ rest_lines manner.look at (drop at b)
+ending manner (Err fault) b at = fault_lines manner.decoded fault b ++ rest_lines manner.look at (drop at b)
 
 -- the first line and those of these descriptors
 abbrev pub beginning : Manner → Reading → List ℕ → List Described → List Shown

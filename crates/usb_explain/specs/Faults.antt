@@ -1,5 +1,5 @@
 -- The lines of the fault of a broken input: what is wrong, and what its bytes look like.
-use Rattle.std.specs.Prelude.{ℕ, List, [], ◌∷◌, ◌++◌, Option, Some, None}
+use Rattle.std.specs.Prelude.{ℕ, List, [], ◌∷◌, ◌++◌, Bool, true, false, Option, Some, None}
 use Rattle.usb_set.specs.Numbers.{why_number as set_why_number}
 use Rattle.usb_file_data.specs.declared.fault.InputFault.{InputFault}
 use Rattle.usb_file_data.specs.declared.fault.InputFault.TheVariants as faults
@@ -32,6 +32,11 @@ abbrev pub likeness_line : Option Likeness → List Shown
 likeness_line None = []
 likeness_line (Some likeness) = likeness_shown likeness ++ End ∷ []
 
+-- bytes that were decoded from text are not called text themselves
+abbrev pub seen_likeness : Bool → Option Likeness → Option Likeness
+seen_likeness true (Some likes.Text) = None
+seen_likeness decoded likeness = likeness
+
 -- both lines
-unfoldable pub fault_lines : InputFault → List ℕ → List Shown
-fault_lines fault b = fault_shown fault ++ End ∷ likeness_line (likeness_of fault b)
+unfoldable pub fault_lines : Bool → InputFault → List ℕ → List Shown
+fault_lines decoded fault b = fault_shown fault ++ End ∷ likeness_line (seen_likeness decoded (likeness_of fault b))

@@ -9,6 +9,7 @@ pub mod Findings
 pub mod Outline
 pub mod Numbered
 pub mod Explanations
+pub mod Fragments
 pub mod Faults
 pub mod Lines
 pub mod Uncovered
@@ -37,6 +38,8 @@ pub mod RemarkValues
 pub mod DeviceRemarks
 pub mod SettingRemarks
 pub mod ClassRemarks
+pub mod StringRemarks
+pub mod InterfaceNumbers
 pub mod Remarks
 pub mod RemarkLines
 pub mod inside

@@ -12,6 +12,7 @@ use Rattle.usb_explain.specs.declared.speed.SetSpeed.{SetSpeed}
 use Rattle.usb_explain.specs.Bindings.{bound_at}
 use Rattle.usb_explain.specs.Contexts.{codes_of, depth_of, rest_of_set, speed_of}
 use Rattle.usb_explain.specs.Findings.{found_at}
+use Rattle.usb_explain.specs.InterfaceNumbers.{missing_interface}
 use Rattle.usb_explain.specs.Owners.{owner_of}
 use Rattle.usb_explain.specs.RemarkPlaces.{place_in}
 use Rattle.usb_explain.specs.Roles.{next_role}
@@ -19,8 +20,8 @@ use Rattle.usb_explain.specs.SetStart.{entered}
 use Rattle.usb_explain.specs.Standings.{passed, start}
 
 -- A descriptor of an input: its place in bytes and among sets, settings and endpoints, its bytes, what it is, how deep and whose, its speed, and what is found there. Then
--- how many associations of its set come before it; the first one of its set that binds an interface of its number; what the
--- interface is that it follows; what the device is, or the qualifier for the sets after it; how many strings come before it; and
+-- how many associations of its set come before it; the first one of its set that binds an interface of its number; the first
+-- interface that it names and its set lacks; what the interface is that it follows; what the device is, or the qualifier for the sets after it; how many strings come before it; and
 -- the bytes of its set after it, where they are all there.
 pub record Described : Type 0 where
   pub at : ℕ
@@ -33,6 +34,7 @@ pub record Described : Type 0 where
   pub findings : List Found
   pub associations : ℕ
   pub association : Option ℕ
+  pub missing : Option ℕ
   pub interface : Option ClassCodes
   pub device : Option ClassCodes
   pub string : ℕ
@@ -51,6 +53,7 @@ described d = record {
   findings = d.findings.now;
   associations = d.associations;
   association = d.association;
+  missing = d.missing;
   interface = d.interface;
   device = d.device;
   string = d.string;
@@ -82,6 +85,7 @@ describe running e = record {
   findings = findings_of e;
   associations = e.standing.position.associations;
   association = bound_at e.standing.bindings (slice_index e.bytes 2);
+  missing = missing_interface e.standing.interfaces (codes_of e.standing.position) e.bytes;
   interface = codes_of e.standing.position;
   device = e.standing.codes;
   string = e.standing.position.strings;

@@ -23,13 +23,15 @@ speed_shown (remarks.Packet transfer speed sizes) = sizes_shown sizes
 speed_shown (remarks.FirstPacket speed sizes) = sizes_shown sizes
 speed_shown _ = []
 
--- those of one on a length or a current: what is said and what there is, what is needed and the most that there is, or the length
--- that is due and the one that there is
+-- those of one on a count: what is said and what there is, what is needed and the most that there is, the length that is due and
+-- the one that there is, an interface, or how many transactions need which size
 abbrev pub length_shown : Remark → List Shown
 length_shown (remarks.TotalLength declared found) = Number declared ∷ Number found ∷ []
 length_shown (remarks.Current needed most) = Number needed ∷ Number most ∷ []
 length_shown (remarks.HidLength due found) = Number due ∷ Number found ∷ []
 length_shown (remarks.ShortFunctional least found) = Number least ∷ Number found ∷ []
+length_shown (remarks.MissingInterface interface) = Number interface ∷ []
+length_shown (remarks.SmallMultiple transactions least) = Number transactions ∷ Number least ∷ []
 length_shown _ = []
 
 -- the numbers of a remark, which are of one of the two kinds if there are any

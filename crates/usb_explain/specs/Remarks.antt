@@ -1,7 +1,7 @@
 -- What is remarked of a descriptor: what can't be at the speed of its set, values that the standard reserves (USB 2.0,
 -- 5.5.3, 5.6.3, 5.7.3, 5.8.3, 9.6.5 and 9.6.6; the association's ECN), the length that a class header has, and what the standards
 -- of devices, settings and classes ask for.
-use Rattle.std.specs.Prelude.{ℕ, List, [], ◌++◌, slice_index, Bool, true, false, nat_le, not, ◌==◌, ◌&&◌, ◌||◌, ◌/◌, ◌%◌, Option, Some, None, option_and_then, if◌then◌else◌, ◌≡◌, is_some}
+use Rattle.std.specs.Prelude.{ℕ, ◌+◌, List, [], ◌++◌, slice_index, Bool, true, false, nat_le, nat_lt, not, ◌==◌, ◌&&◌, ◌||◌, ◌/◌, ◌%◌, Option, Some, None, option_and_then, if◌then◌else◌, ◌≡◌, is_some}
 use Rattle.std.specs.Option.{option_or}
 use Rattle.usb_fields.specs.Bytes.{little_endian_at}
 use Rattle.usb_set.specs.declared.endpoint.TransferType.{TransferType}
@@ -19,9 +19,10 @@ use Rattle.usb_explain.specs.declared.remark.Remark.{Remark}
 use Rattle.usb_explain.specs.declared.remark.Remark.TheVariants as remarks
 use Rattle.usb_explain.specs.Headers.{header_remark}
 use Rattle.usb_explain.specs.RemarkValues.{is_size, remark_if, there}
-use Rattle.usb_explain.specs.DeviceRemarks.{association_remark, count_remark, packet_remark, power_remark, release_remark}
-use Rattle.usb_explain.specs.SettingRemarks.{default_remark, empty_remark, setting_remark}
-use Rattle.usb_explain.specs.ClassRemarks.{functional_remark, hid_length_remark, hid_place_remark, hid_report_remark}
+use Rattle.usb_explain.specs.DeviceRemarks.{association_remark, count_remark, device_class_remark, packet_remark, power_remark, qualifier_release_remark, release_remark}
+use Rattle.usb_explain.specs.SettingRemarks.{association_place_remark, default_remark, empty_remark, pipe_remark, setting_remark}
+use Rattle.usb_explain.specs.ClassRemarks.{class_release_remark, functional_remark, hid_length_remark, hid_report_remark, late_remark}
+use Rattle.usb_explain.specs.StringRemarks.{languages_remark, text_remark}
 
 -- ---- bInterval
 
@@ -97,11 +98,21 @@ counts_transactions FullOrHigh Isochronous = true
 counts_transactions FullOrHigh Interrupt = true
 counts_transactions _ _ = false
 
--- 3 is reserved where they count, and elsewhere they are zero
+-- the least size of packets of which a microframe has so many more (table 9-14)
+abbrev pub least_size : ℕ → ℕ
+least_size more = if more == 1 then 513 else if more == 2 then 683 else 0
+
+-- where they count, 3 is reserved, and packets have the size of so many
+abbrev pub counted_remark : ℕ → ℕ → Option Remark
+counted_remark more size =
+    if more == 3 then Some remarks.ReservedMultiple
+    else remark_if (nat_lt size (least_size more)) (remarks.SmallMultiple (more + 1) (least_size more))
+
+-- elsewhere they are zero
 abbrev pub multiple_remark : SetSpeed → TransferType → ℕ → Option Remark
 multiple_remark speed transfer max_packet =
     let more = max_packet / 2048 % 4 in
-    if counts_transactions speed transfer then remark_if (more == 3) remarks.ReservedMultiple
+    if counts_transactions speed transfer then counted_remark more (packet_size_of max_packet)
     else remark_if (not (more == 0)) remarks.PacketBits
 
 -- ---- bmAttributes
@@ -147,22 +158,32 @@ raw_remarks d =
     there (header_remark d.interface d.bytes d.rest)
     ++ there (hid_length_remark d.interface d.bytes)
     ++ there (hid_report_remark d.interface d.bytes)
-    ++ there (hid_place_remark d.interface d.owner d.bytes)
-    ++ there (functional_remark d.interface d.bytes)
+    ++ there (late_remark d.interface d.owner d.bytes)
+    ++ there (functional_remark d.interface d.bytes d.missing d.rest)
+    ++ there (class_release_remark d.interface d.bytes)
 
 -- the remarks on a descriptor of this role
 unfoldable pub remarks_on : Role → Described → List Remark
 remarks_on roles.Device d =
     there (release_remark (little_endian_at d.bytes 2))
+    ++ there (device_class_remark (slice_index d.bytes 4))
     ++ there (packet_remark d.speed (slice_index d.bytes 7))
     ++ there (count_remark (slice_index d.bytes 17) d.findings)
-remarks_on roles.Qualifier d = there (release_remark (little_endian_at d.bytes 2)) ++ there (count_remark (slice_index d.bytes 8) d.findings)
+remarks_on roles.Qualifier d =
+    there (qualifier_release_remark (little_endian_at d.bytes 2))
+    ++ there (device_class_remark (slice_index d.bytes 4))
+    ++ there (count_remark (slice_index d.bytes 8) d.findings)
 remarks_on roles.Configuration d = there (power_remark d.speed (slice_index d.bytes 8))
-remarks_on roles.Association d = there (association_class_remark (slice_index d.bytes 4)) ++ there (association_remark d.device)
-remarks_on roles.Interface d = there (class_remark (slice_index d.bytes 5)) ++ there (setting_remark d.bytes d.rest)
+remarks_on roles.Association d =
+    there (association_class_remark (slice_index d.bytes 4))
+    ++ there (association_remark d.device)
+    ++ there (association_place_remark d.bytes d.missing d.rest)
+remarks_on roles.Interface d =
+    there (class_remark (slice_index d.bytes 5)) ++ there (setting_remark d.bytes d.rest) ++ there (pipe_remark d.bytes d.rest)
 remarks_on roles.Endpoint d = endpoint_remarks d
 remarks_on roles.Raw d = raw_remarks d
-remarks_on _ d = []
+remarks_on roles.Languages d = there (languages_remark d.bytes)
+remarks_on roles.Text d = there (text_remark d.bytes)
 
 -- What holds of remarks: one that speaks of two speeds holds at both.
 

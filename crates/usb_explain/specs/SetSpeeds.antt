@@ -12,6 +12,7 @@ use Rattle.usb_explain.specs.declared.speed.SetSpeed.{SetSpeed}
 use Rattle.usb_explain.specs.declared.speed.SetSpeed.TheVariants as speeds
 use Rattle.usb_explain.specs.declared.set_speed.Background.{Background}
 use Rattle.usb_explain.specs.declared.survey.Survey.{Survey}
+use Rattle.usb_explain.specs.InterfaceNumbers.{interface_numbers}
 use Rattle.usb_explain.specs.Bindings.{bindings}
 
 -- What the descriptors of a set say of its speed (USB 2.0, 5.5 to 5.8 and 9.6.6; USB 3.2, 9.6.7).
@@ -168,4 +169,5 @@ unfoldable pub survey_of : List (List ℕ) → Survey
 survey_of ds = record {
   spoken = evidence_of ds;
   bindings = bindings ds;
+  interfaces = interface_numbers ds;
 }

@@ -76,6 +76,7 @@ surveyed running ahead s =
     record s {
       speed = speed_by (background_by running s s.device s.qualifier) survey.spoken;
       bindings = survey.bindings;
+      interfaces = survey.interfaces;
     }
 
 -- what is looked for ahead at a descriptor of this role: the two speeds of a device, and what a set says

@@ -1,10 +1,10 @@
 -- What is remarked of an interface's setting by the descriptors in it, and of an endpoint by its setting (USB 2.0, 5.6.3 and
--- 9.6.5; HID 1.11, 7.1; CDC 1.2, 5.2.3; Mass Storage Bulk-Only 1.0, 4.3 and 4.4).
+-- 9.6.5; HID 1.11, 4.4 and 7.1; CDC 1.2, 5.2.3; Mass Storage Bulk-Only 1.0, 4.3 and 4.4).
 use Rattle.std.specs.Prelude.{ℕ, List, slice_index, Bool, true, false, nat_le, nat_lt, not, ◌==◌, ◌&&◌, Option, Some, None, if◌then◌else◌}
 use Rattle.std.specs.List.{list_any, take_while}
 use Rattle.usb_set.specs.Descriptors.{transfer_type_of}
 use Rattle.usb_set.specs.declared.endpoint.TransferType.{TransferType}
-use Rattle.usb_set.specs.declared.endpoint.TransferType.TheVariants.{Isochronous, Bulk}
+use Rattle.usb_set.specs.declared.endpoint.TransferType.TheVariants.{Isochronous, Bulk, Interrupt}
 use Rattle.usb_explain.specs.declared.owner.DescriptorOwner.{DescriptorOwner}
 use Rattle.usb_explain.specs.declared.owner.InterfaceSetting.{InterfaceSetting}
 use Rattle.usb_explain.specs.declared.speed.SetSpeed.{SetSpeed}
@@ -28,10 +28,20 @@ is_bulk _ = false
 abbrev pub is_bulk_endpoint : List ℕ → Bool
 is_bulk_endpoint d = is_endpoint d && is_bulk (transfer_type_of (slice_index d 3))
 
--- what a setting has to have: a HID descriptor, a bulk endpoint of each direction, by bit 7 of its address, or the header of
--- functional descriptors
+-- an interrupt endpoint
+abbrev pub is_interrupt : TransferType → Bool
+is_interrupt Interrupt = true
+is_interrupt _ = false
+
+-- an interrupt endpoint to the host, by bmAttributes and bit 7 of its address
+abbrev pub is_interrupt_in : List ℕ → Bool
+is_interrupt_in d = is_endpoint d && is_interrupt (transfer_type_of (slice_index d 3)) && nat_le 0x80 (slice_index d 2)
+
+-- what a setting has to have: a HID descriptor, an interrupt endpoint to the host, a bulk endpoint of each direction, by bit 7 of
+-- its address, or the header of functional descriptors
 abbrev pub is_wanted : Wanted → List ℕ → Bool
 is_wanted wanted.HidDescriptor d = slice_index d 1 == 0x21
+is_wanted wanted.InterruptIn d = is_interrupt_in d
 is_wanted wanted.BulkIn d = is_bulk_endpoint d && nat_le 0x80 (slice_index d 2)
 is_wanted wanted.BulkOut d = is_bulk_endpoint d && nat_lt (slice_index d 2) 0x80
 is_wanted wanted.FunctionalHeader d = (slice_index d 1 == 0x24) && (slice_index d 2 == 0)
@@ -64,6 +74,12 @@ lack_remark class subclass protocol ds =
 abbrev pub setting_remark : List ℕ → Option (List ℕ) → Option Remark
 setting_remark d None = None
 setting_remark d (Some rest) = lack_remark (slice_index d 5) (slice_index d 6) (slice_index d 7) (descriptors rest)
+
+-- an interrupt endpoint to the host, which each HID interface has (HID 1.11, 4.4)
+abbrev pub pipe_remark : List ℕ → Option (List ℕ) → Option Remark
+pipe_remark d None = None
+pipe_remark d (Some rest) =
+    if slice_index d 5 == 0x03 then remark_if (not (has_wanted wanted.InterruptIn (descriptors rest))) remarks.NoInterruptIn else None
 
 -- ---- an endpoint in its setting
 
@@ -101,3 +117,11 @@ is_last_default (Some setting) ds = (setting.alternate == 0) && not (has_setting
 abbrev pub empty_remark : Option DescriptorOwner → ℕ → Option (List ℕ) → Option Remark
 empty_remark (Some owner) size (Some rest) = remark_if ((size == 0) && is_last_default owner.setting (descriptors rest)) remarks.EmptyPackets
 empty_remark _ size _ = None
+
+-- ---- an association
+
+-- No setting of its first interface follows an association, which stands before all of those that it binds (its ECN, 9.X.Y),
+-- and the set has that interface.
+abbrev pub association_place_remark : List ℕ → Option ℕ → Option (List ℕ) → Option Remark
+association_place_remark d None (Some rest) = remark_if (not (has_setting (slice_index d 2) (descriptors rest))) remarks.LateAssociation
+association_place_remark d missing rest = None

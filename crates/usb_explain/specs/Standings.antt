@@ -1,5 +1,5 @@
 -- What came before a descriptor in an input, and what has come after it.
-use Rattle.std.specs.Prelude.{ℕ, List, slice_index, replicate, Some, None}
+use Rattle.std.specs.Prelude.{ℕ, List, slice_index, replicate, false, Some, None}
 use Rattle.usb_names.specs.declared.codes.ClassCodes.{ClassCodes}
 use Rattle.usb_explain.specs.declared.role.Role.{Role}
 use Rattle.usb_explain.specs.declared.role.Role.TheVariants.{Device, Qualifier}
@@ -19,6 +19,7 @@ start = record {
   codes = None;
   speed = FullOrHigh;
   bindings = replicate 256 None;
+  interfaces = replicate 256 false;
 }
 
 -- class, subclass and protocol of a device or of a qualifier (USB 2.0, 9.6.1 and 9.6.2)

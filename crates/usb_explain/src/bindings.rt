@@ -45,8 +45,12 @@ impl Bindings {
         ensures cells { length self.new ≡ 256 }
         ensures bound { (n : ℕ) → n < 256 → bound_at self.new n ≡ option_or (bound_at self.old n) (if binds first count n then Some association else None) }
     {
-        let numbers = self.numbers.get_or_insert([None; 256]);
-        bind_numbers(numbers, association, first, count);
+        if self.numbers.is_none() {
+            self.numbers = Some([None; 256]);
+        }
+        if let Some(numbers) = &mut self.numbers {
+            bind_numbers(numbers, association, first, count);
+        }
     }
 }
 

@@ -1,21 +1,13 @@
 //! What is remarked of a descriptor of a class by its own bytes.
-ghost use Rattle.std.specs.Prelude.{◌≡◌};
-ghost use Rattle.usb_explain.specs.ClassRemarks.{functional_remark, hid_length, hid_length_remark, hid_place_remark, hid_report_remark, is_hid, is_of_class, is_of_endpoint, least_length};
+ghost use Rattle.std.specs.Prelude.{◌≡◌, option_and_then, slice_index};
+ghost use Rattle.std.specs.Option.{option_copied};
+ghost use Rattle.usb_explain.specs.ClassRemarks.{below_least, class_release, class_release_remark, functional_remark, hid_length, hid_length_remark, hid_report_remark, is_hid, is_of_endpoint, late_remark, least_length, report_remark, union_remark};
 
+use crate::interface_numbers::{is_functional, is_of_class};
 use crate::owner::DescriptorOwner;
 use crate::remark::{Remark, remark_if};
 use usb_fields::{byte_at, word_at};
 use usb_names::ClassCodes;
-
-/// Whether it is of this type, behind an interface of this class.
-fn is_of_class(class: u8, kind: u8, interface: Option<ClassCodes>, d: &[u8]) -> bool
-    ensures { result ≡ is_of_class class kind interface d.now }
-{
-    match interface {
-        None => false,
-        Some(codes) => codes.class == class && byte_at(d, 1) == kind,
-    }
-}
 
 /// Whether it is the HID descriptor of a HID interface.
 fn is_hid(interface: Option<ClassCodes>, d: &[u8]) -> bool
@@ -25,7 +17,7 @@ fn is_hid(interface: Option<ClassCodes>, d: &[u8]) -> bool
 }
 
 /// How many bytes a HID descriptor has (HID 1.11, 6.2.1).
-fn hid_length(d: &[u8]) -> usize
+pub(crate) fn hid_length(d: &[u8]) -> usize
     ensures { result ≡ hid_length d.now }
 {
     6 + 3 * usize::from(byte_at(d, 5))
@@ -43,15 +35,26 @@ pub(crate) fn hid_length_remark(interface: Option<ClassCodes>, d: &[u8]) -> Opti
     )
 }
 
-/// A remark on a report descriptor without bytes (HID 1.11, 6.2.1).
+/// A remark on the first descriptor that a HID descriptor names, by its type and its length.
+fn report_remark(kind: u8, count: u16) -> Option<Remark>
+    ensures { result ≡ report_remark kind count }
+{
+    if kind == 0x22 {
+        remark_if(count == 0, Remark::EmptyReport)
+    } else {
+        Some(Remark::NoReport)
+    }
+}
+
+/// A remark on a HID descriptor that names no report descriptor first, or one without bytes (HID 1.11, 6.2.1).
 pub(crate) fn hid_report_remark(interface: Option<ClassCodes>, d: &[u8]) -> Option<Remark>
     ensures { result ≡ hid_report_remark interface d.now }
 {
-    let names_report = d.len() >= 9 && byte_at(d, 6) == 0x22;
-    remark_if(
-        is_hid(interface, d) && names_report && word_at(d, 7) == 0,
-        Remark::EmptyReport,
-    )
+    if is_hid(interface, d) && d.len() >= 9 {
+        report_remark(byte_at(d, 6), word_at(d, 7))
+    } else {
+        None
+    }
 }
 
 fn is_of_endpoint(owner: Option<DescriptorOwner>) -> bool
@@ -63,18 +66,21 @@ fn is_of_endpoint(owner: Option<DescriptorOwner>) -> bool
     }
 }
 
-/// A remark on a HID descriptor after an endpoint (HID 1.11, 7.1).
-pub(crate) fn hid_place_remark(
+/// A remark on a HID descriptor or a functional descriptor after an endpoint (HID 1.11, 7.1; CDC 1.2, 5.2.3).
+pub(crate) fn late_remark(
     interface: Option<ClassCodes>,
     owner: Option<DescriptorOwner>,
     d: &[u8],
 ) -> Option<Remark>
-    ensures { result ≡ hid_place_remark interface owner d.now }
+    ensures { result ≡ late_remark interface owner d.now }
 {
-    remark_if(
-        is_hid(interface, d) && is_of_endpoint(owner),
-        Remark::LateHidDescriptor,
-    )
+    if !is_of_endpoint(owner) {
+        None
+    } else if is_hid(interface, d) {
+        Some(Remark::LateHidDescriptor)
+    } else {
+        remark_if(is_functional(interface, d), Remark::LateFunctional)
+    }
 }
 
 /// The least length of a functional descriptor (CDC 1.2, 5.2.3; PSTN 1.2, 5.3).
@@ -89,13 +95,57 @@ fn least_length(subtype: u8) -> Option<usize>
 }
 
 /// A remark on a functional descriptor that is too short for its fields.
-pub(crate) fn functional_remark(interface: Option<ClassCodes>, d: &[u8]) -> Option<Remark>
-    ensures { result ≡ functional_remark interface d.now }
+fn short_remark(d: &[u8]) -> Option<Remark>
+    ensures { result ≡ option_and_then (below_least d.now) (least_length (slice_index d.now 2)) }
 {
-    if !is_of_class(0x02, 0x24, interface, d) || d.len() < 3 {
-        return None;
-    }
     let least = least_length(byte_at(d, 2))?;
     let found = d.len();
     remark_if(found < least, Remark::ShortFunctional { least, found })
+}
+
+/// A remark on a union that names an interface which its set, all of it there, lacks (CDC 1.2, 5.2.3.2).
+fn union_remark(missing: Option<u8>, rest: Option<&[u8]>) -> Option<Remark>
+    ensures { result ≡ union_remark missing (option_copied rest.entry) }
+{
+    match (missing, rest) {
+        (Some(interface), Some(_)) => Some(Remark::MissingInterface { interface }),
+        _ => None,
+    }
+}
+
+/// A remark on a functional descriptor: its length, or the interfaces that it names.
+pub(crate) fn functional_remark(
+    interface: Option<ClassCodes>,
+    d: &[u8],
+    missing: Option<u8>,
+    rest: Option<&[u8]>,
+) -> Option<Remark>
+    ensures { result ≡ functional_remark interface d.now missing (option_copied rest.entry) }
+{
+    if is_functional(interface, d) && d.len() >= 3 {
+        short_remark(d).or(union_remark(missing, rest))
+    } else {
+        None
+    }
+}
+
+/// bcdHID, or bcdCDC of a header functional descriptor.
+fn class_release(interface: Option<ClassCodes>, d: &[u8]) -> Option<u16>
+    ensures { result ≡ class_release interface d.now }
+{
+    if is_hid(interface, d) && d.len() >= 4 {
+        Some(word_at(d, 2))
+    } else if is_functional(interface, d) && d.len() >= 5 && byte_at(d, 2) == 0 {
+        Some(word_at(d, 3))
+    } else {
+        None
+    }
+}
+
+/// A remark on the release of a class that is none: its bytes may be swapped.
+pub(crate) fn class_release_remark(interface: Option<ClassCodes>, d: &[u8]) -> Option<Remark>
+    ensures { result ≡ class_release_remark interface d.now }
+{
+    let release = class_release(interface, d)?;
+    remark_if(release < 0x0100 || release >= 0x1000, Remark::ClassRelease)
 }

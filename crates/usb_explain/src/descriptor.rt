@@ -29,6 +29,8 @@ pub struct Descriptor<'b> {
     pub associations: usize,
     /// The number of the first association of its set that binds an interface of its number.
     pub association: Option<u64>,
+    /// The first interface that it names and its set lacks: it is a union functional descriptor, or an association.
+    pub missing: Option<u8>,
     /// The codes of the interface that it follows.
     pub interface: Option<ClassCodes>,
     /// The codes of the device, or of the qualifier in the sets after it.

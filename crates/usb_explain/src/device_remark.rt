@@ -1,7 +1,7 @@
 //! What is remarked of a device, of its qualifier, and of a set.
 ghost use Rattle.std.specs.Prelude.{◌≡◌};
 ghost use Rattle.std.specs.Option.{option_copied};
-ghost use Rattle.usb_explain.specs.DeviceRemarks.{association_remark, count_remark, finds_nothing, first_packets, is_release, most_current, packet_remark, power_remark, release_remark, tells_associations};
+ghost use Rattle.usb_explain.specs.DeviceRemarks.{association_remark, count_remark, device_class_remark, finds_nothing, first_packets, is_of_interfaces, is_release, most_current, packet_remark, power_remark, qualifier_release_remark, release_remark, tells_associations};
 
 use crate::remark::{PacketSizes, Remark, is_size, remark_if};
 use crate::speed::SetSpeed;
@@ -22,6 +22,27 @@ pub(crate) fn release_remark(usb: u16) -> Option<Remark>
     ensures { result ≡ release_remark usb }
 {
     remark_if(!is_release(usb), Remark::Release)
+}
+
+/// The same of a qualifier, whose release is 2.0 at least (USB 2.0, 9.6.2).
+pub(crate) fn qualifier_release_remark(usb: u16) -> Option<Remark>
+    ensures { result ≡ qualifier_release_remark usb }
+{
+    release_remark(usb).or(remark_if(usb < 0x0200, Remark::OldQualifier))
+}
+
+/// Whether interfaces alone have a class, by the list of base classes that the USB-IF keeps.
+fn is_of_interfaces(class: u8) -> bool
+    ensures { result ≡ is_of_interfaces class }
+{
+    matches!(class, 1 | 3 | 5..=8 | 0x0a | 0x0b | 0x0d..=0x10)
+}
+
+/// A remark on bDeviceClass that devices don't have (USB 2.0, 9.6.1).
+pub(crate) fn device_class_remark(class: u8) -> Option<Remark>
+    ensures { result ≡ device_class_remark class }
+{
+    remark_if(is_of_interfaces(class), Remark::InterfaceClass)
 }
 
 /// The values of bMaxPacketSize0 at a speed that is known (USB 2.0, 5.5.3; USB 3.2, 9.6.1).

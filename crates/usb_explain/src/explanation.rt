@@ -115,7 +115,7 @@ fn put_ending<P: Page>(
             put_last_line(page, findings)
         }
         Err(fault) => {
-            put_fault_lines(page, *fault, bytes)?;
+            put_fault_lines(page, manner.decoded, *fault, bytes)?;
             put_rest(page, manner.look, place, rest)
         }
     }

@@ -1,7 +1,7 @@
 //! The lines of the fault of a broken input: what is wrong, and what its bytes look like.
 ghost use Rattle.std.specs.Prelude.{◌≡◌, ◌∷◌, [], OnOk};
 ghost use Rattle.usb_text.specs.Shown.{Number, showing_all};
-ghost use Rattle.usb_explain.specs.Faults.{fault_lines, fault_shown, likeness_line, likeness_shown, place_of_fault};
+ghost use Rattle.usb_explain.specs.Faults.{fault_lines, fault_shown, likeness_line, likeness_shown, place_of_fault, seen_likeness};
 
 use std::alloc::AllocError;
 use usb_file_data::{FileWhy, InputFault, Likeness, likeness_of};
@@ -18,19 +18,31 @@ pub(crate) fn fault_place(fault: InputFault) -> usize
     }
 }
 
-/// Puts the line of the fault of these bytes, and that of what they look like, if they look like anything.
+/// Puts the line of the fault of these bytes, which were decoded or weren't, and that of what they look like, if they look like
+/// anything.
 #[tactic(auto, using(usb_text::proofs::ShownLines::showing_joined), unfolding(crate::specs::Faults::fault_lines))]
 pub(crate) fn put_fault_lines<P: Page>(
     page: &mut P,
+    decoded: bool,
     fault: InputFault,
     bytes: &[u8],
 ) -> Result<(), AllocError>
-    ensures { OnOk result (P.seen page.new ≡ showing_all P.showing (fault_lines fault bytes.now) (P.seen page.old)) }
+    ensures { OnOk result (P.seen page.new ≡ showing_all P.showing (fault_lines decoded fault bytes.now) (P.seen page.old)) }
 {
     page.put("  ! ")?;
     put_fault(page, fault)?;
     page.end_line()?;
-    put_likeness(page, likeness_of(fault, bytes))
+    put_likeness(page, seen_likeness(decoded, likeness_of(fault, bytes)))
+}
+
+/// What bytes look like; those that were decoded from text are not called text.
+fn seen_likeness(decoded: bool, likeness: Option<Likeness>) -> Option<Likeness>
+    ensures { result ≡ seen_likeness decoded likeness }
+{
+    match likeness {
+        Some(Likeness::Text) if decoded => None,
+        _ => likeness,
+    }
 }
 
 /// Puts the fault: its number, its place, and its message.
@@ -117,5 +129,8 @@ fn put_likeness_words<P: Page>(page: &mut P, likeness: Likeness) -> Result<(), A
         Likeness::Bos => page.put("this looks like a BOS descriptor alone"),
         Likeness::StringDescriptor => page.put("this looks like a string descriptor alone"),
         Likeness::Report => page.put("this looks like a report descriptor"),
+        Likeness::Fragment => page.put(
+            "this begins like a fragment of an input, or a setup packet; --loose explains it",
+        ),
     }
 }

@@ -1,6 +1,7 @@
 //! What holds of the outline of each input, and so of its explanation, which has the lines of each descriptor of it. The
 //! functions of these laws do nothing: their contracts are the laws.
 ghost use Rattle.usb_explain.specs.FieldLaws.{AllFieldsHaveAllBytes};
+ghost use Rattle.usb_explain.specs.Fragments.{AllFragmentBytesOnce};
 ghost use Rattle.usb_explain.specs.Laws.{AllEachByteOnce, BriefLeavesOutFields, BrokenCoversUpToFault, WholeHasNoRest, WholeShowsTree, WholeReportsFindings};
 ghost use Rattle.usb_explain.specs.Numbered.{NumbersAreOutline};
 ghost use Rattle.usb_explain.specs.OwnedEndpoints.{WholeShowsEndpoints};
@@ -11,6 +12,12 @@ ghost use Rattle.usb_explain.specs.Remarks.{FullOrHighIsOpen, LowOrFullIsOpen};
 pub fn each_byte_is_in_one_descriptor()
     ensures bytes { AllEachByteOnce }
     ensures inputs { WholeHasNoRest }
+{}
+
+/// Each byte of a fragment is in one descriptor: its descriptors follow each other from the first byte on, each at its place, and
+/// then comes the rest.
+pub fn each_byte_of_a_fragment_is_in_one_descriptor()
+    ensures { AllFragmentBytesOnce }
 {}
 
 /// A broken input is explained up to its fault: of bytes that `read_input` refuses, all before the place of the fault are

@@ -8,6 +8,8 @@ pub struct Manner {
     pub look: Look,
     /// The speed at which the device ran, where it is known.
     pub speed: Option<SetSpeed>,
+    /// Whether its bytes were given as text, and decoded. They are not called text then.
+    pub decoded: bool,
 }
 
 /// How an explanation is written.

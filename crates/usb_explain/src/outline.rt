@@ -133,6 +133,7 @@ impl Standing {
             findings,
             associations: self.position.associations,
             association: self.bindings.of(byte_at(bytes, 2)),
+            missing: self.interfaces.missing(self.position.codes(), bytes),
             interface: self.position.codes(),
             device: self.codes,
             string: self.position.strings,

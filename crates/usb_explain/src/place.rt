@@ -60,7 +60,7 @@ impl Position {
 }
 
 /// In a part, and in none of its sets.
-fn outside(part: Part) -> Place
+pub(crate) fn outside(part: Part) -> Place
     ensures { result ≡ outside part }
 {
     Place {

@@ -1,8 +1,8 @@
 //! What is remarked of a descriptor: values that its bytes may have by no rule, but not in its set.
-ghost use Rattle.std.specs.Prelude.{◌≡◌};
+ghost use Rattle.std.specs.Prelude.{◌≡◌, ◌<◌};
 ghost use Rattle.usb_explain.specs.RemarkNumbers.{remark_number};
 ghost use Rattle.usb_explain.specs.RemarkValues.{is_eight_to_64, is_size, remark_if};
-ghost use Rattle.usb_explain.specs.Remarks.{association_class_remark, attributes_remark, class_remark, counts_transactions, multiple_remark, size_remark, sizes_at, type_bits_remark};
+ghost use Rattle.usb_explain.specs.Remarks.{association_class_remark, attributes_remark, class_remark, counted_remark, counts_transactions, least_size, multiple_remark, size_remark, sizes_at, type_bits_remark};
 
 use crate::speed::SetSpeed;
 use usb_set::TransferType;
@@ -113,6 +113,36 @@ pub enum Remark {
     OneDirection,
     /// The class of an association is 00.
     ForbiddenClass,
+    /// A union functional descriptor names an interface that isn't there.
+    MissingInterface {
+        /// Its number.
+        interface: u8,
+    },
+    /// Bits 12 to 11 of wMaxPacketSize count more transactions than packets of this size have.
+    SmallMultiple {
+        /// How many transactions they count.
+        transactions: u8,
+        /// The least size of so many.
+        least: u16,
+    },
+    /// A functional descriptor stands after an endpoint of its interface.
+    LateFunctional,
+    /// A HID interface has no interrupt endpoint to the host.
+    NoInterruptIn,
+    /// The first descriptor that a HID descriptor names is no report descriptor.
+    NoReport,
+    /// The class of a device or a qualifier is one that interfaces alone have.
+    InterfaceClass,
+    /// An association stands after the interfaces that it binds.
+    LateAssociation,
+    /// bcdUSB of a qualifier is below 2.0.
+    OldQualifier,
+    /// A number in the language list is none of a language: bits 9 to 8 of it aren't zero, or bits 15 to 10 are.
+    NoLanguage,
+    /// The last unit of a string is 0.
+    EndedString,
+    /// bcdHID or bcdCDC is below 1.0, or 10.0 or more.
+    ClassRelease,
 }
 
 impl Remark {
@@ -149,6 +179,17 @@ impl Remark {
             Remark::ShortFunctional { .. } => 22,
             Remark::OneDirection => 23,
             Remark::ForbiddenClass => 24,
+            Remark::MissingInterface { .. } => 25,
+            Remark::SmallMultiple { .. } => 26,
+            Remark::LateFunctional => 27,
+            Remark::NoInterruptIn => 28,
+            Remark::NoReport => 29,
+            Remark::InterfaceClass => 30,
+            Remark::LateAssociation => 31,
+            Remark::OldQualifier => 32,
+            Remark::NoLanguage => 33,
+            Remark::EndedString => 34,
+            Remark::ClassRelease => 35,
         }
     }
 }
@@ -235,6 +276,37 @@ fn counts_transactions(speed: SetSpeed, transfer: TransferType) -> bool
     }
 }
 
+/// The least size of the packets of which bits 12 to 11 of wMaxPacketSize count so many more (USB 2.0, table 9-14).
+fn least_size(more: u8) -> u16
+    ensures { result ≡ least_size more }
+{
+    match more {
+        1 => 513,
+        2 => 683,
+        _ => 0,
+    }
+}
+
+/// A remark on a packet of this size, of which a microframe has so many more.
+fn counted_remark(more: u8, size: u16) -> Option<Remark>
+    requires { more < 4 }
+    ensures { result ≡ counted_remark more size }
+{
+    let least = least_size(more);
+    let transactions = more + 1;
+    if more == 3 {
+        Some(Remark::ReservedMultiple)
+    } else {
+        remark_if(
+            size < least,
+            Remark::SmallMultiple {
+                transactions,
+                least,
+            },
+        )
+    }
+}
+
 /// A remark on bits 12 to 11 of wMaxPacketSize (USB 2.0, 9.6.6).
 pub(crate) fn multiple_remark(
     speed: SetSpeed,
@@ -243,9 +315,9 @@ pub(crate) fn multiple_remark(
 ) -> Option<Remark>
     ensures { result ≡ multiple_remark speed transfer max_packet }
 {
-    let more = max_packet / 2048 % 4;
+    let more = (max_packet / 2048 % 4) as u8;
     if counts_transactions(speed, transfer) {
-        remark_if(more == 3, Remark::ReservedMultiple)
+        counted_remark(more, max_packet % 2048)
     } else {
         remark_if(more != 0, Remark::PacketBits)
     }

@@ -98,7 +98,7 @@ fn put_speed_words<P: Page>(page: &mut P, remark: Remark) -> Result<(), AllocErr
     }
 }
 
-/// Puts the words of a remark on a length or a current.
+/// Puts the words of a remark on a count.
 fn put_length_words<P: Page>(page: &mut P, remark: Remark) -> Result<(), AllocError>
     ensures { OnOk result (P.seen page.new ≡ showing_all P.showing (length_shown remark) (P.seen page.old)) }
 {
@@ -127,6 +127,21 @@ fn put_length_words<P: Page>(page: &mut P, remark: Remark) -> Result<(), AllocEr
             page.put_decimal(least as u64)?;
             page.put(" bytes, and bLength is ")?;
             page.put_decimal(found as u64)
+        }
+        Remark::MissingInterface { interface } => {
+            page.put("it names interface ")?;
+            page.put_decimal(u64::from(interface))?;
+            page.put(", which the set hasn't")
+        }
+        Remark::SmallMultiple {
+            transactions,
+            least,
+        } => {
+            page.put("packets of ")?;
+            page.put_decimal(u64::from(transactions))?;
+            page.put(" transactions a microframe have at least ")?;
+            page.put_decimal(u64::from(least))?;
+            page.put(" bytes")
         }
         _ => Ok(()),
     }
@@ -158,6 +173,15 @@ fn plain_words(remark: Remark) -> &'static str
         }
         Remark::OneDirection => "a bulk-only interface has a bulk endpoint of each direction",
         Remark::ForbiddenClass => "class 0x00 is not allowed",
+        Remark::LateFunctional => "a functional descriptor stands before the endpoints",
+        Remark::NoInterruptIn => "a HID interface has an interrupt IN endpoint",
+        Remark::NoReport => "a HID descriptor names its report descriptor first",
+        Remark::InterfaceClass => "this class is one of interfaces, and not of devices",
+        Remark::LateAssociation => "an association stands before its interfaces",
+        Remark::OldQualifier => "bcdUSB of a qualifier is 2.00 at least",
+        Remark::NoLanguage => "a language has bits 9 to 8 zero, and not all of bits 15 to 10",
+        Remark::EndedString => "a string isn't ended by a unit 0",
+        Remark::ClassRelease => "this is no release: its bytes may be swapped",
         _ => "",
     }
 }

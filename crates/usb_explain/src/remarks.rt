@@ -6,11 +6,12 @@ ghost use Rattle.usb_explain.specs.RemarkValues.{there};
 ghost use Rattle.usb_explain.specs.Remarks.{endpoint_remarks, raw_remarks, remarks_on};
 
 use crate::class_remark::{
-    functional_remark, hid_length_remark, hid_place_remark, hid_report_remark,
+    class_release_remark, functional_remark, hid_length_remark, hid_report_remark, late_remark,
 };
 use crate::descriptor::Descriptor;
 use crate::device_remark::{
-    association_remark, count_remark, packet_remark, power_remark, release_remark,
+    association_remark, count_remark, device_class_remark, packet_remark, power_remark,
+    qualifier_release_remark, release_remark,
 };
 use crate::header::header_remark;
 use crate::interval::interval_remark;
@@ -18,7 +19,10 @@ use crate::remark::{
     Remark, association_class_remark, attributes_remark, class_remark, multiple_remark, size_remark,
 };
 use crate::role::Role;
-use crate::setting_remark::{default_remark, empty_remark, setting_remark};
+use crate::setting_remark::{
+    association_place_remark, default_remark, empty_remark, pipe_remark, setting_remark,
+};
+use crate::string_remark::{languages_remark, text_remark};
 use usb_fields::{byte_at, word_at};
 use usb_set::TransferType;
 
@@ -37,24 +41,32 @@ impl Descriptor<'_> {
     {
         let b = self.bytes;
         match self.role {
-            Role::Device => three(
+            Role::Device => four(
                 release_remark(word_at(b, 2)),
+                device_class_remark(byte_at(b, 4)),
                 packet_remark(self.speed, byte_at(b, 7)),
                 count_remark(byte_at(b, 17), self.findings),
             ),
-            Role::Qualifier => two(
-                release_remark(word_at(b, 2)),
+            Role::Qualifier => three(
+                qualifier_release_remark(word_at(b, 2)),
+                device_class_remark(byte_at(b, 4)),
                 count_remark(byte_at(b, 8), self.findings),
             ),
-            Role::Configuration => two(power_remark(self.speed, byte_at(b, 8)), None),
-            Role::Association => two(
+            Role::Configuration => one(power_remark(self.speed, byte_at(b, 8))),
+            Role::Association => three(
                 association_class_remark(byte_at(b, 4)),
                 association_remark(self.device),
+                association_place_remark(b, self.missing, self.rest),
             ),
-            Role::Interface => two(class_remark(byte_at(b, 5)), setting_remark(b, self.rest)),
+            Role::Interface => three(
+                class_remark(byte_at(b, 5)),
+                setting_remark(b, self.rest),
+                pipe_remark(b, self.rest),
+            ),
             Role::Endpoint => self.endpoint_remarks(),
             Role::Raw => self.raw_remarks(),
-            Role::Languages | Role::Text => two(None, None),
+            Role::Languages => one(languages_remark(b)),
+            Role::Text => one(text_remark(b)),
         }
     }
 
@@ -86,18 +98,18 @@ impl Descriptor<'_> {
             header_remark(interface, b, self.rest),
             hid_length_remark(interface, b),
             hid_report_remark(interface, b),
-            hid_place_remark(interface, self.owner, b),
-            functional_remark(interface, b),
-            None,
+            late_remark(interface, self.owner, b),
+            functional_remark(interface, b, self.missing, self.rest),
+            class_release_remark(interface, b),
         ]
     }
 }
 
-/// Two remarks, if there are any.
-fn two(one: Option<Remark>, other: Option<Remark>) -> [Option<Remark>; 6]
-    ensures { flat_map there result ≡ there one ++ there other }
+/// A remark, if there is one.
+fn one(remark: Option<Remark>) -> [Option<Remark>; 6]
+    ensures { flat_map there result ≡ there remark }
 {
-    three(one, other, None)
+    [remark, None, None, None, None, None]
 }
 
 /// Three remarks, if there are any.
@@ -105,4 +117,16 @@ fn three(one: Option<Remark>, other: Option<Remark>, last: Option<Remark>) -> [O
     ensures { flat_map there result ≡ there one ++ (there other ++ there last) }
 {
     [one, other, last, None, None, None]
+}
+
+/// Four remarks, if there are any.
+fn four(
+    one: Option<Remark>,
+    other: Option<Remark>,
+    third: Option<Remark>,
+    last: Option<Remark>,
+) -> [Option<Remark>; 6]
+    ensures { flat_map there result ≡ there one ++ (there other ++ (there third ++ there last)) }
+{
+    [one, other, third, last, None, None]
 }

@@ -100,7 +100,7 @@ fn role_if(holds: bool, role: Role) -> Option<Role>
 }
 
 /// The role of a descriptor of a type that has one, or that of any other.
-fn typed_role(holds: bool, role: Role) -> Role
+pub(crate) fn typed_role(holds: bool, role: Role) -> Role
     ensures { result ≡ typed_role holds role }
 {
     if holds { role } else { Role::Raw }

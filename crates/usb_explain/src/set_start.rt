@@ -45,6 +45,7 @@ impl Standing {
         let background = self.background(running);
         self.speed = speed_by(background, survey.spoken);
         self.bindings = survey.bindings;
+        self.interfaces = survey.interfaces;
     }
 
     /// What is known of a set beside its descriptors, by its device, which may have a qualifier before the set.

@@ -1,7 +1,7 @@
 //! What is remarked of an interface by the descriptors of its setting, and of an endpoint by its setting.
 ghost use Rattle.std.specs.Prelude.{◌≡◌};
 ghost use Rattle.std.specs.Option.{option_copied};
-ghost use Rattle.usb_explain.specs.SettingRemarks.{default_remark, empty_remark, has_functions, has_setting, has_wanted, in_default_setting, is_bulk_endpoint, is_default, is_last_default, is_numbered, is_wanted, lack_remark, setting_remark};
+ghost use Rattle.usb_explain.specs.SettingRemarks.{association_place_remark, default_remark, empty_remark, has_functions, has_setting, has_wanted, in_default_setting, is_bulk_endpoint, is_default, is_interrupt_in, is_last_default, is_numbered, is_wanted, lack_remark, pipe_remark, setting_remark};
 ghost use Rattle.usb_explain.specs.Trees.{descriptors};
 
 use crate::owner::{DescriptorOwner, InterfaceSetting};
@@ -17,6 +17,8 @@ use usb_set::TransferType;
 pub(crate) enum Wanted {
     /// A HID descriptor.
     HidDescriptor,
+    /// An interrupt endpoint to the host.
+    InterruptIn,
     /// A bulk endpoint to the host.
     BulkIn,
     /// A bulk endpoint from the host.
@@ -31,11 +33,20 @@ fn is_bulk_endpoint(d: &[u8]) -> bool
     is_endpoint(d) && matches!(TransferType::of(byte_at(d, 3)), TransferType::Bulk)
 }
 
+fn is_interrupt_in(d: &[u8]) -> bool
+    ensures { result ≡ is_interrupt_in d.now }
+{
+    is_endpoint(d)
+        && matches!(TransferType::of(byte_at(d, 3)), TransferType::Interrupt)
+        && byte_at(d, 2) >= 0x80
+}
+
 fn is_wanted(wanted: Wanted, d: &[u8]) -> bool
     ensures { result ≡ is_wanted wanted d.now }
 {
     match wanted {
         Wanted::HidDescriptor => byte_at(d, 1) == 0x21,
+        Wanted::InterruptIn => is_interrupt_in(d),
         Wanted::BulkIn => is_bulk_endpoint(d) && byte_at(d, 2) >= 0x80,
         Wanted::BulkOut => is_bulk_endpoint(d) && byte_at(d, 2) < 0x80,
         Wanted::FunctionalHeader => byte_at(d, 1) == 0x24 && byte_at(d, 2) == 0,
@@ -93,6 +104,23 @@ pub(crate) fn setting_remark(d: &[u8], rest: Option<&[u8]>) -> Option<Remark>
     match rest {
         None => None,
         Some(rest) => lack_remark(byte_at(d, 5), byte_at(d, 6), byte_at(d, 7), rest),
+    }
+}
+
+/// A remark on a HID interface without an interrupt endpoint to the host (HID 1.11, 4.4).
+pub(crate) fn pipe_remark(d: &[u8], rest: Option<&[u8]>) -> Option<Remark>
+    ensures { result ≡ pipe_remark d.now (option_copied rest.entry) }
+{
+    match rest {
+        None => None,
+        Some(rest) => {
+            if byte_at(d, 5) == 0x03 {
+                let has_in = has_wanted(Wanted::InterruptIn, rest);
+                remark_if(!has_in, Remark::NoInterruptIn)
+            } else {
+                None
+            }
+        }
     }
 }
 
@@ -177,4 +205,21 @@ pub(crate) fn empty_remark(
         return None;
     }
     remark_if(is_last_default(owner.setting, rest), Remark::EmptyPackets)
+}
+
+/// A remark on an association whose first interface is there and doesn't follow (its ECN, 9.X.Y).
+pub(crate) fn association_place_remark(
+    d: &[u8],
+    missing: Option<u8>,
+    rest: Option<&[u8]>,
+) -> Option<Remark>
+    ensures { result ≡ association_place_remark d.now missing (option_copied rest.entry) }
+{
+    match (missing, rest) {
+        (None, Some(rest)) => {
+            let follows = has_setting(byte_at(d, 2), rest);
+            remark_if(!follows, Remark::LateAssociation)
+        }
+        _ => None,
+    }
 }

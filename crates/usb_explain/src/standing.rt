@@ -5,6 +5,7 @@ ghost use Rattle.usb_explain.specs.inside.Walking.{Counted};
 
 use crate::bindings::Bindings;
 use crate::device_facts::DeviceFacts;
+use crate::interface_numbers::InterfaceNumbers;
 use crate::position::Position;
 use crate::role::Role;
 use crate::speed::SetSpeed;
@@ -30,6 +31,8 @@ pub(crate) struct Standing {
     pub(crate) speed: SetSpeed,
     /// Which association of the whole set binds each interface.
     pub(crate) bindings: Bindings,
+    /// The numbers of the interfaces of the whole set.
+    pub(crate) interfaces: InterfaceNumbers,
 }
 
 impl Standing {
@@ -48,6 +51,7 @@ impl Standing {
             codes: None,
             speed: SetSpeed::FullOrHigh,
             bindings: Bindings::new(),
+            interfaces: InterfaceNumbers::new(),
         }
     }
 

@@ -1,5 +1,6 @@
 //! What is explained.
 ghost use Rattle.std.specs.Prelude.{IfOk, ◌≡◌};
+ghost use Rattle.usb_explain.specs.Fragments.{subject_alone};
 ghost use Rattle.usb_explain.specs.Subjects.{names_in, place_of, subject_of};
 
 use crate::manner::Manner;
@@ -39,6 +40,16 @@ impl<'i> Subject<'i> {
             Err(_) => Names::none(alloc, Missing::NotRead),
         };
         Ok(Subject { manner, names })
+    }
+
+    /// Descriptors without an input, and so without strings.
+    pub(crate) fn alone(alloc: Global, manner: Manner) -> Subject<'i>
+        ensures { result ≡ subject_alone manner }
+    {
+        Subject {
+            manner,
+            names: Names::none(alloc, Missing::NotInInput),
+        }
     }
 
     pub(crate) fn manner(&self) -> Manner

@@ -5,6 +5,7 @@ ghost use Rattle.usb_explain.specs.SetSpeeds.{survey_of};
 ghost use Rattle.usb_explain.specs.inside.Walking.{BindsOn, Gathers};
 
 use crate::bindings::Bindings;
+use crate::interface_numbers::InterfaceNumbers;
 use crate::rest_lines::descriptor_length;
 use crate::role::is_association;
 use crate::speed_evidence::Evidence;
@@ -17,6 +18,8 @@ pub(crate) struct Survey {
     pub(crate) spoken: Evidence,
     /// Which association binds each interface.
     pub(crate) bindings: Bindings,
+    /// The numbers of its interfaces.
+    pub(crate) interfaces: InterfaceNumbers,
 }
 
 impl Survey {
@@ -46,6 +49,8 @@ pub(crate) struct Gathering {
     evidence: Evidence,
     /// The associations.
     associations: Binders,
+    /// The numbers of the interfaces.
+    interfaces: InterfaceNumbers,
 }
 
 /// The associations, and what they bind.
@@ -67,6 +72,7 @@ impl Gathering {
                 bindings: Bindings::new(),
                 count: 0,
             },
+            interfaces: InterfaceNumbers::new(),
         }
     }
 
@@ -78,6 +84,7 @@ impl Gathering {
     {
         self.evidence.add(d);
         self.associations.add(d);
+        self.interfaces.add(d);
     }
 
     /// What all descriptors said.
@@ -87,6 +94,7 @@ impl Gathering {
         Survey {
             spoken: self.evidence,
             bindings: self.associations.bindings,
+            interfaces: self.interfaces,
         }
     }
 }

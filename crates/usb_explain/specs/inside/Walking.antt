@@ -5,6 +5,8 @@ use Rattle.usb_explain.specs.SetSpeeds.{excludes_low, hints_low_or_full, is_comp
 use Rattle.usb_explain.specs.declared.speed_evidence.Evidence.{Evidence}
 use Rattle.std.specs.Option.{option_or}
 use Rattle.usb_explain.specs.Bindings.{binding, bound_at}
+use Rattle.usb_explain.specs.InterfaceNumbers.{has_number}
+use Rattle.usb_explain.specs.SettingRemarks.{has_setting}
 use Rattle.usb_explain.specs.declared.survey.Gathering.{Gathering}
 use Rattle.usb_explain.specs.declared.survey.Binders.{Binders}
 use Rattle.usb_names.specs.Shown.{field_of}
@@ -37,6 +39,8 @@ pub record Gathers (all : List (List ℕ)) (g : Gathering) (ds : List (List ℕ)
   pub cells : length g.associations.bindings ≡ 256
   pub evidence : Hears all g.evidence ds
   pub bindings : (n : ℕ) → n < 256 → binding n 0 all ≡ bound_with g.associations n ds
+  pub number_cells : length g.interfaces ≡ 256
+  pub numbers : (n : ℕ) → n < 256 → has_setting n all ≡ has_number g.interfaces n || has_setting n ds
 
 -- A layout of the code.
 

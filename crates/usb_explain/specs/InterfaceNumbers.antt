@@ -1,0 +1,44 @@
+-- The numbers of the interfaces of a set, and which of them a descriptor names: an association (its ECN, 9.X.Y), or a union
+-- functional descriptor of a communications interface (CDC 1.2, 5.2.3.2).
+use Rattle.std.specs.Prelude.{ℕ, List, [], ◌∷◌, map, take, drop, length, slice_index, slice_index_or, Bool, false, nat_le, ◌==◌, ◌&&◌, Option, Some, None, if◌then◌else◌}
+use Rattle.std.specs.List.{range_with_len}
+use Rattle.usb_names.specs.declared.codes.ClassCodes.{ClassCodes}
+use Rattle.usb_explain.specs.Roles.{is_association}
+use Rattle.usb_explain.specs.SettingRemarks.{has_setting}
+
+-- for each of the 256 numbers, whether an interface has it
+unfoldable pub interface_numbers : List (List ℕ) → List Bool
+interface_numbers ds = map (λ number. has_setting number ds) (range_with_len 0 256)
+
+-- an interface has this number
+abbrev pub has_number : List Bool → ℕ → Bool
+has_number numbers number = slice_index_or numbers number false
+
+-- a descriptor of this type behind an interface of this class
+abbrev pub is_of_class : ℕ → ℕ → Option ClassCodes → List ℕ → Bool
+is_of_class class type None d = false
+is_of_class class type (Some codes) d = (codes.class == class) && (slice_index d 1 == type)
+
+-- a functional descriptor of a communications interface
+abbrev pub is_functional : Option ClassCodes → List ℕ → Bool
+is_functional interface d = is_of_class 0x02 0x24 interface d
+
+-- a union, which names a controlling interface and those below it from the fourth byte on
+abbrev pub is_union : Option ClassCodes → List ℕ → Bool
+is_union interface d = is_functional interface d && (nat_le 5 (length d) && (slice_index d 2 == 6))
+
+-- the interfaces that a descriptor names: all of a union, and the first one of an association
+abbrev pub named_interfaces : Option ClassCodes → List ℕ → List ℕ
+named_interfaces interface d =
+    if is_association d then take 1 (drop 2 d)
+    else if is_union interface d then drop 3 d
+    else []
+
+-- the first of these numbers that no interface has
+abbrev pub first_missing : List Bool → List ℕ → Option ℕ
+first_missing numbers [] = None
+first_missing numbers (n ∷ ns) = if has_number numbers n then first_missing numbers ns else Some n
+
+-- the first interface that a descriptor names and that isn't there
+unfoldable pub missing_interface : List Bool → Option ClassCodes → List ℕ → Option ℕ
+missing_interface numbers interface d = first_missing numbers (named_interfaces interface d)

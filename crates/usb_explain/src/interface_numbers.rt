@@ -1,0 +1,110 @@
+//! The numbers of the interfaces of a set, and which of them a descriptor names.
+ghost use Rattle.std.specs.Prelude.{◌≡◌, ◌<◌, ◌||◌, ℕ, false, length, replicate};
+ghost use Rattle.usb_explain.specs.InterfaceNumbers.{first_missing, has_number, is_functional, is_of_class, is_union, missing_interface, named_interfaces};
+ghost use Rattle.usb_explain.specs.SettingRemarks.{is_numbered};
+
+use crate::role::{is_association, is_interface};
+use std::marker::Model;
+use usb_fields::{after, byte_at, prefix};
+use usb_names::ClassCodes;
+
+/// The numbers of the interfaces of a set.
+#[derive(Clone, Debug, Drop)]
+pub(crate) struct InterfaceNumbers {
+    has: [bool; 256],
+}
+
+impl Model for InterfaceNumbers {
+    ghost use Rattle.std.specs.Prelude.{Bool, List};
+
+    ghost Value = { List Bool };
+
+    ghost view = { λ numbers. numbers.has };
+}
+
+impl InterfaceNumbers {
+    /// Of no interface.
+    pub(crate) fn new() -> InterfaceNumbers
+        ensures { result ≡ replicate 256 false }
+    {
+        InterfaceNumbers { has: [false; 256] }
+    }
+
+    /// Adds a descriptor, which has a number where it is an interface.
+    pub(crate) fn add(&mut self, d: &[u8])
+        ensures cells { length self.old ≡ 256 → length self.new ≡ 256 }
+        ensures numbers { length self.old ≡ 256 → (n : ℕ) → n < 256 → has_number self.new n ≡ (has_number self.old n || is_numbered n d.now) }
+    {
+        if is_interface(d) {
+            self.has[usize::from(byte_at(d, 2))] = true;
+        }
+    }
+
+    /// Whether an interface has this number.
+    fn has(&self, number: u8) -> bool
+        ensures { result ≡ has_number self.now number }
+    {
+        self.has[usize::from(number)]
+    }
+
+    /// The first of these numbers that no interface has.
+    fn first_missing(&self, numbers: &[u8]) -> Option<u8>
+        ensures { result ≡ first_missing self.now numbers.now }
+    {
+        match numbers {
+            [] => None,
+            [number, rest @ ..] => {
+                if self.has(*number) {
+                    self.first_missing(rest)
+                } else {
+                    Some(*number)
+                }
+            }
+        }
+    }
+
+    /// The first interface that a descriptor names, behind an interface of these codes, and that isn't there.
+    #[tactic(auto, unfolding(crate::specs::InterfaceNumbers::missing_interface))]
+    pub(crate) fn missing(&self, interface: Option<ClassCodes>, d: &[u8]) -> Option<u8>
+        ensures { result ≡ missing_interface self.now interface d.now }
+    {
+        self.first_missing(named_interfaces(interface, d))
+    }
+}
+
+/// Whether it is of this type, behind an interface of this class.
+pub(crate) fn is_of_class(class: u8, kind: u8, interface: Option<ClassCodes>, d: &[u8]) -> bool
+    ensures { result ≡ is_of_class class kind interface d.now }
+{
+    match interface {
+        None => false,
+        Some(codes) => codes.class == class && byte_at(d, 1) == kind,
+    }
+}
+
+/// Whether it is a functional descriptor of a communications interface (CDC 1.2, 5.2.3).
+pub(crate) fn is_functional(interface: Option<ClassCodes>, d: &[u8]) -> bool
+    ensures { result ≡ is_functional interface d.now }
+{
+    is_of_class(0x02, 0x24, interface, d)
+}
+
+/// Whether it is a union (CDC 1.2, 5.2.3.2).
+fn is_union(interface: Option<ClassCodes>, d: &[u8]) -> bool
+    ensures { result ≡ is_union interface d.now }
+{
+    is_functional(interface, d) && d.len() >= 5 && byte_at(d, 2) == 6
+}
+
+/// The interfaces that a descriptor names: all of a union, and the first one of an association.
+fn named_interfaces(interface: Option<ClassCodes>, d: &[u8]) -> &[u8]
+    ensures { result.now ≡ named_interfaces interface d.now }
+{
+    if is_association(d) {
+        prefix(after(d, 2), 1)
+    } else if is_union(interface, d) {
+        after(d, 3)
+    } else {
+        &[]
+    }
+}
