@@ -69,7 +69,8 @@ pub mod host {
 /// What passes between both ends (USB 2.0, 8.4 and 9.3), and both ends joined over a bus that loses it.
 pub mod bus {
     pub use usb_bus::{
-        Conversation, Fate, Observer, Run, Talk, converse, enumerate, step, step_seen,
+        Asked, Conversation, Fate, Observer, Run, Talk, converse, converse_asked, enumerate, step,
+        step_seen,
     };
     pub use usb_fields::{
         Answer, Class, Recipient, Setup, Stage, Toggle, Transaction, feature, request, request_type,

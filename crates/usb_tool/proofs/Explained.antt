@@ -1,19 +1,19 @@
 -- On the explanation of bytes after a heading.
-use Rattle.std.proofs.Common.{◌≡◌, ◌≢◌, ℕ, List, ◌++◌, Ok, Err, Result, inl, inr, refl, subst, sym, replicate}
+use Rattle.std.proofs.Common.{◌≡◌, ◌≢◌, ℕ, Bool, true, List, ◌++◌, Ok, Err, Result, inl, inr, refl, subst, sym, replicate}
 use Rattle.std.specs.Prelude.{IfErr, IfOk, OnOk}
 use Rattle.std.specs.Io.KnownBytes.{Appends, Keeps}
 use Rattle.usb_text.specs.Output.{AppendsLess, Held}
-use Rattle.usb_text.specs.Shown.{ends}
+use Rattle.usb_text.specs.Shown.{Shown, ends}
 use Rattle.usb_text.specs.Written.{WritesLess, WritesLines}
 use Rattle.usb_text.specs.declared.output.OutFault.{OutFault}
 use Rattle.usb_text.proofs.Pages.{appends_kept, appends_more, front_longer, front_whole}
 use Rattle.usb_text.proofs.WrittenLines.{less_completed, some_lines}
 use Rattle.usb_explain.specs.declared.manner.Manner.{Manner}
-use Rattle.usb_explain.specs.Explanations.{explanation}
+use Rattle.usb_explain.specs.Fragments.{fragment_lines}
 use Rattle.usb_explain.specs.Subjects.{Reading}
-use Rattle.usb_tool.specs.Explains.{Explains, ExplainsFault, RefusesToExplain, WritesExplained}
+use Rattle.usb_tool.specs.Explains.{Explains, ExplainsFault, ExplainsFaultAs, RefusesAs, RefusesToExplain, ReportsFragment, WritesAfter, WritesExplained}
 use Rattle.usb_tool.specs.Faults.{fault_of_input, fault_of_output}
-use Rattle.usb_tool.specs.inside.Telling.{CutsExplained}
+use Rattle.usb_tool.specs.inside.Telling.{CutsAfter, CutsExplained}
 use Rattle.usb_tool.specs.declared.fault.ToolFault.{ToolFault}
 use Rattle.usb_tool.specs.declared.fault.ToolFault.TheVariants as faults
 use Rattle.usb_file_data.specs.Inputs.{InputFaulty, InputRefused, IsInput}
@@ -23,9 +23,9 @@ use Rattle.usb_file_data.specs.declared.file.Input.{Input}
 use Rattle.usb_tool.proofs.Refusals.{IsTold, as_told, cut_short, is_told, shown_fault}
 use Rattle.usb_tool.proofs.Telling.{cut_by, less_after}
 
-module _ (m : Manner) (read : Reading) (heading b : List ℕ) where
+module _ (utf8 : Bool) (shown : List Shown) (heading : List ℕ) where
   -- a heading and then the lines
-  pub explained : (x y z : Held) → Appends x y heading → WritesLines m.look.utf8 (ends (explanation m read b)) y z → WritesExplained Appends m read heading b x z
+  pub explained : (x y z : Held) → Appends x y heading → WritesLines utf8 (ends shown) y z → WritesAfter Appends utf8 shown heading x z
   explained x y z headed lines = record {
     text = heading ++ lines.text;
     explains = record { lines = lines.text; is = lines.lines; joined = refl };
@@ -33,9 +33,9 @@ module _ (m : Manner) (read : Reading) (heading b : List ℕ) where
   }
 
   -- or not all of them
-  pub explained_less : (x y z : Held) → Appends x y heading → WritesLess m.look.utf8 (ends (explanation m read b)) y z → WritesExplained AppendsLess m read heading b x z
+  pub explained_less : (x y z : Held) → Appends x y heading → WritesLess utf8 (ends shown) y z → WritesAfter AppendsLess utf8 shown heading x z
   explained_less x y z headed less =
-      let whole = less_completed m.look.utf8 (ends (explanation m read b)) y z less in
+      let whole = less_completed utf8 (ends shown) y z less in
       record {
         text = heading ++ whole.text;
         explains = record { lines = whole.text; is = whole.lines; joined = refl };
@@ -43,32 +43,37 @@ module _ (m : Manner) (read : Reading) (heading b : List ℕ) where
       }
 
   -- or not all of the heading
-  pub headed_less : (x z : Held) → AppendsLess x z heading → WritesExplained AppendsLess m read heading b x z
+  pub headed_less : (x z : Held) → AppendsLess x z heading → WritesAfter AppendsLess utf8 shown heading x z
   headed_less x z less =
-      let n = ends (explanation m read b) in
-      let lines : List ℕ = replicate n 10 in
+      let lines : List ℕ = replicate (ends shown) 10 in
       record {
         text = heading ++ lines;
-        explains = record { lines = lines; is = some_lines m.look.utf8 n; joined = refl };
+        explains = record { lines = lines; is = some_lines utf8 (ends shown); joined = refl };
         written = front_longer x z heading lines less;
       }
 
   -- all of it, and then the writer was flushed
-  pub flushed : {T : Type 0} (r : Result T ToolFault) (x y z : Held) → WritesExplained Appends m read heading b x y → Keeps y z
-      → OnOk r (WritesExplained Appends m read heading b x z)
+  pub flushed : {T : Type 0} (r : Result T ToolFault) (x y z : Held) → WritesAfter Appends utf8 shown heading x y → Keeps y z
+      → OnOk r (WritesAfter Appends utf8 shown heading x z)
   flushed (Ok v) x y z w kept = record { text = w.text; explains = w.explains; written = appends_kept x y z w.text w.written kept }
   flushed (Err fault) x y z w kept = tt
 
   -- or the flush failed
-  pub not_flushed : {T : Type 0} (r : Result T ToolFault) (x y z : Held) → WritesExplained Appends m read heading b x y → Keeps y z
-      → IfErr r (λ fault. fault ≡ faults.Write) → IfErr r (CutsExplained m read heading b x z)
+  pub not_flushed : {T : Type 0} (r : Result T ToolFault) (x y z : Held) → WritesAfter Appends utf8 shown heading x y → Keeps y z
+      → IfErr r (λ fault. fault ≡ faults.Write) → IfErr r (CutsAfter utf8 shown heading x z)
   not_flushed (Ok v) x y z w kept why = tt
   not_flushed (Err fault) x y z w kept why =
-      subst (λ (f : ToolFault). CutsExplained m read heading b x z f) (sym why) (record { text = w.text; explains = w.explains; cut = front_whole x y z w.text w.written kept })
+      subst (λ (f : ToolFault). CutsAfter utf8 shown heading x z f) (sym why) (record { text = w.text; explains = w.explains; cut = front_whole x y z w.text w.written kept })
 
   -- or not all of it was written
-  pub cut_explained : (o : OutFault) (x z : Held) → WritesExplained AppendsLess m read heading b x z → CutsExplained m read heading b x z (fault_of_output o)
+  pub cut_explained : (o : OutFault) (x z : Held) → WritesAfter AppendsLess utf8 shown heading x z → CutsAfter utf8 shown heading x z (fault_of_output o)
   cut_explained o x z w = record { text = w.text; explains = w.explains; cut = cut_by o w.text x z w.written }
+
+-- the explanation of a fragment was left unfinished
+pub cut_fragment : (m : Manner) (heading b : List ℕ) (x z : Held) (fault : ToolFault) → CutsAfter m.look.utf8 (fragment_lines m b) heading x z fault
+    → RefusesAs true m heading b x z fault
+cut_fragment m heading b x z fault cut =
+    cut_short AppendsLess (ReportsFragment m heading) (ExplainsFaultAs true m heading) b cut.text 0 x z fault (record { explains = cut.explains; ended = refl }) cut.cut
 
 -- ---- bytes of which this was read
 

@@ -24,6 +24,7 @@ use Rattle.usb_text.specs.Output.{Held}
 use Rattle.usb_text.proofs.Pages.{keeps_refl}
 use Rattle.usb_tool.specs.Commands.{Listing, RefusesListing, TellsBytes, TellsFindings, check_status, TellsListing}
 use Rattle.usb_tool.specs.Endings.{AppendsNone, Extent, Fails, Refusal, Refuses, Telling, Told, Left, ReadsAll}
+use Rattle.usb_tool.specs.HexOutputs.{TellsHex, hex_text}
 use Rattle.usb_tool.specs.Faults.{fault_of_file, fault_of_input, fault_of_list, file_fault_by_why, list_fault_by_why}
 use Rattle.usb_tool.specs.Inputs.{Faulty, Form, RefusesInput}
 use Rattle.usb_tool.specs.inside.Taking.{IsNone, TakesNone}
@@ -122,6 +123,10 @@ not_built tells from to shows held text read e r is shown =
 -- what is told of a listing
 pub bytes_told : (lists : Listing) (text : List ℕ) (f : DescriptorFile) → lists text f → (b : List ℕ) → File f b → TellsBytes lists text (file_bytes f) 0
 bytes_told lists text f listing b layout = record { file = f; listing = listing; layout = subst (File f) layout.bytes layout; ended = refl }
+
+pub hex_told : (lists : Listing) (text : List ℕ) (f : DescriptorFile) → lists text f → (b : List ℕ) → File f b
+    → TellsHex lists text (hex_text (file_bytes f)) 0
+hex_told lists text f listing b layout = record { bytes = file_bytes f; built = bytes_told lists text f listing b layout; digits = refl }
 
 -- what is told of an input
 pub listing_told : (is : Form) (b : List ℕ) (input : Input) → is input b → TellsListing is b (input_lines input) 0

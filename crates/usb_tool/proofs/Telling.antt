@@ -18,7 +18,10 @@ use Rattle.usb_device.specs.declared.acceptance.DescriptionFault.{DescriptionFau
 use Rattle.usb_device.specs.declared.acceptance.DescriptionFault.TheVariants as refusals
 use Rattle.usb_bus.specs.declared.enumeration.Run.{Run}
 use Rattle.usb_host.specs.declared.step.Trouble.{Trouble}
-use Rattle.usb_tool.specs.Enumerations.{Conditions, IsNotTaken, IsRun, IsTaken, RefusesToEnumerate, StopsShort, Tells, WritesResult, WritesResultFront, run_status, run_text, refused_line, success_line, trouble_line}
+use Rattle.usb_tool.specs.Enumerations.{Conditions, IsNotTaken, IsRun, IsTaken, RefusesToEnumerate, StopsShort, Tells, WritesResult, WritesResultFront, run_text, refused_line, success_line, trouble_line}
+use Rattle.usb_tool.specs.EnumerationEnds.{end_of}
+use Rattle.usb_tool.specs.declared.enumeration_end.EnumerationEnd.{EnumerationEnd}
+use Rattle.usb_tool.specs.declared.enumeration_end.EnumerationEnd.TheVariants as ends
 use Rattle.usb_tool.specs.Faults.{fault_of_output}
 use Rattle.usb_tool.specs.inside.Telling.{BreaksRun, EndsWith, IsCutShort}
 use Rattle.usb_tool.specs.declared.fault.ToolFault.{ToolFault}
@@ -63,13 +66,13 @@ no_dump_either (Err e) b with_strings is h = λ other. subst (λ s. IsNotTaken s
 
 -- what is told of a file that no device can be made of
 pub refusal_told : (c : Conditions) (f : DescriptorFile) (b : List ℕ) (fault : DescriptionFault) → IsTaken c.flags.with_strings f b
-    → refusal_of f c.speed ≡ Some fault → Tells c b [] (refused_line fault) 1
+    → refusal_of f c.speed ≡ Some fault → Tells c b [] (refused_line fault) (ends.Refused fault)
 refusal_told c f b fault taken why =
     record { file = f; taken = taken; told = inl (record { fault = fault; why = why; told = refl; ended = refl }, refl) }
 
 -- what is told of a run
 pub run_told : (c : Conditions) (f : DescriptorFile) (b : List ℕ) (run : Run) (log : List ℕ) → IsTaken c.flags.with_strings f b → Accepted f c.speed
-    → IsRun c.flags.log c f run log → Tells c b log (run_text run.outcome run) (run_status run.outcome)
+    → IsRun c.flags.log c f run log → Tells c b log (run_text run.outcome run) (end_of run.outcome)
 run_told c f b run log taken accepted enumerated = record {
   file = f;
   taken = taken;
@@ -91,20 +94,20 @@ less_after a b c s t whole less = record {
   written = appends_more a b c s less.front whole less.written;
 }
 
-module _ (c : Conditions) (b log text : List ℕ) (ended : ℕ) (held between holds : Held) (tells : Tells c b log text ended) (logged : Appends held between log) where
+module _ (c : Conditions) (b log text : List ℕ) (ended : EnumerationEnd) (held between holds : Held) (tells : Tells c b log text ended) (logged : Appends held between log) where
   -- what was written is what comes of the bytes
-  pub result_written : (r : Result ℕ ToolFault) → IfOk r (EndsWith text ended between holds) → IfOk r (WritesResult c b held holds)
-  result_written (Ok status) (written, is) =
+  pub result_written : (r : Result EnumerationEnd ToolFault) → IfOk r (EndsWith text ended between holds) → IfOk r (WritesResult c b held holds)
+  result_written (Ok end) (written, is) =
       record { log = log; text = text; tells = subst (Tells c b log text) (sym is) tells; written = appends_more held between holds log text logged written }
   result_written (Err fault) ends = tt
 
   cut_off : (fault : OutFault) → StopsShort fault between holds text → WritesResultFront c b held holds fault
   cut_off fault short =
-      record { log = log; text = text; status = ended; tells = tells; between = between; logged = logged; written = short }
+      record { log = log; text = text; end = ended; tells = tells; between = between; logged = logged; written = short }
 
   -- and where it was cut short, a front of that
-  pub result_cut : (r : Result ℕ ToolFault) → 0 < length text → IfErr r (IsCutShort text between holds) → IfErr r (RefusesToEnumerate c b held holds)
-  result_cut (Ok status) some cut = tt
+  pub result_cut : (r : Result EnumerationEnd ToolFault) → 0 < length text → IfErr r (IsCutShort text between holds) → IfErr r (RefusesToEnumerate c b held holds)
+  result_cut (Ok end) some cut = tt
   result_cut (Err faults.Write) some front = inr (cut_off outs.Write front)
   result_cut (Err faults.Memory) some (inl keeps) =
       inr (inr (cut_off outs.Memory (stopped between holds text [] text refl (appends_nothing between holds keeps) some)))

@@ -50,17 +50,18 @@ abbrev pub command_with : Text → List Rule → App
 command_with name rules = fold with_rule (new_app name) rules
 
 abbrev pub show_app : App
-show_app = command_with (codes "show") (flag_rule (codes "any") ∷ [])
+show_app = command_with (codes "show") (flag_rule (codes "any") ∷ flag_rule (codes "hex") ∷ [])
 
 abbrev pub check_app : App
-check_app = command_with (codes "check") (flag_rule (codes "any") ∷ flag_rule (codes "remarks") ∷ speed_rule ∷ [])
+check_app = command_with (codes "check")
+    (flag_rule (codes "any") ∷ flag_rule (codes "hex") ∷ flag_rule (codes "remarks") ∷ speed_rule ∷ [])
 
 abbrev pub build_app : App
-build_app = command_with (codes "build") (flag_rule (codes "comments") ∷ [])
+build_app = command_with (codes "build") (flag_rule (codes "comments") ∷ flag_rule (codes "force") ∷ flag_rule (codes "hex") ∷ [])
 
 abbrev pub explain_app : App
 explain_app = command_with (codes "explain")
-    (flag_rule (codes "brief") ∷ flag_rule (codes "no-places") ∷ flag_rule (codes "utf8") ∷ flag_rule (codes "hex") ∷ speed_rule ∷ [])
+    (flag_rule (codes "brief") ∷ flag_rule (codes "no-places") ∷ flag_rule (codes "utf8") ∷ flag_rule (codes "hex") ∷ flag_rule (codes "loose") ∷ speed_rule ∷ [])
 
 abbrev pub enumerate_app : App
 enumerate_app = command_with (codes "enumerate")
@@ -102,17 +103,23 @@ pub record HasFlags (o : Explaining) (rows : List Row) : Type 0 where
   pub no_places : o.no_places ≡ gives (codes "no-places") rows
   pub utf8 : o.utf8 ≡ gives (codes "utf8") rows
   pub hex : o.hex ≡ gives (codes "hex") rows
+  pub loose : o.loose ≡ gives (codes "loose") rows
   pub speed : text_of o.speed ≡ first_of (codes "speed") rows
 
 -- the flags of `check` are those that were found, and so is the text of its speed
 pub record IsChecking (o : Checking) (rows : List Row) : Type 0 where
   pub any : o.any ≡ gives (codes "any") rows
+  pub hex : o.hex ≡ gives (codes "hex") rows
   pub remarks : o.remarks ≡ gives (codes "remarks") rows
   pub speed : text_of o.speed ≡ first_of (codes "speed") rows
 
 -- neither remarks nor a speed were found
 abbrev pub finds_alone : List Row → Bool
 finds_alone rows = not (gives (codes "remarks") rows) && not (is_some (first_of (codes "speed") rows))
+
+-- bytes are read or their hexadecimal text, and those of any input or not
+abbrev pub ReadsBy : Bool → Bool → List Row → Type 0
+ReadsBy hex any rows = (gives (codes "hex") rows ≡ hex) × (gives (codes "any") rows ≡ any)
 
 -- the text of each option is the one that was found for it
 pub record HasTexts (o : Options) (rows : List Row) : Type 0 where
@@ -134,16 +141,24 @@ no_flags = record { log = false; with_strings = false }
 abbrev pub Finds : Text → (List Row → Type 0) → Option (Text × List Row) → Type 0
 Finds name has found = IsNamed name found × IfSome found (λ p. has p.1)
 
+-- bytes are written, to a terminal too or not
+abbrev pub WritesBy : Bool → List Row → Type 0
+WritesBy force rows = (gives (codes "hex") rows ≡ false) × (gives (codes "force") rows ≡ force)
+
 -- the line is what the subcommand that was found asks for
 abbrev pub Asks : Line → Option (Text × List Row) → Type 0
-Asks lines.Show = Finds (codes "show") (λ rows. gives (codes "any") rows ≡ false)
-Asks lines.Check = Finds (codes "check") (λ rows. (finds_alone rows ≡ true) × (gives (codes "any") rows ≡ false))
-Asks lines.Build = Finds (codes "build") (λ rows. gives (codes "comments") rows ≡ false)
+Asks lines.Show = Finds (codes "show") (ReadsBy false false)
+Asks lines.Check = Finds (codes "check") (λ rows. (finds_alone rows ≡ true) × ReadsBy false false rows)
+Asks lines.Build = Finds (codes "build") (λ rows. WritesBy false rows × (gives (codes "comments") rows ≡ false))
 Asks (lines.Enumerate o) = Finds (codes "enumerate") (λ rows. HasTexts o rows × (flags_of rows ≡ no_flags))
-Asks lines.ShowAny = Finds (codes "show") (λ rows. gives (codes "any") rows ≡ true)
-Asks lines.CheckAny = Finds (codes "check") (λ rows. (finds_alone rows ≡ true) × (gives (codes "any") rows ≡ true))
+Asks lines.ShowAny = Finds (codes "show") (ReadsBy false true)
+Asks lines.CheckAny = Finds (codes "check") (λ rows. (finds_alone rows ≡ true) × ReadsBy false true rows)
+Asks (lines.ShowHex any) = Finds (codes "show") (ReadsBy true any)
+Asks (lines.CheckHex any) = Finds (codes "check") (λ rows. (finds_alone rows ≡ true) × ReadsBy true any rows)
 Asks (lines.CheckRemarks o) = Finds (codes "check") (λ rows. (finds_alone rows ≡ false) × IsChecking o rows)
-Asks lines.BuildCommented = Finds (codes "build") (λ rows. gives (codes "comments") rows ≡ true)
+Asks lines.BuildCommented = Finds (codes "build") (λ rows. WritesBy false rows × (gives (codes "comments") rows ≡ true))
+Asks (lines.BuildHex comments) = Finds (codes "build") (λ rows. (gives (codes "hex") rows ≡ true) × (comments ≡ gives (codes "comments") rows))
+Asks (lines.BuildForced comments) = Finds (codes "build") (λ rows. WritesBy true rows × (comments ≡ gives (codes "comments") rows))
 Asks (lines.Explain o) = Finds (codes "explain") (HasFlags o)
 Asks (lines.EnumerateWith o flags) = Finds (codes "enumerate") (λ rows. HasTexts o rows × (flags ≡ flags_of rows) × (flags ≢ no_flags))
 

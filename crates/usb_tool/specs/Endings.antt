@@ -29,6 +29,14 @@ pub record ReadsMore (limit : ℕ) (old new : Left) : Type 0 where
   pub read : Consumes old new bytes
   pub above : length bytes ≡ limit + 1
 
+-- what a command does with its input and its output, and its number
+abbrev pub Work : Type 1
+Work = Left → Left → Held → Held → ℕ → Type 0
+
+-- how a command fails
+abbrev pub Failure : Type 1
+Failure = Left → Left → Held → Held → ToolFault → Type 0
+
 -- Reading up to a limit ends with more bytes than that, by a failed read, or out of memory.
 abbrev pub ReadFails : ℕ → Left → Left → ToolFault → Type 0
 ReadFails limit old new faults.TooLarge = ReadsMore limit old new

@@ -25,6 +25,9 @@ use Rattle.usb_host.specs.Limits.{LimitView}
 use Rattle.usb_bus.specs.declared.fate.Fate.{Fate}
 use Rattle.usb_bus.specs.Enumerate.{IsEnumeration}
 use Rattle.usb_bus.specs.Log.{IsLogOf, WritesLogLess}
+use Rattle.usb_tool.specs.EnumerationEnds.{end_of, end_status}
+use Rattle.usb_tool.specs.declared.enumeration_end.EnumerationEnd.{EnumerationEnd}
+use Rattle.usb_tool.specs.declared.enumeration_end.EnumerationEnd.TheVariants.{Refused}
 use Rattle.usb_tool.specs.Endings.{Fails, Succeeds, Left}
 use Rattle.usb_tool.specs.declared.fault.ToolFault.{ToolFault}
 use Rattle.usb_tool.specs.declared.fault.ToolFault.TheVariants as faults
@@ -68,17 +71,12 @@ abbrev pub run_text : Result DescriptorFile Trouble → Run → List ℕ
 run_text (Ok f) run = success_line run ++ file_lines f
 run_text (Err trouble) run = trouble_line trouble run
 
--- the exit status
-abbrev pub run_status : Result DescriptorFile Trouble → ℕ
-run_status (Ok f) = 0
-run_status (Err trouble) = 1
-
 -- no device of this speed can be made of the file, and the text is the line of the first reason
-pub record TellsRefusal (c : Conditions) (f : DescriptorFile) (text : List ℕ) (status : ℕ) : Type 0 where
+pub record TellsRefusal (c : Conditions) (f : DescriptorFile) (text : List ℕ) (end : EnumerationEnd) : Type 0 where
   pub fault : DescriptionFault
   pub why : refusal_of f c.speed ≡ Some fault
   pub told : text ≡ refused_line fault
-  pub ended : status ≡ 1
+  pub ended : end ≡ Refused fault
 
 -- a device with these descriptors was enumerated, and this is the log of that very run, or nothing where none is asked for
 abbrev pub IsRun : Bool → Conditions → DescriptorFile → Run → List ℕ → Type 0
@@ -87,12 +85,12 @@ IsRun true c f run log = IsLogOf f c.speed c.limits c.fates run log
 
 -- a device was made of the file and enumerated, this is the log of that run, if it is asked for, and the text what is reported
 -- of it
-pub record TellsRun (c : Conditions) (f : DescriptorFile) (log text : List ℕ) (status : ℕ) : Type 0 where
+pub record TellsRun (c : Conditions) (f : DescriptorFile) (log text : List ℕ) (end : EnumerationEnd) : Type 0 where
   pub run : Run
   pub accepted : Accepted f c.speed
   pub enumerated : IsRun c.flags.log c f run log
   pub told : text ≡ run_text run.outcome run
-  pub ended : status ≡ run_status run.outcome
+  pub ended : end ≡ end_of run.outcome
 
 -- the bytes are those of the file, or, where strings are asked for, of a dump of which the file is made
 abbrev pub IsTaken : Bool → DescriptorFile → List ℕ → Type 0
@@ -100,16 +98,16 @@ IsTaken false f b = File f b
 IsTaken true f b = IsCompleted f b
 
 -- the log, if there is one, and the text after it tell what comes of the file that is taken of these bytes
-pub record Tells (c : Conditions) (b log text : List ℕ) (status : ℕ) : Type 0 where
+pub record Tells (c : Conditions) (b log text : List ℕ) (end : EnumerationEnd) : Type 0 where
   pub file : DescriptorFile
   pub taken : IsTaken c.flags.with_strings file b
-  pub told : (TellsRefusal c file text status × (log ≡ [])) ⊎ TellsRun c file log text status
+  pub told : (TellsRefusal c file text end × (log ≡ [])) ⊎ TellsRun c file log text end
 
 -- what comes of the bytes was written
-pub record WritesResult (c : Conditions) (b : List ℕ) (held holds : Held) (status : ℕ) : Type 0 where
+pub record WritesResult (c : Conditions) (b : List ℕ) (held holds : Held) (end : EnumerationEnd) : Type 0 where
   pub log : List ℕ
   pub text : List ℕ
-  pub tells : Tells c b log text status
+  pub tells : Tells c b log text end
   pub written : Appends held holds (log ++ text)
 
 -- a prefix of a text was written, which is left unfinished out of memory
@@ -121,8 +119,8 @@ StopsShort outs.Memory held holds text = AppendsLess held holds text
 pub record WritesResultFront (c : Conditions) (b : List ℕ) (held holds : Held) (fault : OutFault) : Type 0 where
   pub log : List ℕ
   pub text : List ℕ
-  pub status : ℕ
-  pub tells : Tells c b log text status
+  pub end : EnumerationEnd
+  pub tells : Tells c b log text end
   pub between : Held
   pub logged : Appends held between log
   pub written : StopsShort fault between holds text
@@ -149,9 +147,13 @@ RefusesToEnumerate c b held holds faults.Memory =
     Keeps held holds ⊎ (WritesLogFront c b held holds outs.Memory ⊎ WritesResultFront c b held holds outs.Memory)
 RefusesToEnumerate c b held holds fault = ⊥
 
--- all was read, at most what a file can have, and what comes of it was written
+-- all was read, at most what a file can have, and what comes of it was written, which ends so
+abbrev pub EnumeratedTo : Conditions → Left → Left → Held → Held → EnumerationEnd → Type 0
+EnumeratedTo c from to held holds end = Succeeds FILE_LIMIT (λ b held holds. WritesResult c b held holds end) from to held holds
+
+-- the same with the exit status
 abbrev pub Enumerated : Conditions → Left → Left → Held → Held → ℕ → Type 0
-Enumerated c from to held holds status = Succeeds FILE_LIMIT (λ b held holds. WritesResult c b held holds status) from to held holds
+Enumerated c from to held holds status = (end : EnumerationEnd) × EnumeratedTo c from to held holds end × (status ≡ end_status end)
 
 -- how `enumerate` fails
 abbrev pub EnumerateFails : Conditions → Left → Left → Held → Held → ToolFault → Type 0

@@ -7,7 +7,8 @@ use Rattle.usb_explain.specs.declared.speed.SetSpeed.{SetSpeed}
 use Rattle.usb_explain.specs.declared.speed.SetSpeed.TheVariants.{Low, Full, High, Super}
 use Rattle.usb_tool.specs.declared.manner.Explaining.{Explaining}
 use Rattle.std.specs.Io.KnownBytes.{Appends, Keeps}
-use Rattle.usb_explain.specs.Explanations.{IsExplanation}
+use Rattle.usb_explain.specs.Explanations.{explanation}
+use Rattle.usb_explain.specs.Fragments.{fragment_lines}
 use Rattle.usb_explain.specs.Subjects.{Reading}
 use Rattle.usb_file_data.specs.Inputs.{InputFaulty, IsInput}
 use Rattle.usb_file_data.specs.declared.file.Input.{Input}
@@ -17,7 +18,9 @@ use Rattle.usb_text.specs.Hexadecimal.{HexFaulty, HexText}
 use Rattle.usb_text.specs.declared.hex_text.HexFault.{HexFault}
 use Rattle.usb_text.specs.declared.hex_text.HexFault.TheVariants as hexes
 use Rattle.usb_text.specs.Output.{AppendsLess, Held}
+use Rattle.usb_text.specs.Shown.{Shown, ends}
 use Rattle.usb_text.specs.Stops.{stop_line}
+use Rattle.usb_text.specs.Written.{AreLines}
 use Rattle.usb_tool.specs.Endings.{Extent, Fails, Refusal, Refuses, Telling, Told, Left}
 use Rattle.usb_tool.specs.Inputs.{OfInput}
 use Rattle.usb_tool.specs.declared.fault.ToolFault.{ToolFault}
@@ -46,6 +49,7 @@ pub record IsManner (o : Explaining) (m : Manner) : Type 0 where
   pub places : m.look.places ≡ not o.no_places
   pub utf8 : m.look.utf8 ≡ o.utf8
   pub speed : running_said o.speed ≡ Some m.speed
+  pub decoded : m.decoded ≡ false
 
 -- no speed has the name that the options say
 abbrev pub HasBadSpeed : Explaining → Type 0
@@ -57,11 +61,15 @@ HasBadSpeed o = running_said o.speed ≡ None
 unfoldable pub hexadecimal_words : ℕ → List ℕ
 hexadecimal_words n = codes "hexadecimal text, " ++ count n (codes "byte") ++ codes ": "
 
--- a heading, and the lines that explain bytes of which this was read
-pub record ExplainsAfter (m : Manner) (read : Reading) (heading b text : List ℕ) : Type 0 where
+-- a heading, and the lines that show this
+pub record ShowsAfter (utf8 : Bool) (shown : List Shown) (heading text : List ℕ) : Type 0 where
   pub lines : List ℕ
-  pub is : IsExplanation m read b lines
+  pub is : AreLines utf8 (ends shown) lines
   pub joined : text ≡ heading ++ lines
+
+-- a heading, and the lines that explain bytes of which this was read
+abbrev pub ExplainsAfter : Manner → Reading → List ℕ → List ℕ → List ℕ → Type 0
+ExplainsAfter m read heading b text = ShowsAfter m.look.utf8 (explanation m read b) heading text
 
 -- the explanation of the set, the file or the dump that the bytes are is reported after a heading, with status 0
 pub record ReportsExplanation (m : Manner) (heading b text : List ℕ) (status : ℕ) : Type 0 where
@@ -81,11 +89,15 @@ pub record ReportsBroken (m : Manner) (heading b text : List ℕ) (status : ℕ)
 abbrev pub Explains : Manner → List ℕ → List ℕ → List ℕ → ℕ → Type 0
 Explains m heading b text status = ReportsExplanation m heading b text status ⊎ ReportsBroken m heading b text status
 
--- so much of a heading and an explanation was written
-pub record WritesExplained (extent : Extent) (m : Manner) (read : Reading) (heading b : List ℕ) (held holds : Held) : Type 0 where
+-- so much was written of a heading and the lines that show this
+pub record WritesAfter (extent : Extent) (utf8 : Bool) (shown : List Shown) (heading : List ℕ) (held holds : Held) : Type 0 where
   pub text : List ℕ
-  pub explains : ExplainsAfter m read heading b text
+  pub explains : ShowsAfter utf8 shown heading text
   pub written : extent held holds text
+
+-- so much of a heading and an explanation was written
+abbrev pub WritesExplained : Extent → Manner → Reading → List ℕ → List ℕ → Held → Held → Type 0
+WritesExplained extent m read heading b = WritesAfter extent m.look.utf8 (explanation m read b) heading
 
 -- the bytes show this fault of an input, and were explained as far as they go
 abbrev pub ExplainsFault : Manner → List ℕ → Refusal
@@ -97,23 +109,52 @@ ExplainsFault m heading b held holds =
 abbrev pub RefusesToExplain : Manner → List ℕ → Refusal
 RefusesToExplain m heading = Refuses AppendsLess (Explains m heading) (ExplainsFault m heading)
 
--- The bytes that are explained, and their heading: those of a hexadecimal text, and unless it has to be one the bytes
--- themselves where they are none, with the line that says why.
-abbrev pub IsReadAs : Bool → List ℕ → List ℕ → List ℕ → Type 0
-IsReadAs hex b bytes heading =
-    (HexText b bytes × (heading ≡ hexadecimal_words (length bytes)))
-    ⊎ ((hex ≡ false) × ((fault : HexFault) × HexFaulty b fault × (heading ≡ stop_line b fault)) × (bytes ≡ b))
+-- The bytes as a fragment, which has no fault, are explained after a heading, with status 0.
+pub record ReportsFragment (m : Manner) (heading b text : List ℕ) (status : ℕ) : Type 0 where
+  pub explains : ShowsAfter m.look.utf8 (fragment_lines m b) heading text
+  pub ended : status ≡ 0
+
+-- bytes are explained as a fragment or as an input
+abbrev pub ReportsAs : Bool → Manner → List ℕ → Telling
+ReportsAs true = ReportsFragment
+ReportsAs false = ReportsExplanation
+
+-- what is written then, where it is left unfinished too
+abbrev pub ExplainsAs : Bool → Manner → List ℕ → Telling
+ExplainsAs true = ReportsFragment
+ExplainsAs false = Explains
+
+-- the fault that the bytes show as an input
+abbrev pub ExplainsFaultAs : Bool → Manner → List ℕ → Refusal
+ExplainsFaultAs true = λ m heading b held holds fault. ⊥
+ExplainsFaultAs false = ExplainsFault
+
+-- how bytes are not explained so
+abbrev pub RefusesAs : Bool → Manner → List ℕ → Refusal
+RefusesAs loose m heading = Refuses AppendsLess (ExplainsAs loose m heading) (ExplainsFaultAs loose m heading)
+
+-- bytes that were decoded are explained in the same manner, but not called text
+abbrev pub decoded_manner : Manner → Manner
+decoded_manner m = record m { decoded = true }
+
+-- The bytes that are explained, in which manner, and their heading: those of a hexadecimal text, as decoded ones, and unless it
+-- has to be one the bytes themselves where they are none, with the line that says why.
+abbrev pub IsReadAs : Bool → Manner → List ℕ → Manner → List ℕ → List ℕ → Type 0
+IsReadAs hex m b explained bytes heading =
+    (HexText b bytes × (heading ≡ hexadecimal_words (length bytes)) × (explained ≡ decoded_manner m))
+    ⊎ ((hex ≡ false) × ((fault : HexFault) × HexFaulty b fault × (heading ≡ stop_line b fault)) × (bytes ≡ b) × (explained ≡ m))
 
 -- this is done with them
-pub record DoesWithText (hex : Bool) (b : List ℕ) (does : List ℕ → List ℕ → Type 0) : Type 0 where
+pub record DoesWithText (hex : Bool) (m : Manner) (b : List ℕ) (does : Manner → List ℕ → List ℕ → Type 0) : Type 0 where
+  pub manner : Manner
   pub bytes : List ℕ
   pub heading : List ℕ
-  pub is : IsReadAs hex b bytes heading
-  pub done : does heading bytes
+  pub is : IsReadAs hex m b manner bytes heading
+  pub done : does manner heading bytes
 
 -- their explanation is reported
-abbrev pub ReportsText : Bool → Manner → Telling
-ReportsText hex m b text status = DoesWithText hex b (λ heading bytes. ReportsExplanation m heading bytes text status)
+abbrev pub ReportsText : Bool → Bool → Manner → Telling
+ReportsText loose hex m b text status = DoesWithText hex m b (λ manner heading bytes. ReportsAs loose manner heading bytes text status)
 
 -- hexadecimal text has to be, and the bytes are none, or out of memory as it is read
 abbrev pub RefusesHex : Bool → List ℕ → ToolFault → Type 0
@@ -122,18 +163,18 @@ RefusesHex hex b tools.Memory = Unit {0}
 RefusesHex hex b fault = ⊥
 
 -- how bytes are not explained
-abbrev pub RefusesText : Bool → Manner → Refusal
-RefusesText hex m b held holds fault =
-    DoesWithText hex b (λ heading bytes. RefusesToExplain m heading bytes held holds fault)
+abbrev pub RefusesText : Bool → Bool → Manner → Refusal
+RefusesText loose hex m b held holds fault =
+    DoesWithText hex m b (λ manner heading bytes. RefusesAs loose manner heading bytes held holds fault)
     ⊎ (RefusesHex hex b fault × Keeps held holds)
 
 -- all was read, at most what a file can have, and its explanation was written
-abbrev pub Explained : Bool → Manner → Left → Left → Held → Held → ℕ → Type 0
-Explained hex m = Told FILE_LIMIT (ReportsText hex m)
+abbrev pub Explained : Bool → Bool → Manner → Left → Left → Held → Held → ℕ → Type 0
+Explained loose hex m = Told FILE_LIMIT (ReportsText loose hex m)
 
 -- how `explain` fails
-abbrev pub ExplainFails : Bool → Manner → Left → Left → Held → Held → ToolFault → Type 0
-ExplainFails hex m = Fails FILE_LIMIT (RefusesText hex m)
+abbrev pub ExplainFails : Bool → Bool → Manner → Left → Left → Held → Held → ToolFault → Type 0
+ExplainFails loose hex m = Fails FILE_LIMIT (RefusesText loose hex m)
 
 -- no set, file or dump is hexadecimal text
 abbrev pub NoInputIsHexadecimal : Type 0

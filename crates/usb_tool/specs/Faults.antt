@@ -16,7 +16,7 @@ use Rattle.usb_file_data.specs.declared.fault.FileWhy.{FileWhy}
 use Rattle.usb_file_data.specs.declared.fault.FileWhy.TheVariants as files
 use Rattle.usb_file_data.specs.declared.fault.InputFault.{InputFault}
 use Rattle.usb_file_data.specs.declared.fault.InputFault.TheVariants as inputs
-use Rattle.usb_listing.specs.Listings.{why_number as list_why_number}
+use Rattle.usb_listing.specs.Listings.{why_message as list_why_message, why_number as list_why_number}
 use Rattle.usb_listing.specs.declared.fault.ListFault.{ListFault}
 use Rattle.usb_listing.specs.declared.fault.ListWhy.{ListWhy}
 use Rattle.usb_listing.specs.declared.fault.ListWhy.TheVariants as lists
@@ -53,23 +53,13 @@ abbrev pub file_meaning : FileWhy → List ℕ
 file_meaning (files.Set why) = set_why_message why
 file_meaning why = file_why_message why
 
--- what is wrong with a line of a listing
-abbrev pub list_meaning : ListWhy → List ℕ
-list_meaning lists.Line = codes "no whole line of printable text"
-list_meaning lists.Word = codes "no known word"
-list_meaning lists.Place = codes "the word can't stand here"
-list_meaning lists.Field = codes "a field is missing, superfluous or not in its form"
-list_meaning lists.TooLong = codes "the set is over 65,535 bytes"
-list_meaning lists.Missing = codes "the text ends before the file does"
-list_meaning lists.Memory = codes "out of memory"
-
 -- what a fault means
 abbrev pub fault_meaning : ToolFault → List ℕ
 fault_meaning faults.Read = codes "standard input can't be read"
 fault_meaning faults.Write = codes "standard output can't be written"
 fault_meaning faults.TooLarge = codes "no file is that long"
 fault_meaning (faults.File fault) = file_meaning fault.why
-fault_meaning (faults.List fault) = list_meaning fault.why
+fault_meaning (faults.List fault) = list_why_message fault.why
 fault_meaning (faults.Set fault) = set_why_message fault.why
 fault_meaning (faults.Trailing at) = codes "bytes after the end of the set"
 fault_meaning faults.Memory = codes "there was not enough memory"
@@ -81,6 +71,10 @@ hint_words hints.Any = codes "; --any takes sets and dumps too"
 hint_words hints.WithStrings = codes "; --with-strings takes a dump too"
 hint_words hints.Comments = codes "; --comments drops comments and empty lines"
 hint_words hints.Explain = codes "; see 'usbdesc explain' of it"
+hint_words hints.Check = codes "; see 'usbdesc check --any' of it"
+hint_words hints.Speed = codes "; try another --speed"
+hint_words hints.Naks = codes "; --naks sets the limit"
+hint_words hints.Log = codes "; --log shows each transaction"
 hint_words hints.Nothing = []
 
 -- what to try where the input is at fault

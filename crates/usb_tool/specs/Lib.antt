@@ -1,8 +1,11 @@
 pub mod Endings
 pub mod Faults
 pub mod Inputs
+pub mod HexInputs
+pub mod HexOutputs
 pub mod Commands
 pub mod RemarkChecks
+pub mod EnumerationEnds
 pub mod Enumerations
 pub mod Explains
 pub mod CommandLine

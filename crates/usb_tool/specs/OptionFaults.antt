@@ -28,6 +28,7 @@ settings_line faults.Speed = codes "usbdesc: bad speed"
 settings_line faults.Fates = codes "usbdesc: bad fates"
 settings_line faults.Memory = codes "usbdesc: out of memory"
 settings_line faults.SpeedAlone = codes "usbdesc: --speed without --remarks"
+settings_line faults.ToTerminal = codes "usbdesc: bytes not written to a terminal"
 
 -- what it means, for people
 abbrev pub settings_meaning : SettingsFault → List ℕ
@@ -36,6 +37,7 @@ settings_meaning faults.Speed = codes "a speed is low, full or high, of explain 
 settings_meaning faults.Fates = codes "a letter that names no fate: they are . n d u a"
 settings_meaning faults.Memory = codes "there was not enough memory"
 settings_meaning faults.SpeedAlone = codes "a speed is for remarks: check --remarks --speed full"
+settings_meaning faults.ToTerminal = codes "usbdesc build < LISTING > FILE, or --force"
 
 -- the exit status: 2 as for a line that is no command, and 3 where it is out of memory
 abbrev pub settings_status : SettingsFault → ℕ

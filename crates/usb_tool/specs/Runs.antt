@@ -9,12 +9,19 @@ use Rattle.clap.specs.declared.error.kind.ErrorKind.TheVariants as kinds
 use Rattle.usb_text.specs.Output.{AppendsFront, Held}
 use Rattle.usb_tool.specs.Commands.{BuildCommentedFails, BuildFails, Built, BuiltCommented, CheckAnyFails, CheckFails, Checked, CheckedAny, ShowAnyFails, ShowFails, Shown, ShownAny}
 use Rattle.usb_tool.specs.RemarkChecks.{CheckRemarksFails, CheckedRemarks, IsRunningSpeed, RefusesChecking}
-use Rattle.usb_tool.specs.Enumerations.{Conditions, EnumerateFails, Enumerated, under}
+use Rattle.usb_tool.specs.Enumerations.{Conditions, EnumerateFails, EnumeratedTo, under}
+use Rattle.usb_tool.specs.EnumerationEnds.{end_status, refusal_meaning, trouble_meaning}
+use Rattle.usb_tool.specs.declared.enumeration_end.EnumerationEnd.{EnumerationEnd}
+use Rattle.usb_tool.specs.declared.enumeration_end.EnumerationEnd.TheVariants as ends
 use Rattle.usb_tool.specs.Explains.{ExplainFails, Explained, HasBadSpeed, IsManner}
 use Rattle.usb_tool.specs.Faults.{fault_line, meaning_line}
 use Rattle.usb_tool.specs.declared.meaning.Hint.{Hint}
 use Rattle.usb_tool.specs.declared.meaning.Hint.TheVariants as hints
-use Rattle.usb_tool.specs.Endings.{Left}
+use Rattle.usb_tool.specs.Endings.{Failure, Left, Work}
+use Rattle.usb_tool.specs.HexInputs.{HexDone, HexFails, failure_of, work_of}
+use Rattle.usb_tool.specs.HexOutputs.{BuildHexFails, BuiltHex}
+use Rattle.usb_tool.specs.declared.hex_input.HexCommand.{HexCommand}
+use Rattle.usb_tool.specs.declared.hex_input.HexCommand.TheVariants as commands
 use Rattle.usb_tool.specs.CommandLine.{Asks, no_flags, usbdesc_app, word_texts}
 use Rattle.usb_tool.specs.declared.fault.ToolFault.{ToolFault}
 use Rattle.usb_explain.specs.declared.manner.Manner.{Manner}
@@ -29,7 +36,8 @@ use Rattle.usb_tool.specs.declared.settings.EnumerateFlags.{EnumerateFlags}
 use Rattle.usb_tool.specs.declared.settings.Options.{Options}
 use Rattle.usb_tool.specs.declared.settings.Settings.{Settings}
 use Rattle.usb_tool.specs.declared.settings.SettingsFault.{SettingsFault}
-use Rattle.usb_tool.specs.declared.settings.SettingsFault.TheVariants.{Speed}
+use Rattle.usb_tool.specs.declared.settings.SettingsFault.TheVariants.{Speed, ToTerminal}
+use Rattle.usb_tool.specs.declared.terminals.Terminals.{Terminals}
 
 -- the exit status of a line that is no command: 0 where it asks for help or the version, else 2
 abbrev pub line_status : ErrorKind → ℕ
@@ -43,14 +51,6 @@ abbrev pub Answers : ErrorKind → List ℕ → Held → Held → Held → Held 
 Answers kinds.DisplayHelp text held holds errors told = AppendsFront held holds text × Keeps errors told
 Answers kinds.DisplayVersion text held holds errors told = AppendsFront held holds text × Keeps errors told
 Answers _ text held holds errors told = Keeps held holds × AppendsFront errors told text
-
--- what a command does with its input and its output, and its number
-abbrev pub Work : Type 1
-Work = Left → Left → Held → Held → ℕ → Type 0
-
--- how a command fails
-abbrev pub Failure : Type 1
-Failure = Left → Left → Held → Held → ToolFault → Type 0
 
 -- what a run does with its input, its output and standard error, and its exit status
 abbrev pub Course : Type 1
@@ -98,30 +98,70 @@ pub record OptionsAreRefused (person : Bool) (refuses : SettingsFault → Type 0
   pub line : ReportsLines person (settings_line fault) (settings_meaning fault) errors told
   pub ended : status ≡ settings_status fault
 
+-- neither stream is a terminal
+abbrev pub no_terminals : Terminals
+no_terminals = record { output = false; errors = false }
+
 -- how `explain` ends with these options: the one that is refused is a speed
 abbrev pub EndsExplanation : Bool → Explaining → Course
 EndsExplanation person o from to held holds errors told status =
-    OptionsAreTaken Manner (IsManner o) (λ m. Ends person hints.Nothing (Explained o.hex m) (ExplainFails o.hex m)) from to held holds errors told status
+    OptionsAreTaken Manner (IsManner o) (λ m. Ends person hints.Nothing (Explained o.loose o.hex m) (ExplainFails o.loose o.hex m)) from to held holds errors told status
     ⊎ OptionsAreRefused person (λ fault. (fault ≡ Speed) × HasBadSpeed o) from to held holds errors told status
 
 -- what to try where the input of `enumerate` is at fault
 abbrev pub enumerate_hint : Bool → Hint
 enumerate_hint with_strings = if with_strings then hints.Explain else hints.WithStrings
 
--- what to try where the input of `check` is at fault
-abbrev pub check_hint : Bool → Hint
-check_hint any = if any then hints.Explain else hints.Any
+-- what to try where the input of `show` or `check` is at fault
+abbrev pub any_hint : Bool → Hint
+any_hint any = if any then hints.Explain else hints.Any
+
+-- how a command ends whose input is hexadecimal text
+abbrev pub EndsHex : Bool → Bool → HexCommand → Course
+EndsHex person any command = Ends person (any_hint any) (HexDone (work_of command)) (HexFails (failure_of command))
+
+-- how `check --remarks` ends, with `--hex` or without, of a device that ran at this speed, if it is known
+abbrev pub EndsRemarks : Bool → Bool → Bool → Option SetSpeed → Course
+EndsRemarks true person any running = EndsHex person any (commands.CheckRemarks any running)
+EndsRemarks false person any running = Ends person (any_hint any) (CheckedRemarks any running) (CheckRemarksFails any running)
 
 -- how `check` ends with these options: a speed is for remarks alone
 abbrev pub EndsChecking : Bool → Checking → Course
 EndsChecking person o from to held holds errors told status =
     OptionsAreTaken (Option SetSpeed) (IsRunningSpeed o)
-    (λ running. Ends person (check_hint o.any) (CheckedRemarks o.any running) (CheckRemarksFails o.any running)) from to held holds errors told status
+    (EndsRemarks o.hex person o.any) from to held holds errors told status
     ⊎ OptionsAreRefused person (RefusesChecking o) from to held holds errors told status
+
+-- after an enumeration standard error has for a person what its end means, if that isn't success, and else nothing
+abbrev pub ReportsEnd : Bool → Bool → EnumerationEnd → Held → Held → Type 0
+ReportsEnd false logged end errors told = Keeps errors told
+ReportsEnd true logged ends.Success errors told = Keeps errors told
+ReportsEnd true logged (ends.Refused fault) errors told = ReportsLine (refusal_meaning fault) errors told
+ReportsEnd true logged (ends.Trouble trouble) errors told = ReportsLine (trouble_meaning logged trouble) errors told
+
+-- after a fault it has its line, for a person with what it means and what to try
+abbrev pub ReportsEnded : Bool → EnumerateFlags → Result EnumerationEnd ToolFault → Held → Held → Type 0
+ReportsEnded person flags (Ok end) errors told = ReportsEnd person flags.log end errors told
+ReportsEnded person flags (Err fault) errors told =
+    ReportsLines person (fault_line fault) (meaning_line (enumerate_hint flags.with_strings) fault) errors told
+
+-- its exit status
+abbrev pub ended_status : Result EnumerationEnd ToolFault → ℕ
+ended_status (Ok end) = end_status end
+ended_status (Err fault) = 3
+
+-- an enumeration was made, and ended so
+pub record EndsEnumerated (person : Bool) (c : Conditions) (from to : Left) (held holds errors told : Held) (status : ℕ) : Type 0 where
+  pub end : EnumerationEnd
+  pub enumerated : EnumeratedTo c from to held holds end
+  pub line : ReportsEnd person c.flags.log end errors told
+  pub ended : status ≡ end_status end
 
 -- how `enumerate` ends under these conditions
 abbrev pub EndsUnder : Bool → Conditions → Course
-EndsUnder person c = Ends person (enumerate_hint c.flags.with_strings) (Enumerated c) (EnumerateFails c)
+EndsUnder person c from to held holds errors told status =
+    EndsEnumerated person c from to held holds errors told status
+    ⊎ EndsInFault person (enumerate_hint c.flags.with_strings) (EnumerateFails c) from to held holds errors told status
 
 -- how `enumerate` ends with these options and flags
 abbrev pub EndsEnumeration : Bool → Options → EnumerateFlags → Course
@@ -129,24 +169,42 @@ EndsEnumeration person o flags from to held holds errors told status =
     OptionsAreTaken Settings (IsSettled o) (λ s. EndsUnder person (under s.limits s.speed s.fates.items flags)) from to held holds errors told status
     ⊎ OptionsAreRefused person (RefusesOptions o) from to held holds errors told status
 
--- how ends what a line asks for
-abbrev pub EndsLine : Bool → Line → Course
-EndsLine person lines.Show = Ends person hints.Any Shown ShowFails
-EndsLine person lines.Check = Ends person hints.Any Checked CheckFails
-EndsLine person lines.Build = Ends person hints.Comments Built BuildFails
-EndsLine person (lines.Enumerate options) = EndsEnumeration person options no_flags
-EndsLine person lines.ShowAny = Ends person hints.Explain ShownAny ShowAnyFails
-EndsLine person lines.CheckAny = Ends person hints.Explain CheckedAny CheckAnyFails
-EndsLine person (lines.CheckRemarks options) = EndsChecking person options
-EndsLine person lines.BuildCommented = Ends person hints.Nothing BuiltCommented BuildCommentedFails
-EndsLine person (lines.Explain options) = EndsExplanation person options
-EndsLine person (lines.EnumerateWith options flags) = EndsEnumeration person options flags
+-- what to try where the input of `build` is at fault
+abbrev pub build_hint : Bool → Hint
+build_hint comments = if comments then hints.Nothing else hints.Comments
+
+-- how `build` ends, which drops comments or doesn't
+abbrev pub EndsBuild : Bool → Bool → Course
+EndsBuild person false = Ends person (build_hint false) Built BuildFails
+EndsBuild person true = Ends person (build_hint true) BuiltCommented BuildCommentedFails
+
+-- bytes are not written to a terminal, unless that is asked for
+abbrev pub EndsOffTerminal : Bool → Bool → Course → Course
+EndsOffTerminal false person ends = ends
+EndsOffTerminal true person ends = OptionsAreRefused person (λ fault. fault ≡ ToTerminal)
+
+-- how ends what a line asks for, where these streams are terminals
+abbrev pub EndsLine : Terminals → Line → Course
+EndsLine at lines.Show = Ends at.errors hints.Any Shown ShowFails
+EndsLine at lines.Check = Ends at.errors hints.Any Checked CheckFails
+EndsLine at lines.Build = EndsOffTerminal at.output at.errors (EndsBuild at.errors false)
+EndsLine at (lines.Enumerate options) = EndsEnumeration at.errors options no_flags
+EndsLine at lines.ShowAny = Ends at.errors hints.Explain ShownAny ShowAnyFails
+EndsLine at lines.CheckAny = Ends at.errors hints.Explain CheckedAny CheckAnyFails
+EndsLine at (lines.ShowHex any) = EndsHex at.errors any (commands.Show any)
+EndsLine at (lines.CheckHex any) = EndsHex at.errors any (commands.Check any)
+EndsLine at (lines.CheckRemarks options) = EndsChecking at.errors options
+EndsLine at lines.BuildCommented = EndsOffTerminal at.output at.errors (EndsBuild at.errors true)
+EndsLine at (lines.BuildHex comments) = Ends at.errors (build_hint comments) (BuiltHex comments) (BuildHexFails comments)
+EndsLine at (lines.BuildForced comments) = EndsBuild at.errors comments
+EndsLine at (lines.Explain options) = EndsExplanation at.errors options
+EndsLine at (lines.EnumerateWith options flags) = EndsEnumeration at.errors options flags
 
 -- the words are a line, and what it asks for was done
-pub record LineIsTaken (person : Bool) (words : List (String Global)) (from to : Left) (held holds errors told : Held) (status : ℕ) : Type 0 where
+pub record LineIsTaken (at : Terminals) (words : List (String Global)) (from to : Left) (held holds errors told : Held) (status : ℕ) : Type 0 where
   pub line : Line
   pub asked : Asks line (subcommand_of usbdesc_app (word_texts words))
-  pub ended : EndsLine person line from to held holds errors told status
+  pub ended : EndsLine at line from to held holds errors told status
 
 -- the words are no command, for one of the reasons that clap has, or memory is wanting; nothing is read, and a text is
 -- written, which clap leaves open
@@ -158,7 +216,7 @@ pub record LineIsRefused (words : List (String Global)) (from to : Left) (held h
   pub answered : Answers kind text held holds errors told
   pub ended : status ≡ line_status kind
 
--- what a run has done, whose faults are explained for a person or not, and its exit status
-abbrev pub Runs : Bool → List (String Global) → Course
-Runs person words from to held holds errors told status =
-    LineIsTaken person words from to held holds errors told status ⊎ LineIsRefused words from to held holds errors told status
+-- what a run has done, where these streams are terminals, and its exit status
+abbrev pub Runs : Terminals → List (String Global) → Course
+Runs at words from to held holds errors told status =
+    LineIsTaken at words from to held holds errors told status ⊎ LineIsRefused words from to held holds errors told status

@@ -76,6 +76,7 @@ RefusesOptions o faults.Speed = IsSome (limits_said o) × (speed_said o ≡ None
 RefusesOptions o faults.Fates = IsSome (limits_said o) × (IsSome (speed_said o) × IsSomeAnd o.fates (λ text. RefusesFates text.now letters.Letter))
 RefusesOptions o faults.Memory = IsSome (limits_said o) × (IsSome (speed_said o) × IsSomeAnd o.fates (λ text. RefusesFates text.now letters.Memory))
 RefusesOptions o faults.SpeedAlone = ⊥
+RefusesOptions o faults.ToTerminal = ⊥
 
 -- a fault of the fates is one of the settings
 abbrev pub settings_fault_of : FatesFault → SettingsFault

@@ -75,7 +75,7 @@ fn put_file<W: Write>(alloc: Global, f: &DescriptorFile, w: &mut W) -> Result<u8
 }
 
 /// The bytes of a file that has some.
-fn bytes_of(alloc: Global, f: &DescriptorFile) -> Result<Vec<u8>, AllocError>
+pub(crate) fn bytes_of(alloc: Global, f: &DescriptorFile) -> Result<Vec<u8>, AllocError>
     requires { (b : List ℕ) × File f.now b }
     ensures { IfOk result (λ b. File f.now b.items) }
 {

@@ -11,6 +11,8 @@ use usb_explain::SetSpeed;
 pub struct Checking<'a> {
     /// Whether a set or a dump is taken too.
     pub any: bool,
+    /// Whether the input has to be hexadecimal text.
+    pub hex: bool,
     /// Whether remarks are written too.
     pub remarks: bool,
     /// The name of a speed, or `None` where the words lack it.
@@ -20,7 +22,7 @@ pub struct Checking<'a> {
 /// The speed at which the device ran, if one is named.
 ///
 /// ```rust
-/// let checking = Checking { any: true, remarks: true, speed: Some("high") };
+/// let checking = Checking { any: true, hex: false, remarks: true, speed: Some("high") };
 /// assert_eq!(rt; running_speed(&checking)?, Some(SetSpeed::High));
 /// ```
 ///

@@ -8,9 +8,9 @@ use crate::help::{
     ABOUT, ADDRESS_HELP, ATTEMPTS_HELP, BRIEF_HELP, BUILD_ABOUT, BUILD_HELP, BUILD_USAGE,
     CHECK_ABOUT, CHECK_ANY_HELP, CHECK_HELP, CHECK_USAGE, COMMENTS_HELP, ENUMERATE_ABOUT,
     ENUMERATE_HELP, ENUMERATE_USAGE, EXPLAIN_ABOUT, EXPLAIN_HELP, EXPLAIN_USAGE, FATES, FATES_HELP,
-    HEX_HELP, LOG_HELP, NAKS_HELP, NO_PLACES_HELP, RAN_AT_HELP, REMARKS_HELP, RUNNING_SPEEDS,
-    SHOW_ABOUT, SHOW_ANY_HELP, SHOW_HELP, SHOW_USAGE, SPEED_HELP, SPEEDS, UTF8_HELP, VERSION,
-    WITH_STRINGS_HELP,
+    FORCE_HELP, HEX_HELP, HEX_OUTPUT_HELP, LOG_HELP, LOOSE_HELP, NAKS_HELP, NO_PLACES_HELP,
+    RAN_AT_HELP, REMARKS_HELP, RUNNING_SPEEDS, SHOW_ABOUT, SHOW_ANY_HELP, SHOW_HELP, SHOW_USAGE,
+    SPEED_HELP, SPEEDS, UTF8_HELP, VERSION, WITH_STRINGS_HELP,
 };
 use clap::{Arg, ArgAction, Command, value_parser};
 use std::alloc::{AllocError, Global};
@@ -38,13 +38,14 @@ fn add_command<'a>(command: Command<'a>, subcommand: Command<'a>) -> Result<Comm
     command.subcommand(subcommand)
 }
 
-/// The subcommand `show` with its option.
+/// The subcommand `show` with its options.
 fn show<'a>(alloc: Global) -> Result<Command<'a>, AllocError>
     ensures app { IfOk result (λ c. app_of c ≡ show_app) }
     ensures local { IfOk result (λ c. (out-Command c).has_globals ≡ false) }
 {
     let show = command(alloc, "show", SHOW_USAGE, SHOW_ABOUT, SHOW_HELP);
-    add_option(show, flag(alloc, "any", SHOW_ANY_HELP))
+    let show = add_option(show, flag(alloc, "any", SHOW_ANY_HELP))?;
+    add_option(show, flag(alloc, "hex", HEX_HELP))
 }
 
 /// The subcommand `check` with its options.
@@ -54,17 +55,20 @@ fn check<'a>(alloc: Global) -> Result<Command<'a>, AllocError>
 {
     let check = command(alloc, "check", CHECK_USAGE, CHECK_ABOUT, CHECK_HELP);
     let check = add_option(check, flag(alloc, "any", CHECK_ANY_HELP))?;
+    let check = add_option(check, flag(alloc, "hex", HEX_HELP))?;
     let check = add_option(check, flag(alloc, "remarks", REMARKS_HELP))?;
     add_option(check, ran_at(alloc))
 }
 
-/// The subcommand `build` with its option.
+/// The subcommand `build` with its options.
 fn build<'a>(alloc: Global) -> Result<Command<'a>, AllocError>
     ensures app { IfOk result (λ c. app_of c ≡ build_app) }
     ensures local { IfOk result (λ c. (out-Command c).has_globals ≡ false) }
 {
     let build = command(alloc, "build", BUILD_USAGE, BUILD_ABOUT, BUILD_HELP);
-    add_option(build, flag(alloc, "comments", COMMENTS_HELP))
+    let build = add_option(build, flag(alloc, "comments", COMMENTS_HELP))?;
+    let build = add_option(build, flag(alloc, "force", FORCE_HELP))?;
+    add_option(build, flag(alloc, "hex", HEX_OUTPUT_HELP))
 }
 
 /// The subcommand `explain` with its options.
@@ -77,6 +81,7 @@ fn explain<'a>(alloc: Global) -> Result<Command<'a>, AllocError>
     let explain = add_option(explain, flag(alloc, "no-places", NO_PLACES_HELP))?;
     let explain = add_option(explain, flag(alloc, "utf8", UTF8_HELP))?;
     let explain = add_option(explain, flag(alloc, "hex", HEX_HELP))?;
+    let explain = add_option(explain, flag(alloc, "loose", LOOSE_HELP))?;
     add_option(explain, ran_at(alloc))
 }
 

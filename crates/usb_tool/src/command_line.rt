@@ -27,10 +27,18 @@ pub enum Line<'a> {
     ShowAny,
     /// `check --any`: what breaks a rule in the set, the file or the dump that is the input.
     CheckAny,
+    /// `show --hex`: the listing of what has the input as its hexadecimal text; as of `--any` where this says so.
+    ShowHex(bool),
+    /// `check --hex`: what breaks a rule in what has the input as its hexadecimal text; as of `--any` where this says so.
+    CheckHex(bool),
     /// `check --remarks`, with its other options: what breaks a rule in the input, and what is remarked of it.
     CheckRemarks(Checking<'a>),
     /// `build --comments`: the bytes of the file whose listing, with comments, is the input.
     BuildCommented,
+    /// `build --force`: the same bytes, where standard output is a terminal too; of a listing with comments where this says so.
+    BuildForced(bool),
+    /// `build --hex`: the same bytes as hexadecimal text; of a listing with comments where this says so.
+    BuildHex(bool),
     /// What the descriptors of the input mean, in words.
     Explain(Explaining<'a>),
     /// `enumerate` with at least one of these flags.
@@ -79,7 +87,7 @@ fn line_of<'a>(matches: &ArgMatches<'a>) -> Line<'a>
         Some((name, options)) if name == "show" => show_of(options),
         Some((name, options)) if name == "check" => check_of(options),
         Some((name, options)) if name == "build" => build_of(options),
-        Some((name, options)) if name == "explain" => Line::Explain(explaining_of(options)),
+        Some((name, options)) if name == "explain" => explain_of(options),
         Some((name, options)) if name == "enumerate" => enumerate_of(options),
         _ => unreachable!(),
     }
@@ -88,7 +96,10 @@ fn line_of<'a>(matches: &ArgMatches<'a>) -> Line<'a>
 fn show_of<'a>(matches: &ArgMatches<'a>) -> Line<'a>
     ensures { Asks result (Some (codes "show", rows_of (found_of matches.now))) }
 {
-    if has_flag(matches, "any") {
+    let any = has_flag(matches, "any");
+    if has_flag(matches, "hex") {
+        Line::ShowHex(any)
+    } else if any {
         Line::ShowAny
     } else {
         Line::Show
@@ -101,6 +112,8 @@ fn check_of<'a>(matches: &ArgMatches<'a>) -> Line<'a>
     let checking = checking_of(matches);
     if checking.remarks || checking.speed.is_some() {
         Line::CheckRemarks(checking)
+    } else if checking.hex {
+        Line::CheckHex(checking.any)
     } else if checking.any {
         Line::CheckAny
     } else {
@@ -113,6 +126,7 @@ fn checking_of<'a>(matches: &ArgMatches<'a>) -> Checking<'a>
 {
     Checking {
         any: has_flag(matches, "any"),
+        hex: has_flag(matches, "hex"),
         remarks: has_flag(matches, "remarks"),
         speed: matches.get_str("speed"),
     }
@@ -121,7 +135,12 @@ fn checking_of<'a>(matches: &ArgMatches<'a>) -> Checking<'a>
 fn build_of<'a>(matches: &ArgMatches<'a>) -> Line<'a>
     ensures { Asks result (Some (codes "build", rows_of (found_of matches.now))) }
 {
-    if has_flag(matches, "comments") {
+    let comments = has_flag(matches, "comments");
+    if has_flag(matches, "hex") {
+        Line::BuildHex(comments)
+    } else if has_flag(matches, "force") {
+        Line::BuildForced(comments)
+    } else if comments {
         Line::BuildCommented
     } else {
         Line::Build
@@ -140,6 +159,12 @@ fn enumerate_of<'a>(matches: &ArgMatches<'a>) -> Line<'a>
     }
 }
 
+fn explain_of<'a>(matches: &ArgMatches<'a>) -> Line<'a>
+    ensures { Asks result (Some (codes "explain", rows_of (found_of matches.now))) }
+{
+    Line::Explain(explaining_of(matches))
+}
+
 fn explaining_of<'a>(matches: &ArgMatches<'a>) -> Explaining<'a>
     ensures { HasFlags result (rows_of (found_of matches.now)) }
 {
@@ -148,6 +173,7 @@ fn explaining_of<'a>(matches: &ArgMatches<'a>) -> Explaining<'a>
         no_places: has_flag(matches, "no-places"),
         utf8: has_flag(matches, "utf8"),
         hex: has_flag(matches, "hex"),
+        loose: has_flag(matches, "loose"),
         speed: matches.get_str("speed"),
     }
 }

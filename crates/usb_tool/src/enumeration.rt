@@ -2,10 +2,13 @@
 ghost use Rattle.std.specs.Prelude.{◌≢◌, ◌++◌, IfErr, IfOk};
 ghost use Rattle.usb_listing.specs.Listing.{file_lines};
 ghost use Rattle.usb_tool.specs.CommandLine.{no_flags};
-ghost use Rattle.usb_tool.specs.Enumerations.{EnumerateFails, Enumerated, IsNotTaken, IsTaken, RefusesToEnumerate, WritesResult, run_status, run_text, under, refused_line, success_line, trouble_line};
+ghost use Rattle.usb_tool.specs.Enumerations.{EnumerateFails, Enumerated, EnumeratedTo, IsNotTaken, IsTaken, RefusesToEnumerate, WritesResult, run_text, under, refused_line, success_line, trouble_line};
+ghost use Rattle.usb_tool.specs.EnumerationEnds.{end_of};
+ghost use Rattle.usb_tool.specs.declared.enumeration_end.EnumerationEnd.TheVariants.{Refused, Success, Trouble as TroubleEnd};
 ghost use Rattle.usb_tool.specs.inside.Telling.{BreaksRun, EndsWith, IsCutShort, MakesRun};
 ghost use Rattle.usb_file_data.specs.declared.fault.FileWhy.TheVariants as files;
 
+use crate::enumeration_end::EnumerationEnd;
 use crate::fault::ToolFault;
 use crate::input::read_all;
 use crate::output::write_flushed;
@@ -89,6 +92,29 @@ pub fn run_enumerate_with<R: Read, W: Write>(
     ensures enumerated { IfOk result (Enumerated (under l s fates.now flags) (R.remaining r.old) (R.remaining r.new) (W.contents w.old) (W.contents w.new)) }
     ensures err { IfErr result (EnumerateFails (under l s fates.now flags) (R.remaining r.old) (R.remaining r.new) (W.contents w.old) (W.contents w.new)) }
 {
+    match run_enumeration(alloc, r, w, l, s, fates, flags) {
+        Ok(end) => Ok(end.status()),
+        Err(fault) => Err(fault),
+    }
+}
+
+/// The same, and answers how the enumeration has ended.
+///
+/// # Errors
+///
+/// Those of [`run_enumerate_with`].
+pub fn run_enumeration<R: Read, W: Write>(
+    alloc: Global,
+    r: &mut R,
+    w: &mut W,
+    l: Limits,
+    s: Speed,
+    fates: &[Fate],
+    flags: EnumerateFlags,
+) -> Result<EnumerationEnd, ToolFault>
+    ensures enumerated { IfOk result (EnumeratedTo (under l s fates.now flags) (R.remaining r.old) (R.remaining r.new) (W.contents w.old) (W.contents w.new)) }
+    ensures err { IfErr result (EnumerateFails (under l s fates.now flags) (R.remaining r.old) (R.remaining r.new) (W.contents w.old) (W.contents w.new)) }
+{
     let bytes = read_all(alloc, r, FILE_LIMIT)?;
     enumerate_bytes(alloc, &bytes, w, l, s, fates, flags)
 }
@@ -102,7 +128,7 @@ fn enumerate_bytes<W: Write>(
     s: Speed,
     fates: &[Fate],
     flags: EnumerateFlags,
-) -> Result<u8, ToolFault>
+) -> Result<EnumerationEnd, ToolFault>
     ensures ok { IfOk result (WritesResult (under l s fates.now flags) bytes.now (W.contents w.old) (W.contents w.new)) }
     ensures err { IfErr result (RefusesToEnumerate (under l s fates.now flags) bytes.now (W.contents w.old) (W.contents w.new)) }
 {
@@ -156,16 +182,16 @@ fn tell_refusal<W: Write>(
     alloc: Global,
     fault: DescriptionFault,
     w: &mut W,
-) -> Result<u8, ToolFault>
-    ensures ok { IfOk result (EndsWith (refused_line fault) 1 (W.contents w.old) (W.contents w.new)) }
+) -> Result<EnumerationEnd, ToolFault>
+    ensures ok { IfOk result (EndsWith (refused_line fault) (Refused fault) (W.contents w.old) (W.contents w.new)) }
     ensures err { IfErr result (IsCutShort (refused_line fault) (W.contents w.old) (W.contents w.new)) }
 {
     let line = RefusedLine(fault).to_string(alloc)?;
-    tell_line(line.as_bytes(), w)
+    tell_line(line.as_bytes(), EnumerationEnd::Refused(fault), w)
 }
 
-fn tell_run<W: Write>(alloc: Global, run: &Run, w: &mut W) -> Result<u8, ToolFault>
-    ensures ok { IfOk result (EndsWith (run_text run.now.outcome run.now) (run_status run.now.outcome) (W.contents w.old) (W.contents w.new)) }
+fn tell_run<W: Write>(alloc: Global, run: &Run, w: &mut W) -> Result<EnumerationEnd, ToolFault>
+    ensures ok { IfOk result (EndsWith (run_text run.now.outcome run.now) (end_of run.now.outcome) (W.contents w.old) (W.contents w.new)) }
     ensures err { IfErr result (IsCutShort (run_text run.now.outcome run.now) (W.contents w.old) (W.contents w.new)) }
 {
     match &run.outcome {
@@ -179,15 +205,15 @@ fn tell_success<W: Write>(
     run: &Run,
     file: &DescriptorFile,
     w: &mut W,
-) -> Result<u8, ToolFault>
-    ensures ok { IfOk result (EndsWith (success_line run.now ++ file_lines file.now) 0 (W.contents w.old) (W.contents w.new)) }
+) -> Result<EnumerationEnd, ToolFault>
+    ensures ok { IfOk result (EndsWith (success_line run.now ++ file_lines file.now) Success (W.contents w.old) (W.contents w.new)) }
     ensures err { IfErr result (IsCutShort (success_line run.now ++ file_lines file.now) (W.contents w.old) (W.contents w.new)) }
 {
     let line = SuccessLine(run).to_string(alloc)?;
     write_all(w, line.as_bytes())?;
     list(alloc, file, w)?;
     match w.flush() {
-        Ok(()) => Ok(0),
+        Ok(()) => Ok(EnumerationEnd::Success),
         Err(_) => Err(ToolFault::Write),
     }
 }
@@ -197,21 +223,25 @@ fn tell_trouble<W: Write>(
     run: &Run,
     trouble: Trouble,
     w: &mut W,
-) -> Result<u8, ToolFault>
-    ensures ok { IfOk result (EndsWith (trouble_line trouble run.now) 1 (W.contents w.old) (W.contents w.new)) }
+) -> Result<EnumerationEnd, ToolFault>
+    ensures ok { IfOk result (EndsWith (trouble_line trouble run.now) (TroubleEnd trouble) (W.contents w.old) (W.contents w.new)) }
     ensures err { IfErr result (IsCutShort (trouble_line trouble run.now) (W.contents w.old) (W.contents w.new)) }
 {
     let line = TroubleLine(trouble, run).to_string(alloc)?;
-    tell_line(line.as_bytes(), w)
+    tell_line(line.as_bytes(), EnumerationEnd::Trouble(trouble), w)
 }
 
 /// Writes a line that is the whole output, and flushes the writer.
-fn tell_line<W: Write>(line: &[u8], w: &mut W) -> Result<u8, ToolFault>
-    ensures ok { IfOk result (EndsWith line.now 1 (W.contents w.old) (W.contents w.new)) }
+fn tell_line<W: Write>(
+    line: &[u8],
+    end: EnumerationEnd,
+    w: &mut W,
+) -> Result<EnumerationEnd, ToolFault>
+    ensures ok { IfOk result (EndsWith line.now end (W.contents w.old) (W.contents w.new)) }
     ensures err { IfErr result (IsCutShort line.now (W.contents w.old) (W.contents w.new)) }
 {
     match write_flushed(w, line) {
-        Ok(()) => Ok(1),
+        Ok(()) => Ok(end),
         Err(_) => Err(ToolFault::Write),
     }
 }

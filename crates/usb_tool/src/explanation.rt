@@ -1,19 +1,20 @@
 //! The command `explain`.
-ghost use Rattle.std.specs.Prelude.{◌≡◌, ◌++◌, IfErr, IfOk, OnErr, OnOk, length};
+ghost use Rattle.std.specs.Prelude.{◌≡◌, ◌++◌, IfErr, IfOk, OnErr, OnOk, false, length, true};
 ghost use Rattle.std.specs.Io.KnownBytes.{Appends};
 ghost use Rattle.usb_file_data.specs.Inputs.{InputRefused, IsInput};
 ghost use Rattle.usb_text.specs.Output.{AppendsLess};
 ghost use Rattle.usb_text.specs.Stops.{stop_line};
+ghost use Rattle.usb_explain.specs.Fragments.{fragment_lines};
 ghost use Rattle.usb_tool.specs.Endings.{Writes};
-ghost use Rattle.usb_tool.specs.Explains.{ExplainFails, Explained, NoInputIsHexadecimal, RefusesText, RefusesToExplain, ReportsExplanation, ReportsText, WritesExplained, hexadecimal_words};
-ghost use Rattle.usb_tool.specs.inside.Telling.{CutsExplained};
+ghost use Rattle.usb_tool.specs.Explains.{ExplainFails, Explained, NoInputIsHexadecimal, RefusesAs, RefusesText, RefusesToExplain, ReportsAs, ReportsExplanation, ReportsFragment, ReportsText, WritesAfter, WritesExplained, decoded_manner, hexadecimal_words};
+ghost use Rattle.usb_tool.specs.inside.Telling.{CutsAfter, CutsExplained};
 
 use crate::fault::ToolFault;
 use crate::input::read_all;
 use crate::output::finish;
 use std::alloc::{AllocError, Global};
 use std::io::{Read, Write};
-use usb_explain::{Manner, explain};
+use usb_explain::{Manner, explain, explain_fragment};
 use usb_file::{FILE_LIMIT, Input, read_input};
 use usb_file_data::InputFault;
 use usb_text::{HexFault, OutFault, Text, parse, put_count, put_stop, write_all};
@@ -25,7 +26,7 @@ use usb_text::{HexFault, OutFault, Text, parse, put_count, put_stop, write_all};
 /// ```rust
 /// let mut input: &[u8] = &[9, 2, 9, 0, 0, 1, 0, 0x80, 0x32];
 /// let mut text = Vec::new(alloc);
-/// let manner = Manner { look: Look { brief: true, places: false, utf8: false }, speed: None };
+/// let manner = Manner { look: Look { brief: true, places: false, utf8: false }, speed: None, decoded: false };
 /// run_explain(alloc, &mut input, &mut text, manner, false)?;
 /// assert_eq!(rt; text.as_slice(), b"set, 9 bytes
 ///   configuration 1, full or high speed, 0 interfaces, bus-powered, 100 mA
@@ -48,11 +49,55 @@ pub fn run_explain<R: Read, W: Write>(
     manner: Manner,
     hex: bool,
 ) -> Result<u8, ToolFault>
-    ensures explained { IfOk result (Explained hex manner (R.remaining r.old) (R.remaining r.new) (W.contents w.old) (W.contents w.new)) }
-    ensures err { IfErr result (ExplainFails hex manner (R.remaining r.old) (R.remaining r.new) (W.contents w.old) (W.contents w.new)) }
+    ensures explained { IfOk result (Explained false hex manner (R.remaining r.old) (R.remaining r.new) (W.contents w.old) (W.contents w.new)) }
+    ensures err { IfErr result (ExplainFails false hex manner (R.remaining r.old) (R.remaining r.new) (W.contents w.old) (W.contents w.new)) }
+{
+    explain_as(alloc, r, w, manner, hex, false)
+}
+
+/// The same of a fragment of an input: of descriptors one after another, of which no owner is asked for, or of a setup packet. What
+/// isn't descriptors is *the rest*, and no fault.
+///
+/// ```rust
+/// let mut input: &[u8] = &[7, 5, 0x81, 3, 8, 0, 10];
+/// let mut text = Vec::new(alloc);
+/// let manner = Manner { look: Look { brief: true, places: false, utf8: false }, speed: None, decoded: false };
+/// run_explain_loose(alloc, &mut input, &mut text, manner, false)?;
+/// assert_eq!(rt; text.as_slice(), b"fragment, 7 bytes
+/// endpoint 0x81 (EP 1 IN), interrupt, 8 bytes, 10 ms; at high speed 64 ms
+/// ");
+/// ```
+///
+/// # Errors
+///
+/// `Read`, `TooLarge`, `Hex`, `Write` and `Memory` as [`run_explain`] has them.
+pub fn run_explain_loose<R: Read, W: Write>(
+    alloc: Global,
+    r: &mut R,
+    w: &mut W,
+    manner: Manner,
+    hex: bool,
+) -> Result<u8, ToolFault>
+    ensures explained { IfOk result (Explained true hex manner (R.remaining r.old) (R.remaining r.new) (W.contents w.old) (W.contents w.new)) }
+    ensures err { IfErr result (ExplainFails true hex manner (R.remaining r.old) (R.remaining r.new) (W.contents w.old) (W.contents w.new)) }
+{
+    explain_as(alloc, r, w, manner, hex, true)
+}
+
+/// Explains the input as a fragment or as an input.
+pub(crate) fn explain_as<R: Read, W: Write>(
+    alloc: Global,
+    r: &mut R,
+    w: &mut W,
+    manner: Manner,
+    hex: bool,
+    loose: bool,
+) -> Result<u8, ToolFault>
+    ensures explained { IfOk result (Explained loose hex manner (R.remaining r.old) (R.remaining r.new) (W.contents w.old) (W.contents w.new)) }
+    ensures err { IfErr result (ExplainFails loose hex manner (R.remaining r.old) (R.remaining r.new) (W.contents w.old) (W.contents w.new)) }
 {
     let bytes = read_all(alloc, r, FILE_LIMIT)?;
-    explain_text(alloc, &bytes, w, manner, hex)
+    explain_text(alloc, &bytes, w, manner, hex, loose)
 }
 
 /// Writes the explanation of the bytes, or of those of which they are the hexadecimal text.
@@ -63,12 +108,13 @@ fn explain_text<W: Write>(
     w: &mut W,
     manner: Manner,
     hex: bool,
+    loose: bool,
 ) -> Result<u8, ToolFault>
-    ensures explained { IfOk result (Writes Appends (ReportsText hex manner) bytes.now (W.contents w.old) (W.contents w.new)) }
-    ensures err { IfErr result (RefusesText hex manner bytes.now (W.contents w.old) (W.contents w.new)) }
+    ensures explained { IfOk result (Writes Appends (ReportsText loose hex manner) bytes.now (W.contents w.old) (W.contents w.new)) }
+    ensures err { IfErr result (RefusesText loose hex manner bytes.now (W.contents w.old) (W.contents w.new)) }
 {
     match parse(alloc, bytes) {
-        Ok(found) => explain_found(alloc, &found, w, manner),
+        Ok(found) => explain_found(alloc, &found, w, manner, loose),
         Err(HexFault::Memory) => Err(ToolFault::Memory),
         Err(
             HexFault::Text {
@@ -85,7 +131,7 @@ fn explain_text<W: Write>(
                 column,
                 found,
             };
-            explain_stopped(alloc, bytes, fault, w, manner)
+            explain_stopped(alloc, bytes, fault, w, manner, loose)
         }
     }
 }
@@ -97,28 +143,34 @@ fn explain_stopped<W: Write>(
     fault: HexFault,
     w: &mut W,
     manner: Manner,
+    loose: bool,
 ) -> Result<u8, ToolFault>
-    ensures explained { IfOk result (Writes Appends (ReportsExplanation manner (stop_line bytes.now fault)) bytes.now (W.contents w.old) (W.contents w.new)) }
-    ensures err { IfErr result (RefusesToExplain manner (stop_line bytes.now fault) bytes.now (W.contents w.old) (W.contents w.new)) }
+    ensures explained { IfOk result (Writes Appends (ReportsAs loose manner (stop_line bytes.now fault)) bytes.now (W.contents w.old) (W.contents w.new)) }
+    ensures err { IfErr result (RefusesAs loose manner (stop_line bytes.now fault) bytes.now (W.contents w.old) (W.contents w.new)) }
 {
     let mut heading = Text::new(alloc);
     put_stop(&mut heading, bytes, fault)?;
-    explain_bytes(alloc, heading.as_bytes(), bytes, w, manner)
+    explain_bytes(alloc, heading.as_bytes(), bytes, w, manner, loose)
 }
 
-/// Writes the explanation of bytes that were hexadecimal text.
+/// Writes the explanation of bytes that were hexadecimal text, and so are not called text.
 fn explain_found<W: Write>(
     alloc: Global,
     bytes: &[u8],
     w: &mut W,
     manner: Manner,
+    loose: bool,
 ) -> Result<u8, ToolFault>
-    ensures explained { IfOk result (Writes Appends (ReportsExplanation manner (hexadecimal_words (length bytes.now))) bytes.now (W.contents w.old) (W.contents w.new)) }
-    ensures err { IfErr result (RefusesToExplain manner (hexadecimal_words (length bytes.now)) bytes.now (W.contents w.old) (W.contents w.new)) }
+    ensures explained { IfOk result (Writes Appends (ReportsAs loose (decoded_manner manner) (hexadecimal_words (length bytes.now))) bytes.now (W.contents w.old) (W.contents w.new)) }
+    ensures err { IfErr result (RefusesAs loose (decoded_manner manner) (hexadecimal_words (length bytes.now)) bytes.now (W.contents w.old) (W.contents w.new)) }
 {
     let mut heading = Text::new(alloc);
     put_hexadecimal(&mut heading, bytes.len())?;
-    explain_bytes(alloc, heading.as_bytes(), bytes, w, manner)
+    let decoded = Manner {
+        decoded: true,
+        ..manner
+    };
+    explain_bytes(alloc, heading.as_bytes(), bytes, w, decoded, loose)
 }
 
 /// Puts what is before the explanation of so many bytes that were hexadecimal text.
@@ -131,19 +183,72 @@ fn put_hexadecimal(text: &mut Text, count: usize) -> Result<(), AllocError>
     text.put(": ")
 }
 
-/// Writes the explanation of the bytes after a heading. Out of memory nothing is known of them.
+/// Writes the explanation of the bytes after a heading, as a fragment or an input. Out of memory nothing is known of them.
 fn explain_bytes<W: Write>(
     alloc: Global,
     heading: &[u8],
     bytes: &[u8],
     w: &mut W,
     manner: Manner,
+    loose: bool,
 ) -> Result<u8, ToolFault>
-    ensures explained { IfOk result (Writes Appends (ReportsExplanation manner heading.now) bytes.now (W.contents w.old) (W.contents w.new)) }
-    ensures err { IfErr result (RefusesToExplain manner heading.now bytes.now (W.contents w.old) (W.contents w.new)) }
+    ensures explained { IfOk result (Writes Appends (ReportsAs loose manner heading.now) bytes.now (W.contents w.old) (W.contents w.new)) }
+    ensures err { IfErr result (RefusesAs loose manner heading.now bytes.now (W.contents w.old) (W.contents w.new)) }
 {
-    let read = read_input(alloc, bytes);
-    explain_known(alloc, heading, bytes, &read, w, manner)
+    match loose {
+        true => explain_loose(alloc, heading, bytes, w, manner),
+        false => {
+            let read = read_input(alloc, bytes);
+            explain_known(alloc, heading, bytes, &read, w, manner)
+        }
+    }
+}
+
+/// Writes the explanation of the bytes as a fragment after a heading.
+fn explain_loose<W: Write>(
+    alloc: Global,
+    heading: &[u8],
+    bytes: &[u8],
+    w: &mut W,
+    manner: Manner,
+) -> Result<u8, ToolFault>
+    ensures explained { IfOk result (Writes Appends (ReportsFragment manner heading.now) bytes.now (W.contents w.old) (W.contents w.new)) }
+    ensures err { IfErr result (RefusesAs true manner heading.now bytes.now (W.contents w.old) (W.contents w.new)) }
+{
+    flush_fragment(alloc, heading, bytes, w, manner)?;
+    Ok(0)
+}
+
+/// Writes a heading and the explanation of a fragment, and flushes the writer.
+#[tactic(auto, using(crate::proofs::Explained::flushed, crate::proofs::Explained::not_flushed))]
+fn flush_fragment<W: Write>(
+    alloc: Global,
+    heading: &[u8],
+    bytes: &[u8],
+    w: &mut W,
+    manner: Manner,
+) -> Result<(), ToolFault>
+    ensures explained { OnOk result (WritesAfter Appends manner.look.utf8 (fragment_lines manner bytes.now) heading.now (W.contents w.old) (W.contents w.new)) }
+    ensures err { IfErr result (CutsAfter manner.look.utf8 (fragment_lines manner bytes.now) heading.now (W.contents w.old) (W.contents w.new)) }
+{
+    write_fragment(alloc, heading, bytes, w, manner)?;
+    finish(w)
+}
+
+/// Writes a heading and the explanation of a fragment.
+#[tactic(auto, using(crate::proofs::Explained::explained, crate::proofs::Explained::explained_less, crate::proofs::Explained::headed_less))]
+fn write_fragment<W: Write>(
+    alloc: Global,
+    heading: &[u8],
+    bytes: &[u8],
+    w: &mut W,
+    manner: Manner,
+) -> Result<(), OutFault>
+    ensures ok { OnOk result (WritesAfter Appends manner.look.utf8 (fragment_lines manner bytes.now) heading.now (W.contents w.old) (W.contents w.new)) }
+    ensures err { OnErr result (WritesAfter AppendsLess manner.look.utf8 (fragment_lines manner bytes.now) heading.now (W.contents w.old) (W.contents w.new)) }
+{
+    write_all(w, heading)?;
+    explain_fragment(alloc, bytes, manner, w)
 }
 
 /// The same of bytes of which this was read.

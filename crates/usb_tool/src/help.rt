@@ -29,6 +29,9 @@ Dumps:
   device ends early (file fault 6 at its end), or runs into the next set (file fault 2).
   'build' takes the listing of a dump once its languages and strings are added.
 
+Hexadecimal text:
+  With --hex the input is hexadecimal text, as 'explain' reads it, of such bytes.
+
 Faults of a set, 'usbdesc: set fault N at PLACE', the place in bytes from 0:
   1  the first bLength is below 9
   2  the first descriptor is no configuration
@@ -70,7 +73,7 @@ Input:
   A descriptor file, as of 'show'. With --any also a configuration set alone or a dump. A set
   alone is the main part, or the other part where it is an other-speed configuration; V11
   does not apply to it. In a dump with bcdUSB 0300 or above V11 requires a bMaxPacketSize0
-  of 9.
+  of 9. With --hex the input is hexadecimal text, as 'explain' reads it, of such bytes.
 
 Rules:
   V1   bNumInterfaces is not the count of distinct interface numbers
@@ -137,6 +140,13 @@ Exit status:
 pub(crate) const COMMENTS_HELP: &str =
     "Drops comments, empty lines, and carriage returns at the ends of lines";
 
+/// What `--force` says.
+pub(crate) const FORCE_HELP: &str = "Writes the bytes also where standard output is a terminal";
+
+/// What `--hex` of `build` says.
+pub(crate) const HEX_OUTPUT_HELP: &str =
+    "Writes hexadecimal text in place of bytes, 16 bytes a line, also to a terminal";
+
 /// The usage line of `explain`.
 pub(crate) const EXPLAIN_USAGE: &str = "usbdesc explain [OPTIONS] < INPUT";
 
@@ -151,6 +161,8 @@ Input:
   explained up to its fault.
   Or hexadecimal text, which no such input is: digits alone or as 0x09 and \\x09, with white
   space and commas, or as xxd, 'hexdump -C' and Wireshark write it. The first line says so.
+  With '--loose' a fragment: descriptors one after another, of which no owner is asked for, as
+  an interface with its endpoints, or a setup packet, which has eight bytes.
 
 Text:
   Each descriptor has a heading, with the place of its first byte and its length. Below it
@@ -176,8 +188,12 @@ pub(crate) const NO_PLACES_HELP: &str = "Leaves the places out";
 pub(crate) const UTF8_HELP: &str =
     "Writes characters beyond ASCII as they are (Unicode 15.0), but for those that steer a terminal";
 
-/// What `--hex` says.
+/// What `--hex` of the other commands says.
 pub(crate) const HEX_HELP: &str = "Takes nothing but hexadecimal text";
+
+/// What `--loose` says.
+pub(crate) const LOOSE_HELP: &str =
+    "Takes a fragment: descriptors one after another, or a setup packet";
 
 /// The values of `--speed` of `explain`.
 pub(crate) const RUNNING_SPEEDS: &str = "low|full|high|super";
@@ -204,7 +220,7 @@ Log:
   With --log a line for each transaction is written before the result: its number, its fate,
   its packets, in brackets where one was lost, its data, and what the host and what the device
   have then. Data of more than 8 bytes are below it. A line begins each bus reset and each
-  transfer.
+  transfer. The last line counts the fates that lose, and those of a device that is not ready.
 
 Fates:
   A letter for each transaction of the bus, in order. After the last one all packets arrive.

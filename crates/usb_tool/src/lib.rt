@@ -8,10 +8,12 @@
 //! (`specs/Commands.antt`). [`run_show_any`] and [`run_check_any`] take a set alone, a file or a dump, and
 //! [`run_build_commented`] a listing with comments. [`run_check_remarks`] writes remarks too (`specs/RemarkChecks.antt`).
 //! [`run_explain`] writes what the descriptors of any of these inputs
-//! mean, in words, also where it is the hexadecimal text of one (`specs/Explains.antt`).
+//! mean, in words, also where it is the hexadecimal text of one (`specs/Explains.antt`). [`run_hex`] shows or checks the bytes
+//! of such a text (`specs/HexInputs.antt`), and [`run_build_hex`] writes one (`specs/HexOutputs.antt`).
 //! [`run_enumerate`] enumerates a device that has the descriptors of a file, over a bus that loses
 //! packets and handshakes, and writes what came of that (`specs/Enumerations.antt`). [`run_enumerate_with`] takes a dump
-//! too where it is asked to, and writes a log, whose lines are in the crate `usb_bus`.
+//! too where it is asked to, and writes a log, whose lines are in the crate `usb_bus`. [`run_enumeration`] answers the
+//! [`EnumerationEnd`], whose meaning is `specs/EnumerationEnds.antt`.
 //!
 //! [`run`] is the whole program over any standard streams: [`read_line`] reads its command line,
 //! [`ToolFault`] says why a command failed, and [`verdict`] gives the exit status. What a run does, and says on
@@ -39,9 +41,12 @@ mod checking;
 mod clap_command;
 mod command_line;
 mod enumeration;
+mod enumeration_end;
 mod explanation;
 mod fault;
 mod help;
+mod hex_input;
+mod hex_output;
 mod input;
 mod intake;
 mod manner;
@@ -51,15 +56,19 @@ mod program;
 mod result_line;
 mod settings;
 mod show;
+mod terminals;
 
 pub use build::{run_build, run_build_commented};
 pub use check::{run_check, run_check_any};
 pub use check_remarks::{remarks_add_lines_alone, run_check_remarks};
 pub use checking::{Checking, running_speed};
 pub use command_line::{Line, read_line};
-pub use enumeration::{run_enumerate, run_enumerate_with};
-pub use explanation::{no_input_is_hexadecimal_text, run_explain};
+pub use enumeration::{run_enumerate, run_enumerate_with, run_enumeration};
+pub use enumeration_end::EnumerationEnd;
+pub use explanation::{no_input_is_hexadecimal_text, run_explain, run_explain_loose};
 pub use fault::{ToolFault, verdict};
+pub use hex_input::{HexCommand, run_hex};
+pub use hex_output::run_build_hex;
 pub use manner::{Explaining, manner_of, read_running_speed};
 pub use meaning::Hint;
 pub use program::{refuse_words, run, run_for};
@@ -68,6 +77,7 @@ pub use settings::{
     settings_of,
 };
 pub use show::{run_show, run_show_any};
+pub use terminals::Terminals;
 pub use usb_bus::{Fate, Reply, Run, Talk, converse, enumerate, laws};
 pub use usb_explain::{Look, Manner, SetSpeed};
 pub use usb_listing::LISTING_LIMIT;

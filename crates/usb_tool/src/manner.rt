@@ -10,7 +10,7 @@ use usb_explain::{Look, Manner, SetSpeed};
 /// descriptors say it.
 ///
 /// ```rust
-/// let manner = manner_of(&Explaining { brief: true, no_places: false, utf8: false, hex: false, speed: Some("high") })?;
+/// let manner = manner_of(&Explaining { brief: true, no_places: false, utf8: false, hex: false, loose: false, speed: Some("high") })?;
 /// assert_eq!(rt; manner.look, Look { brief: true, places: true, utf8: false });
 /// assert_eq!(rt; manner.speed, Some(SetSpeed::High));
 /// ```
@@ -32,6 +32,7 @@ pub fn manner_of(explaining: &Explaining<'_>) -> Result<Manner, SettingsFault>
             utf8: explaining.utf8,
         },
         speed,
+        decoded: false,
     })
 }
 
@@ -74,6 +75,8 @@ pub struct Explaining<'a> {
     pub utf8: bool,
     /// Whether the input has to be hexadecimal text.
     pub hex: bool,
+    /// Whether it is explained as a fragment.
+    pub loose: bool,
     /// The name of a speed, or `None` where the words lack it.
     pub speed: Option<&'a str>,
 }

@@ -1,13 +1,12 @@
 //! What a fault means, for a person, and what to try then.
 ghost use Rattle.std.specs.Prelude.{◌≡◌, ◌++◌, Some};
-ghost use Rattle.usb_tool.specs.Faults.{fault_meaning, file_meaning, hint_at, hint_words, list_meaning};
+ghost use Rattle.usb_tool.specs.Faults.{fault_meaning, file_meaning, hint_at, hint_words};
 
 use crate::fault::ToolFault;
 use std::fmt;
 use usb_file_data::FileWhy;
-use usb_listing::ListWhy;
 
-/// What to try where the input is at fault.
+/// What to try where the input is at fault, or an enumeration had no success.
 #[derive(Clone, Copy, Debug, PartialEq, Eq, Hash)]
 pub enum Hint {
     /// The option `--any`.
@@ -18,13 +17,21 @@ pub enum Hint {
     Comments,
     /// The command `explain`.
     Explain,
+    /// The command `check --any`.
+    Check,
+    /// The option `--speed`.
+    Speed,
+    /// The option `--naks`.
+    Naks,
+    /// The option `--log`.
+    Log,
     /// Nothing.
     Nothing,
 }
 
 impl Hint {
     /// The words of the hint.
-    fn words(self) -> &'static str
+    pub(crate) fn words(self) -> &'static str
         ensures { result.now ≡ hint_words self }
     {
         match self {
@@ -32,6 +39,10 @@ impl Hint {
             Hint::WithStrings => "; --with-strings takes a dump too",
             Hint::Comments => "; --comments drops comments and empty lines",
             Hint::Explain => "; see 'usbdesc explain' of it",
+            Hint::Check => "; see 'usbdesc check --any' of it",
+            Hint::Speed => "; try another --speed",
+            Hint::Naks => "; --naks sets the limit",
+            Hint::Log => "; --log shows each transaction",
             Hint::Nothing => "",
         }
     }
@@ -57,7 +68,7 @@ pub(crate) fn fault_meaning(fault: ToolFault) -> &'static str
         ToolFault::Write => "standard output can't be written",
         ToolFault::TooLarge => "no file is that long",
         ToolFault::File(fault) => file_meaning(fault.why),
-        ToolFault::List(fault) => list_meaning(fault.why),
+        ToolFault::List(fault) => fault.why.message(),
         ToolFault::Set(fault) => fault.why.message(),
         ToolFault::Trailing(_) => "bytes after the end of the set",
         ToolFault::Memory => "there was not enough memory",
@@ -72,21 +83,6 @@ fn file_meaning(why: FileWhy) -> &'static str
     match why {
         FileWhy::Set(why) => why.message(),
         why => why.message(),
-    }
-}
-
-/// What is wrong with a line of a listing.
-fn list_meaning(why: ListWhy) -> &'static str
-    ensures { result.now ≡ list_meaning why }
-{
-    match why {
-        ListWhy::Line => "no whole line of printable text",
-        ListWhy::Word => "no known word",
-        ListWhy::Place => "the word can't stand here",
-        ListWhy::Field => "a field is missing, superfluous or not in its form",
-        ListWhy::TooLong => "the set is over 65,535 bytes",
-        ListWhy::Missing => "the text ends before the file does",
-        ListWhy::Memory => "out of memory",
     }
 }
 

@@ -1,10 +1,10 @@
 //! What the program does, from the words of its command line to its exit status.
-ghost use Rattle.std.specs.Prelude.{◌≡◌, false};
+ghost use Rattle.std.specs.Prelude.{◌≡◌, true};
 ghost use Rattle.std.specs.IoError.{error_kind};
 ghost use Rattle.usb_tool.specs.Faults.{words_line, words_status};
 ghost use Rattle.usb_tool.specs.CommandLine.{no_flags};
 ghost use Rattle.usb_tool.specs.Faults.{fault_line, meaning_line, status_of};
-ghost use Rattle.usb_tool.specs.Runs.{Answers, EndsChecking, EndsEnumeration, EndsExplanation, EndsLine, Runs, ReportsLines, ReportsOutcome, check_hint, enumerate_hint, line_status};
+ghost use Rattle.usb_tool.specs.Runs.{Answers, EndsBuild, EndsChecking, EndsEnumeration, EndsExplanation, EndsHex, EndsLine, EndsOffTerminal, EndsRemarks, Runs, ReportsLines, ReportsEnd, ReportsEnded, ReportsOutcome, any_hint, build_hint, ended_status, enumerate_hint, line_status, no_terminals};
 ghost use Rattle.usb_tool.specs.OptionFaults.{settings_line, settings_meaning, settings_status};
 
 use crate::build::{run_build, run_build_commented};
@@ -12,17 +12,22 @@ use crate::check::{run_check, run_check_any};
 use crate::check_remarks::run_check_remarks;
 use crate::checking::{Checking, running_speed};
 use crate::command_line::{Line, read_line};
-use crate::enumeration::run_enumerate_with;
-use crate::explanation::run_explain;
+use crate::enumeration::run_enumeration;
+use crate::enumeration_end::{EnumerationEnd, TroubleMeaning, refusal_hint, trouble_hint};
+use crate::explanation::explain_as;
 use crate::fault::{ToolFault, tell_line, verdict};
+use crate::hex_input::{HexCommand, run_hex};
+use crate::hex_output::run_build_hex;
 use crate::manner::{Explaining, manner_of};
 use crate::meaning::{Hint, MeaningLine, fault_meaning};
 use crate::settings::{EnumerateFlags, Options, SettingsFault, settings_of};
 use crate::show::{run_show, run_show_any};
+use crate::terminals::Terminals;
 use clap::error::ErrorKind;
 use std::alloc::Global;
 use std::io;
 use std::io::{Read, Write};
+use usb_explain::SetSpeed;
 use usb_text::write_all;
 
 /// The line that goes to standard error where the words of the command line could not be taken, and the exit
@@ -47,6 +52,9 @@ pub fn refuse_words(error: &io::Error) -> (&'static str, u8)
 /// The exit status of a command line that asks for nothing that the program does.
 const USAGE: u8 = 2;
 
+/// The exit status of a command that failed.
+const FAULT: u8 = 3;
+
 /// What is said where memory is wanting before there is a command, as `clap` has it.
 const NO_MEMORY: &str = "error: out of memory\n";
 
@@ -70,19 +78,25 @@ pub fn run<R: Read, W: Write, E: Write>(
     w: &mut W,
     e: &mut E,
 ) -> u8
-    ensures { Runs false words.now (R.remaining r.old) (R.remaining r.new) (W.contents w.old) (W.contents w.new) (E.contents e.old) (E.contents e.new) result }
+    ensures { Runs no_terminals words.now (R.remaining r.old) (R.remaining r.new) (W.contents w.old) (W.contents w.new) (E.contents e.old) (E.contents e.new) result }
 {
-    run_for(alloc, words, false, r, w, e)
+    let at = Terminals {
+        output: false,
+        errors: false,
+    };
+    run_for(alloc, words, at, r, w, e)
 }
 
-/// Does what [`run`] does. For a person, who reads standard error at a terminal, the line of a fault is followed by one
-/// that says what the fault means, and where the input is at fault which option or command to try.
+/// Does what [`run`] does, where these streams are terminals. Where standard error is one, the line of a fault is followed by one
+/// that says what the fault means, and where the input is at fault which option or command to try; after an enumeration without
+/// success it has a line that says the same of that. Where standard output is one, `build` is refused as a bad option is, unless it is forced.
 ///
 /// ```rust
 /// let words = vec![in alloc; String::from_str(alloc, "usbdesc")?, String::from_str(alloc, "build")?]?;
 /// let mut listing: &[u8] = b"usb\n";
+/// let at = Terminals { output: false, errors: true };
 /// let (mut output, mut errors) = (Vec::new(alloc), Vec::new(alloc));
-/// assert_eq!(rt; run_for(alloc, &words, true, &mut listing, &mut output, &mut errors), 3);
+/// assert_eq!(rt; run_for(alloc, &words, at, &mut listing, &mut output, &mut errors), 3);
 /// assert_eq!(rt; errors.as_slice(), b"usbdesc: listing fault 2 line 1
 /// no known word; --comments drops comments and empty lines
 /// ");
@@ -90,15 +104,15 @@ pub fn run<R: Read, W: Write, E: Write>(
 pub fn run_for<R: Read, W: Write, E: Write>(
     alloc: Global,
     words: &[String],
-    person: bool,
+    at: Terminals,
     r: &mut R,
     w: &mut W,
     e: &mut E,
 ) -> u8
-    ensures { Runs person words.now (R.remaining r.old) (R.remaining r.new) (W.contents w.old) (W.contents w.new) (E.contents e.old) (E.contents e.new) result }
+    ensures { Runs at words.now (R.remaining r.old) (R.remaining r.new) (W.contents w.old) (W.contents w.new) (E.contents e.old) (E.contents e.new) result }
 {
     match read_line(alloc, words) {
-        Ok(line) => carry_out(alloc, &line, person, r, w, e),
+        Ok(line) => carry_out(alloc, &line, at, r, w, e),
         Err(error) => match error.to_string(alloc) {
             Ok(text) => tell_refusal(error.kind(), text.as_str(), w, e),
             Err(_) => tell_refusal(ErrorKind::OutOfMemory, NO_MEMORY, w, e),
@@ -111,26 +125,104 @@ pub fn run_for<R: Read, W: Write, E: Write>(
 fn carry_out<R: Read, W: Write, E: Write>(
     alloc: Global,
     line: &Line<'_>,
+    at: Terminals,
+    r: &mut R,
+    w: &mut W,
+    e: &mut E,
+) -> u8
+    ensures { EndsLine at line.now (R.remaining r.old) (R.remaining r.new) (W.contents w.old) (W.contents w.new) (E.contents e.old) (E.contents e.new) result }
+{
+    let person = at.errors;
+    match line {
+        Line::Show => report(&run_show(alloc, r, w), person, Hint::Any, e),
+        Line::Check => report(&run_check(alloc, r, w), person, Hint::Any, e),
+        Line::Build => build_off_terminal(alloc, false, at.output, person, r, w, e),
+        Line::Enumerate(options) => enumerate_plainly(alloc, options, person, r, w, e),
+        Line::ShowAny => report(&run_show_any(alloc, r, w), person, Hint::Explain, e),
+        Line::CheckAny => report(&run_check_any(alloc, r, w), person, Hint::Explain, e),
+        Line::ShowHex(any) => hex_with(
+            alloc,
+            HexCommand::Show { any: *any },
+            *any,
+            person,
+            r,
+            w,
+            e,
+        ),
+        Line::CheckHex(any) => hex_with(
+            alloc,
+            HexCommand::Check { any: *any },
+            *any,
+            person,
+            r,
+            w,
+            e,
+        ),
+        Line::CheckRemarks(options) => check_with(alloc, options, person, r, w, e),
+        Line::BuildCommented => build_off_terminal(alloc, true, at.output, person, r, w, e),
+        Line::BuildForced(comments) => build_with(alloc, *comments, person, r, w, e),
+        Line::BuildHex(comments) => report(
+            &run_build_hex(alloc, r, w, *comments),
+            person,
+            build_hint(*comments),
+            e,
+        ),
+        Line::Explain(options) => explain_with(alloc, options, person, r, w, e),
+        Line::EnumerateWith(options, flags) => enumerate_with(
+            alloc, options, *flags, person, r, w, e,
+        ),
+    }
+}
+
+/// Builds, but not to a terminal, which is reported before anything is read.
+fn build_off_terminal<R: Read, W: Write, E: Write>(
+    alloc: Global,
+    comments: bool,
+    is_terminal: bool,
     person: bool,
     r: &mut R,
     w: &mut W,
     e: &mut E,
 ) -> u8
-    ensures { EndsLine person line.now (R.remaining r.old) (R.remaining r.new) (W.contents w.old) (W.contents w.new) (E.contents e.old) (E.contents e.new) result }
+    ensures { EndsOffTerminal is_terminal person (EndsBuild person comments) (R.remaining r.old) (R.remaining r.new) (W.contents w.old) (W.contents w.new) (E.contents e.old) (E.contents e.new) result }
 {
-    match line {
-        Line::Show => report(&run_show(alloc, r, w), person, Hint::Any, e),
-        Line::Check => report(&run_check(alloc, r, w), person, Hint::Any, e),
-        Line::Build => report(&run_build(alloc, r, w), person, Hint::Comments, e),
-        Line::Enumerate(options) => enumerate_plainly(alloc, options, person, r, w, e),
-        Line::ShowAny => report(&run_show_any(alloc, r, w), person, Hint::Explain, e),
-        Line::CheckAny => report(&run_check_any(alloc, r, w), person, Hint::Explain, e),
-        Line::CheckRemarks(options) => check_with(alloc, options, person, r, w, e),
-        Line::BuildCommented => report(&run_build_commented(alloc, r, w), person, Hint::Nothing, e),
-        Line::Explain(options) => explain_with(alloc, options, person, r, w, e),
-        Line::EnumerateWith(options, flags) => enumerate_with(
-            alloc, options, *flags, person, r, w, e,
+    match is_terminal {
+        true => refuse(SettingsFault::ToTerminal, person, e),
+        false => build_with(alloc, comments, person, r, w, e),
+    }
+}
+
+/// Builds, and drops comments or doesn't.
+#[tactic(auto, using(crate::proofs::Running::command_ends))]
+fn build_with<R: Read, W: Write, E: Write>(
+    alloc: Global,
+    comments: bool,
+    person: bool,
+    r: &mut R,
+    w: &mut W,
+    e: &mut E,
+) -> u8
+    ensures { EndsBuild person comments (R.remaining r.old) (R.remaining r.new) (W.contents w.old) (W.contents w.new) (E.contents e.old) (E.contents e.new) result }
+{
+    match comments {
+        true => report(
+            &run_build_commented(alloc, r, w),
+            person,
+            build_hint(true),
+            e,
         ),
+        false => report(&run_build(alloc, r, w), person, build_hint(false), e),
+    }
+}
+
+/// What to try where the input of `build` is at fault.
+fn build_hint(comments: bool) -> Hint
+    ensures { result ≡ build_hint comments }
+{
+    if comments {
+        Hint::Nothing
+    } else {
+        Hint::Comments
     }
 }
 
@@ -147,16 +239,33 @@ fn explain_with<R: Read, W: Write, E: Write>(
     ensures { EndsExplanation person options.now (R.remaining r.old) (R.remaining r.new) (W.contents w.old) (W.contents w.new) (E.contents e.old) (E.contents e.new) result }
 {
     match manner_of(options) {
-        Ok(manner) => {
-            let outcome = run_explain(alloc, r, w, manner, options.hex);
-            report(&outcome, person, Hint::Nothing, e)
-        }
+        Ok(manner) => report(
+            &explain_as(alloc, r, w, manner, options.hex, options.loose),
+            person,
+            Hint::Nothing,
+            e,
+        ),
         Err(fault) => refuse(fault, person, e),
     }
 }
 
-/// Checks as the options say. A speed that is none, or that is named without remarks, is reported before anything is read.
+/// Carries out a command whose input is hexadecimal text.
 #[tactic(auto, using(crate::proofs::Running::command_ends))]
+fn hex_with<R: Read, W: Write, E: Write>(
+    alloc: Global,
+    command: HexCommand,
+    any: bool,
+    person: bool,
+    r: &mut R,
+    w: &mut W,
+    e: &mut E,
+) -> u8
+    ensures { EndsHex person any command (R.remaining r.old) (R.remaining r.new) (W.contents w.old) (W.contents w.new) (E.contents e.old) (E.contents e.new) result }
+{
+    report(&run_hex(alloc, r, w, command), person, any_hint(any), e)
+}
+
+/// Checks as the options say. A speed that is none, or that is named without remarks, is reported before anything is read.
 fn check_with<R: Read, W: Write, E: Write>(
     alloc: Global,
     options: &Checking<'_>,
@@ -168,17 +277,47 @@ fn check_with<R: Read, W: Write, E: Write>(
     ensures { EndsChecking person options.now (R.remaining r.old) (R.remaining r.new) (W.contents w.old) (W.contents w.new) (E.contents e.old) (E.contents e.new) result }
 {
     match running_speed(options) {
-        Ok(speed) => {
-            let outcome = run_check_remarks(alloc, r, w, options.any, speed);
-            report(&outcome, person, check_hint(options.any), e)
-        }
+        Ok(speed) => check_remarks(alloc, options.hex, options.any, speed, person, r, w, e),
         Err(fault) => refuse(fault, person, e),
     }
 }
 
-/// What to try where the input of `check` is at fault.
-fn check_hint(any: bool) -> Hint
-    ensures { result ≡ check_hint any }
+/// Writes remarks too.
+#[tactic(auto, using(crate::proofs::Running::command_ends))]
+fn check_remarks<R: Read, W: Write, E: Write>(
+    alloc: Global,
+    hex: bool,
+    any: bool,
+    speed: Option<SetSpeed>,
+    person: bool,
+    r: &mut R,
+    w: &mut W,
+    e: &mut E,
+) -> u8
+    ensures { EndsRemarks hex person any speed (R.remaining r.old) (R.remaining r.new) (W.contents w.old) (W.contents w.new) (E.contents e.old) (E.contents e.new) result }
+{
+    match hex {
+        true => hex_with(
+            alloc,
+            HexCommand::CheckRemarks { any, speed },
+            any,
+            person,
+            r,
+            w,
+            e,
+        ),
+        false => report(
+            &run_check_remarks(alloc, r, w, any, speed),
+            person,
+            any_hint(any),
+            e,
+        ),
+    }
+}
+
+/// What to try where the input of `show` or `check` is at fault.
+fn any_hint(any: bool) -> Hint
+    ensures { result ≡ any_hint any }
 {
     if any { Hint::Explain } else { Hint::Any }
 }
@@ -227,12 +366,8 @@ fn enumerate_with<R: Read, W: Write, E: Write>(
     match settings_of(alloc, options) {
         Ok(settings) => {
             let (l, s) = (settings.limits, settings.speed);
-            report(
-                &run_enumerate_with(alloc, r, w, l, s, &settings.fates, flags),
-                person,
-                enumerate_hint(flags.with_strings),
-                e,
-            )
+            let outcome = run_enumeration(alloc, r, w, l, s, &settings.fates, flags);
+            report_end(&outcome, person, flags, e)
         },
         Err(fault) => refuse(fault, person, e),
     }
@@ -263,6 +398,53 @@ fn report<E: Write>(outcome: &Result<u8, ToolFault>, person: bool, hint: Hint, e
         tell_fault(*fault, person, hint, e);
     }
     verdict(outcome)
+}
+
+/// The exit status of `enumerate`, after the line of its fault, or for a person what its end means.
+fn report_end<E: Write>(
+    outcome: &Result<EnumerationEnd, ToolFault>,
+    person: bool,
+    flags: EnumerateFlags,
+    e: &mut E,
+) -> u8
+    ensures status { result ≡ ended_status outcome.now }
+    ensures line { ReportsEnded person flags outcome.now (E.contents e.old) (E.contents e.new) }
+{
+    match outcome {
+        Ok(end) => {
+            if person {
+                tell_end(*end, flags.log, e);
+            }
+            end.status()
+        }
+        Err(fault) => {
+            tell_fault(*fault, person, enumerate_hint(flags.with_strings), e);
+            FAULT
+        }
+    }
+}
+
+/// Writes for a person what the end of an enumeration means and what to try, if it isn't success.
+fn tell_end<E: Write>(end: EnumerationEnd, is_logged: bool, e: &mut E)
+    ensures { ReportsEnd true is_logged end (E.contents e.old) (E.contents e.new) }
+{
+    match end {
+        EnumerationEnd::Success => {}
+        EnumerationEnd::Refused(fault) => {
+            let line = MeaningLine {
+                meaning: fault.message(),
+                hint: refusal_hint(fault).words(),
+            };
+            tell_line(line, e);
+        }
+        EnumerationEnd::Trouble(trouble) => {
+            let line = TroubleMeaning {
+                trouble,
+                hint: trouble_hint(trouble.why, is_logged).words(),
+            };
+            tell_line(line, e);
+        }
+    }
 }
 
 /// Writes the line of a fault, and for a person what it means and what to try.

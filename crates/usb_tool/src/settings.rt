@@ -249,10 +249,12 @@ pub enum SettingsFault {
     Memory,
     /// A speed is named, and no remarks are asked for.
     SpeedAlone,
+    /// Standard output is a terminal, and bytes would be written there.
+    ToTerminal,
 }
 
 impl SettingsFault {
-    /// The fault's number, 1 to 5: of the first three a lower one is tested first.
+    /// The fault's number, 1 to 6: of the first three a lower one is tested first.
     ///
     /// ```rust
     /// assert_eq!(rt; SettingsFault::Speed.number(), 2);
@@ -291,6 +293,7 @@ impl SettingsFault {
             SettingsFault::Fates => "a letter that names no fate: they are . n d u a",
             SettingsFault::Memory => "there was not enough memory",
             SettingsFault::SpeedAlone => "a speed is for remarks: check --remarks --speed full",
+            SettingsFault::ToTerminal => "usbdesc build < LISTING > FILE, or --force",
         }
     }
 }
@@ -306,6 +309,7 @@ impl fmt::Display for SettingsFault {
             SettingsFault::Fates => f.write_str("usbdesc: bad fates"),
             SettingsFault::Memory => f.write_str("usbdesc: out of memory"),
             SettingsFault::SpeedAlone => f.write_str("usbdesc: --speed without --remarks"),
+            SettingsFault::ToTerminal => f.write_str("usbdesc: bytes not written to a terminal"),
         }
     }
 }

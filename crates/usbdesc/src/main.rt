@@ -1,26 +1,31 @@
 //! Lists, checks, builds, explains and enumerates USB 2.0 descriptors.
 //!
 //! What it reads is standard input, what it writes standard output; a fault goes to standard error. What it
-//! does is `usb_tool::run_for`, for a person where standard error is a terminal; here it gets the words of its command
-//! line and the three streams.
+//! does is `usb_tool::run_for`, by which streams are terminals; here it gets the words of its command line and the three
+//! streams.
 #![tactic(auto)]
 
+use clap::error::ErrorKind;
+use std::alloc::Global;
 use std::io::IsTerminal;
 use std::process::ExitCode;
 use std::rt::Env;
 use std::{env, io};
-use usb_tool::{read_line, refuse_words, run_for};
+use usb_tool::{Terminals, read_line, refuse_words, run_for};
 
 fn main(rt: HostRuntime) -> ExitCode {
     let alloc = rt.alloc();
     let status = match words(&rt) {
         Ok(words) => {
-            let person = rt.stderr().is_terminal();
-            if person && rt.stdin().is_terminal() && read_line(alloc, &words).is_ok() {
-                let _ = rt.eprintln("reading standard input: usbdesc COMMAND < FILE");
+            let at = Terminals {
+                output: rt.stdout().is_terminal(),
+                errors: rt.stderr().is_terminal(),
+            };
+            if at.errors && lacks_input(alloc, &words, rt.stdin().is_terminal()) {
+                let _ = rt.eprintln("usbdesc reads standard input: usbdesc COMMAND < FILE");
             }
             let (mut r, mut w) = (rt.reader(), io::writer(&rt));
-            run_for(alloc, &words, person, &mut r, &mut w, &mut rt.stderr())
+            run_for(alloc, &words, at, &mut r, &mut w, &mut rt.stderr())
         }
         Err(error) => {
             let (line, status) = refuse_words(&error);
@@ -29,6 +34,17 @@ fn main(rt: HostRuntime) -> ExitCode {
         }
     };
     ExitCode::from(status)
+}
+
+/// Whether a command would read a keyboard, or has a word too many that is no option, as the name of a file.
+fn lacks_input(alloc: Global, words: &[String], is_keyboard: bool) -> bool {
+    match read_line(alloc, words) {
+        Ok(_) => is_keyboard,
+        Err(error) => {
+            error.kind() == ErrorKind::UnknownArgument
+                && words.iter().skip(2).any(|word| !word.starts_with('-'))
+        }
+    }
 }
 
 /// The words of the command line, the program's name first.

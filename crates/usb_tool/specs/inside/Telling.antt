@@ -1,5 +1,5 @@
 -- Telling what came of an enumeration.
-use Rattle.std.specs.Prelude.{◌≡◌, ℕ, ◌⊎◌, List, true}
+use Rattle.std.specs.Prelude.{◌≡◌, ℕ, Bool, ◌⊎◌, List, true}
 use Rattle.std.specs.Io.KnownBytes.{Appends, Keeps}
 use Rattle.usb_text.specs.declared.output.OutFault.TheVariants as outs
 use Rattle.usb_text.specs.Output.{AppendsFront, AppendsLess, Held}
@@ -7,16 +7,18 @@ use Rattle.usb_file_data.specs.declared.file.DescriptorFile.{DescriptorFile}
 use Rattle.usb_bus.specs.declared.enumeration.Run.{Run}
 use Rattle.usb_bus.specs.Log.{WritesLogLess}
 use Rattle.usb_explain.specs.declared.manner.Manner.{Manner}
+use Rattle.usb_explain.specs.Explanations.{explanation}
 use Rattle.usb_explain.specs.Subjects.{Reading}
+use Rattle.usb_text.specs.Shown.{Shown}
 use Rattle.usb_tool.specs.Endings.{Extent}
-use Rattle.usb_tool.specs.Explains.{ExplainsAfter}
+use Rattle.usb_tool.specs.Explains.{ShowsAfter}
 use Rattle.usb_tool.specs.Enumerations.{Conditions, IsRun}
 use Rattle.usb_tool.specs.declared.fault.ToolFault.{ToolFault}
 use Rattle.usb_tool.specs.declared.fault.ToolFault.TheVariants as faults
 
--- the text was written, and the exit status is this one
-abbrev pub EndsWith : List ℕ → ℕ → Held → Held → ℕ → Type 0
-EndsWith text ended held holds status = Appends held holds text × (status ≡ ended)
+-- the text was written, and what is answered, as the exit status, is this
+abbrev pub EndsWith : {A : Type 0} → List ℕ → A → Held → Held → A → Type 0
+EndsWith text ended held holds answer = Appends held holds text × (answer ≡ ended)
 
 -- a text was not written to its end: a prefix of it was, and out of memory nothing, or so much of it
 abbrev pub IsCut : Extent → List ℕ → Held → Held → ToolFault → Type 0
@@ -28,11 +30,15 @@ IsCut extent text held holds fault = ⊥
 abbrev pub IsCutShort : List ℕ → Held → Held → ToolFault → Type 0
 IsCutShort = IsCut AppendsLess
 
--- an explanation after a heading was left unfinished
-pub record CutsExplained (m : Manner) (read : Reading) (heading b : List ℕ) (held holds : Held) (fault : ToolFault) : Type 0 where
+-- a heading and the lines that show this were left unfinished
+pub record CutsAfter (utf8 : Bool) (shown : List Shown) (heading : List ℕ) (held holds : Held) (fault : ToolFault) : Type 0 where
   pub text : List ℕ
-  pub explains : ExplainsAfter m read heading b text
+  pub explains : ShowsAfter utf8 shown heading text
   pub cut : IsCutShort text held holds fault
+
+-- an explanation after a heading was left unfinished
+abbrev pub CutsExplained : Manner → Reading → List ℕ → List ℕ → Held → Held → ToolFault → Type 0
+CutsExplained m read heading b = CutsAfter m.look.utf8 (explanation m read b) heading
 
 -- a device with these descriptors was enumerated, and its log was written where one is asked for
 pub record MakesRun (c : Conditions) (f : DescriptorFile) (held holds : Held) (run : Run) : Type 0 where

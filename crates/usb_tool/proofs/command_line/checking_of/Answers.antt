@@ -6,6 +6,7 @@ use Rattle.usb_tool.proofs.command_line.checking_of.Goals as goal
 pub returns : goal.returns
 returns c = record {
   any = c.has_flag.ensures;
-  remarks = c.has_flag-2.ensures;
+  hex = c.has_flag-2.ensures;
+  remarks = c.has_flag-3.ensures;
   speed = c.get_str.ensures ∙ first_value-rows (found_of c.args.matches.now) (codes "speed");
 }

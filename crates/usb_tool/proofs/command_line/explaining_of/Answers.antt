@@ -9,5 +9,6 @@ returns c = record {
   no_places = c.has_flag-2.ensures;
   utf8 = c.has_flag-3.ensures;
   hex = c.has_flag-4.ensures;
+  loose = c.has_flag-5.ensures;
   speed = c.get_str.ensures ∙ first_value-rows (found_of c.args.matches.now) (codes "speed");
 }

@@ -1,0 +1,27 @@
+use Rattle.std.proofs.Common.{subst, sym}
+use Rattle.usb_listing.specs.declared.laws.TheConstants.{LISTING_LIMIT}
+use Rattle.usb_tool.specs.Commands.{RefusesListing}
+use Rattle.usb_tool.specs.Endings.{AppendsNone, ReadsAll}
+use Rattle.usb_tool.specs.HexOutputs.{TellsHex, faulty_by, listing_by}
+use Rattle.usb_tool.proofs.Taken.{cut, hex_told, not_built, told}
+use Rattle.usb_tool.proofs.hex_output.run_build_hex.Goals as goal
+
+pub returns-in_err-file-clause-err : goal.returns-in_err-file-clause-err
+returns-in_err-file-clause-err g c =
+    let fault = c.in_err-file.field-0.0 in
+    not_built (TellsHex (listing_by c.args.comments)) _ _ (faulty_by c.args.comments) _ c.deref.result.now
+    (subst (ReadsAll LISTING_LIMIT _ _) (sym c.deref.ensures.value) c.in_ok-text.ensures.all) fault _ c.from_residual-in_err-file.ensures.1
+    c.in_err-file.ensures.err
+
+pub returns-clause-built : goal.returns-clause-built
+returns-clause-built g c =
+    told AppendsNone (TellsHex (listing_by c.args.comments)) LISTING_LIMIT _ _ c.deref.result.now
+    (subst (ReadsAll LISTING_LIMIT _ _) (sym c.deref.ensures.value) c.in_ok-text.ensures.all) _ _
+    (hex_told (listing_by c.args.comments) c.deref.result.now c.in_ok-file.file c.in_ok-file.ensures.listing c.in_ok-file.ensures.bytes.0 c.in_ok-file.ensures.bytes.1) _ _ _ c.put_hex.ensures.ok
+
+pub returns-clause-err : goal.returns-clause-err
+returns-clause-err g c =
+    cut AppendsNone (TellsHex (listing_by c.args.comments)) LISTING_LIMIT _ _ c.deref.result.now
+    (subst (ReadsAll LISTING_LIMIT _ _) (sym c.deref.ensures.value) c.in_ok-text.ensures.all) _ _
+    (hex_told (listing_by c.args.comments) c.deref.result.now c.in_ok-file.file c.in_ok-file.ensures.listing c.in_ok-file.ensures.bytes.0 c.in_ok-file.ensures.bytes.1) _ _ (RefusesListing (faulty_by c.args.comments)) _
+    c.put_hex.ensures.err
