@@ -60,7 +60,7 @@ void rattle_dealloc(unsigned char *at);
 /* --- from a buffer into a buffer: what `usbdesc` writes -------------------------------------------------------- */
 
 enum nzg_options { NZG_BRIEF = 1, NZG_PLACES = 2, NZG_UTF8 = 4 }; /* with NZG_UTF8 the text is UTF-8, else ASCII */
-enum nzg_speed { NZG_LOW = 1, NZG_FULL = 2, NZG_HIGH = 3, NZG_SUPER = 4 }; /* 0: not known; 0 and super for explain alone */
+enum nzg_speed { NZG_LOW = 1, NZG_FULL = 2, NZG_HIGH = 3, NZG_SUPER = 4 }; /* 0: not known; 0 and super for explain and remarks alone */
 
 /* one set where the second byte is 2 or 7, and else a file; with `any` a dump too */
 struct nzg_answer nzg_show(const uint8_t *bytes, size_t len, bool any, uint8_t *text, size_t room);
@@ -143,6 +143,13 @@ struct nzg_finding {
 };
 /* Each broken rule, in the order of the bytes, or the fault of nzg_judge. Room and length count findings. */
 struct nzg_answer nzg_findings(const uint8_t *bytes, size_t len, struct nzg_finding *found, size_t room);
+struct nzg_remark {
+    size_t place;                  /* of the descriptor on which it is */
+    size_t set, setting, endpoint; /* as in nzg_finding */
+    uint8_t number, part, role;    /* of the table of remarks in docs/formats.md, from 1; as in nzg_descriptor */
+};
+/* The same of remarks, which break no rule: those of `usbdesc check --remarks`. The speed is that at which the device ran. */
+struct nzg_answer nzg_remarks(const uint8_t *bytes, size_t len, uint8_t speed, struct nzg_remark *remarks, size_t room);
 /* what breaks a rule from 1 to 13, in words, as in docs/formats.md; this asks for no memory */
 struct nzg_answer nzg_rule(uint8_t rule, uint8_t *text, size_t room);
 /* A string, as UTF-8 with escapes as by `usbdesc explain --utf8`. Role, place and length say where it stands. */
@@ -173,10 +180,15 @@ bool nzg_device_reset(struct nzg_device *device);
 /* False where nothing is held, or where the stage or the toggle of OUT has no meaning: the packet is then as it was. */
 bool nzg_device_serve(struct nzg_device *device, const struct nzg_transaction *transaction, const uint8_t *data, size_t len, bool ready, struct nzg_packet *packet);
 bool nzg_device_acked(struct nzg_device *device);
-/* The request that is refused, before the host is answered; an answer to it; and the request that was carried out. */
+/* The request that is refused, before the host is answered; an answer to it; and the request that was carried out. Accepted is a
+ * request without data, one whose data go to the device, at most 512 bytes, and then the write once all of them have come. */
 bool nzg_device_refused(struct nzg_device *device, struct nzg_setup *setup);
 struct nzg_answer nzg_device_answer_with(struct nzg_device *device, const uint8_t *bytes, size_t len);
 struct nzg_answer nzg_device_accept(struct nzg_device *device);
+/* The write whose data have all come and that wasn't answered yet, and those data; open where there is none. */
+struct nzg_answer nzg_device_written(struct nzg_device *device, struct nzg_setup *setup, uint8_t *data, size_t room);
+/* STALL, where the status stage wasn't answered yet. */
+bool nzg_device_refuse(struct nzg_device *device);
 bool nzg_device_carried_out(struct nzg_device *device, struct nzg_setup *setup);
 bool nzg_device_state(struct nzg_device *device, struct nzg_state *state);
 void nzg_device_close(struct nzg_device *device);

@@ -9,7 +9,7 @@ static uint8_t bytes[1 << 16], text[1 << 20], again[1 << 20];
 static size_t length;
 static long calls, refusals;
 
-enum { SHOW, CHECK, CHECK_ANY, EXPLAIN, BUILD, BUILD_COMMENTS, ENUMERATE, JUDGE, FINDINGS, TEXT, WITH_STRINGS, DEVICE, HOST, DECODER, TRANSFER, KINDS };
+enum { SHOW, CHECK, CHECK_ANY, EXPLAIN, BUILD, BUILD_COMMENTS, ENUMERATE, JUDGE, FINDINGS, REMARKS, TEXT, WITH_STRINGS, DEVICE, HOST, DECODER, TRANSFER, KINDS };
 
 static struct nzg_answer in_pieces(uint8_t *out) {
     struct nzg_decoder decoder = {0};
@@ -88,6 +88,21 @@ static struct nzg_answer findings(uint8_t *out) {
     return answer;
 }
 
+/* The remarks: number, role and place of each. */
+static struct nzg_answer remarks(uint8_t *out) {
+    static struct nzg_remark found[64];
+    memset(found, 0xa5, sizeof found);
+    struct nzg_answer answer = nzg_remarks(bytes, length, NZG_HIGH, found, 64);
+    for (size_t i = 0; answer.status == NZG_DONE && i < answer.length; i++) {
+        *out++ = found[i].number;
+        *out++ = found[i].role;
+        *out++ = (uint8_t)found[i].place;
+    }
+    for (size_t i = 0; answer.status != NZG_DONE && i < sizeof found; i++)
+        if (((uint8_t *)found)[i] != 0xa5) answer.status = 99;
+    return answer;
+}
+
 /* The last string, if there is one. */
 static struct nzg_answer last_string(uint8_t *out) {
     struct nzg_descriptor string = {0};
@@ -108,6 +123,7 @@ static struct nzg_answer call(int kind, uint8_t *out) {
     case ENUMERATE: return nzg_enumerate(bytes, length, NZG_FULL, 16, 3, (const uint8_t *)"....a", 5, &outcome, out, sizeof text);
     case JUDGE: return nzg_judge(bytes, length);
     case FINDINGS: return findings(out);
+    case REMARKS: return remarks(out);
     case TEXT: return last_string(out);
     case WITH_STRINGS: return nzg_with_strings(bytes, length, out, sizeof text);
     case DEVICE: return opened_twice();

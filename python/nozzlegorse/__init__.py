@@ -6,18 +6,18 @@
 >>> for finding in usb.check(data):
 ...     print(finding)
 
-`read` gives descriptors as values, `walk` also those of broken bytes; `check` gives findings; `show`, `build` and `explain`
-the texts of the program `usbdesc`, `enumerate` a whole enumeration. `nozzlegorse.ends` has a device and a host transaction by
+`read` gives descriptors as values, `walk` also those of broken bytes; `check` gives findings, `remarks` what else is remarked;
+`show`, `build` and `explain` the texts of the program `usbdesc`, `enumerate` a whole enumeration. `nozzlegorse.ends` has a device and a host transaction by
 transaction. What is refused is a `Fault`, a `ValueError` with its kind, number, name and place. Bytes are `bytes` or what
 any buffer holds.
 """
 from . import ends
 from .descriptors import (Association, Configuration, Descriptor, Descriptors, Device, Endpoint, Field, Finding, Interface,
-                          Languages, Qualifier, Raw, String, check, judge, message, read, walk)
+                          Languages, Qualifier, Raw, Remark, String, check, judge, message, read, remarks, walk)
 from .faults import Fault
 from .texts import Decoder, Enumeration, Explanation, build, enumerate, explain, show, with_strings
 
 __version__ = "0.1.0"
 __all__ = ["Association", "Configuration", "Decoder", "Descriptor", "Descriptors", "Device", "Endpoint", "Enumeration",
-           "Explanation", "Fault", "Field", "Finding", "Interface", "Languages", "Qualifier", "Raw", "String", "build", "check",
-           "ends", "enumerate", "explain", "judge", "message", "read", "show", "walk", "with_strings"]
+           "Explanation", "Fault", "Field", "Finding", "Interface", "Languages", "Qualifier", "Raw", "Remark", "String", "build",
+           "check", "ends", "enumerate", "explain", "judge", "message", "read", "remarks", "show", "walk", "with_strings"]

@@ -237,6 +237,23 @@ class Finding:
         return f"at {self.place}: V{self.rule}: {self.message}"
 
 
+@dataclass(frozen=True)
+class Remark:
+    """What is remarked of a descriptor, which breaks no rule. The number is that of the table of remarks in docs/formats.md; the
+    others are as in a `Finding`. `str` is the line of `usbdesc check --remarks`."""
+
+    number: int
+    part: str
+    set: int
+    setting: int
+    endpoint: int
+    place: int
+    role: str
+
+    def __str__(self) -> str:
+        return f"R{self.number} {self.part} {self.set} {self.setting} {self.endpoint}"
+
+
 @dataclass(frozen=True, repr=False)
 class Descriptors:
     """All that a set, a descriptor file or a dump says. `kind` is 'set', 'file' or 'dump'."""
@@ -313,6 +330,14 @@ def check(data: bytes) -> list[Finding]:
     answer, found = c.into(c.lib.nzg_findings, *c.lend(data), of=c.structs["finding"], room=64)
     done(answer)
     return [Finding(it.rule, PARTS[it.part], it.set, it.setting, it.endpoint, it.place, ROLES[it.role], message(it.rule)) for it in found]
+
+
+def remarks(data: bytes, speed: str | None = None) -> list[Remark]:
+    """What is remarked of a set, a descriptor file or a dump, in the order of the bytes. The device ran at this speed: 'low', 'full',
+    'high', 'super', or None where it isn't known."""
+    answer, found = c.into(c.lib.nzg_remarks, *c.lend(data), c.speed_number(speed, (None, *c.SPEEDS)), of=c.structs["remark"], room=64)
+    done(answer)
+    return [Remark(it.number, PARTS[it.part], it.set, it.setting, it.endpoint, it.place, ROLES[it.role]) for it in found]
 
 
 def message(rule: int) -> str:

@@ -13,6 +13,8 @@ from . import _library as c
 from ._handle import Handle
 from .faults import STATUSES, Fault, done, step_word
 
+# The most bytes of an answer or a write, which a device keeps.
+ROOM = 512
 STAGES, KINDS = ("setup", "in", "out"), ("ack", "nak", "stall", "data", "silence")
 
 
@@ -140,8 +142,18 @@ class Device(Handle):
         done(self._call("answer_with", *c.lend(data)))
 
     def accept(self) -> None:
-        """Accepts the refused request, which has no data stage."""
+        """Accepts the refused request, which has no data stage or sends data to the device; or the write of `written`."""
         done(self._call("accept"))
+
+    def written(self) -> tuple[bytes, bytes] | None:
+        """The request of a write whose data have all come and that wasn't answered yet, and those data, or None."""
+        it = c.structs["setup"]()
+        answer, data = c.into(lambda *rest: self._call("written", it, *rest), room=ROOM)
+        return (bytes(it.bytes), data) if STATUSES[done(answer).status] == "done" else None
+
+    def refuse(self) -> None:
+        """STALL, where the status stage wasn't answered yet."""
+        self._call("refuse")
 
     def state(self) -> State:
         """What the device keeps."""

@@ -45,8 +45,8 @@ class Owner:
     plug = None
 
     def request(self, setup: bytes, data: bytes) -> bytes | bool | None:
-        """What is answered to a request that the table refuses: the bytes of a read, True where it is done or its data are
-        taken, and None for a STALL."""
+        """What is answered to a request that the table refuses: the bytes of a read, True where it is done or its data, which
+        have all come, are taken, and None for a STALL."""
 
     def received(self, endpoint: int, data: bytes) -> None:
         """Bytes came by an OUT of an endpoint."""
@@ -79,12 +79,12 @@ class Answers(Owner):
                         self.lines.append(Line(words, f"{path}: line {number}"))
 
     def request(self, setup, data):
-        for line in self.lines:
-            if line.fits(setup):
-                if line.is_write:
-                    self.kept[line.request] = data
-                return self.kept.get(line.of, b"") if line.of else line.answer
-        return None
+        line = next((it for it in self.lines if it.fits(setup)), None)
+        if line is None or line.answer is True and line.is_write != bool(data):
+            return None
+        if line.is_write:
+            self.kept[line.request] = data
+        return self.kept.get(line.of, b"") if line.of else line.answer
 
     def check(self, device: Device) -> None:
         """That the device answers none of them itself, as a string that its file has."""
@@ -165,25 +165,35 @@ class Plug:
     def _transfer(self, setup: bytes, data: bytes) -> bytes | None:
         length, is_in = int.from_bytes(setup[6:8], "little"), setup[0] > 0x7F
         self.device.serve(Transaction.setup(self.address, setup))
-        given = self.owner.request(setup, data) if self.device.refused() else None
         if length and not is_in:
-            # The proved device takes no data: where its owner takes those of a class or vendor, that ends the transfer.
-            return b"" if given is True and setup[0] >> 5 & 3 in (1, 2) else self._stalled()
-        if given is not None and given is not False:
-            self._answer(setup, given)
+            return self._write(setup, data)
+        if self.device.refused():
+            self._answer(setup, self.owner.request(setup, data))
         if not length:
             return b"" if self._packet() is not None else None
         return self._read(length)
 
-    def _answer(self, setup: bytes, given: bytes | bool) -> None:
-        """The answer of its owner to a request that the table refuses. What is no answer to it leaves a STALL, and is told."""
+    def _answer(self, setup: bytes, given: bytes | bool | None) -> None:
+        """The answer of its owner. What is none to this request leaves a STALL, and is told."""
+        if given is None or given is False:
+            return self.device.refuse()
         try:
             self.device.accept() if given is True else self.device.answer_with(given)
         except (Fault, TypeError) as fault:
             self.tell(f"{setup.hex()}: the owner's answer is none to it: {fault}")
 
-    def _stalled(self) -> None:
-        self.device.serve(Transaction(self.address, "out", toggle=1, data=b"\0"))
+    def _write(self, setup: bytes, data: bytes) -> bytes | None:
+        """A write, in packets. Its owner is asked when all data have come to the device."""
+        packet = self.file[7]
+        if self.device.refused():
+            self._answer(setup, True)
+        for place in range(0, len(data), packet):
+            sent = Transaction(self.address, "out", toggle=1 - place // packet % 2, data=data[place : place + packet])
+            if self.device.serve(sent).kind != "ack":
+                return None
+        if written := self.device.written():
+            self._answer(setup, self.owner.request(*written))
+        return b"" if self._packet() is not None else None
 
     def _packet(self) -> bytes | None:
         """The next data packet, acknowledged, or None for a STALL."""

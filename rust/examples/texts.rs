@@ -1,5 +1,5 @@
 //! texts COMMAND [FATES] < FILE: what the crate makes of the bytes; a fault on standard error, as `usbdesc` says it.
-use nozzlegorse::{Fault, Options, Speed, build, check, descriptors, enumerate, explain, show, with_strings};
+use nozzlegorse::{Fault, Options, Speed, build, check, descriptors, enumerate, explain, remarks, show, with_strings};
 use std::io::{Read, Write, stdin, stdout};
 
 fn walk(bytes: &[u8]) -> String {
@@ -27,6 +27,7 @@ fn made(command: &str, fates: &str, bytes: &[u8]) -> Result<Vec<u8>, Fault> {
     Ok(match command {
         "show-" => show(bytes)?.into(),
         "check" => check(bytes)?.iter().map(|it| format!("{it}\n")).collect::<String>().into(),
+        "remarks" => remarks(bytes, Some(Speed::High))?.iter().map(|it| format!("{it}\n")).collect::<String>().into(),
         "build" | "build-" => build(bytes, command == "build-")?,
         "with_strings" => with_strings(bytes)?,
         "walk" => walk(bytes).into(),

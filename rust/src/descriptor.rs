@@ -1,7 +1,7 @@
 //! Descriptors, their fields and the rules that they break, as values.
 use crate::fault::{Fault, done};
-use crate::sys::{self, nzg_descriptor, nzg_field, nzg_finding};
-use crate::{into, text_of};
+use crate::sys::{self, nzg_descriptor, nzg_field, nzg_finding, nzg_remark};
+use crate::{Speed, into, text_of};
 use std::{fmt, iter::FusedIterator, ops::Deref};
 
 /// What bytes are.
@@ -326,4 +326,48 @@ pub fn check(bytes: &[u8]) -> Result<Vec<Finding>, Fault> {
         role: Role::of(it.role).expect("a finding has a descriptor"),
     };
     Ok(found.into_iter().map(finding).collect())
+}
+
+/// What is remarked of a descriptor, which breaks no rule.
+#[derive(Clone, Copy, Debug, PartialEq, Eq, Hash)]
+pub struct Remark {
+    /// The remark's number, from 1, in the table of remarks in docs/formats.md.
+    pub number: u8,
+    /// In which part.
+    pub part: Part,
+    /// Number of the set in its part, from 0.
+    pub set: usize,
+    /// Number of the setting in its set, from 0.
+    pub setting: usize,
+    /// Number of the endpoint in its setting, from 0.
+    pub endpoint: usize,
+    /// Where the descriptor is.
+    pub place: usize,
+    /// What it is.
+    pub role: Role,
+}
+
+/// The line of `usbdesc check --remarks`.
+impl fmt::Display for Remark {
+    fn fmt(&self, f: &mut fmt::Formatter<'_>) -> fmt::Result {
+        let part = ["device", "main", "other"][self.part as usize];
+        write!(f, "R{} {part} {} {} {}", self.number, self.set, self.setting, self.endpoint)
+    }
+}
+
+/// What is remarked of a set, a descriptor file or a dump, in the order of the bytes. The device ran at this speed, if it is known.
+pub fn remarks(bytes: &[u8], speed: Option<Speed>) -> Result<Vec<Remark>, Fault> {
+    let (bytes, len, speed) = (bytes.as_ptr(), bytes.len(), speed.map_or(0, |it| it as u8));
+    let (answer, found) = into::<nzg_remark>(|out, room| unsafe { sys::nzg_remarks(bytes, len, speed, out, room) });
+    done(answer)?;
+    let remark = |it: nzg_remark| Remark {
+        number: it.number,
+        part: Part::of(it.part),
+        set: it.set,
+        setting: it.setting,
+        endpoint: it.endpoint,
+        place: it.place,
+        role: Role::of(it.role).expect("a remark has a descriptor"),
+    };
+    Ok(found.into_iter().map(remark).collect())
 }

@@ -210,9 +210,19 @@ impl Device {
     pub fn answer_with(&mut self, bytes: &[u8]) -> Result<(), Fault> {
         done(unsafe { sys::nzg_device_answer_with(&mut self.0, bytes.as_ptr(), bytes.len()) }).map(|_| ())
     }
-    /// Accepts the refused request, which has no data stage.
+    /// Accepts the refused request, which has no data stage or sends data to the device; or the write of [`Device::written`].
     pub fn accept(&mut self) -> Result<(), Fault> {
         done(unsafe { sys::nzg_device_accept(&mut self.0) }).map(|_| ())
+    }
+    /// The request of a write whose data have all come and that wasn't answered yet, and those data.
+    pub fn written(&mut self) -> Option<([u8; 8], Vec<u8>)> {
+        let mut setup = nzg_setup::default();
+        let (answer, data) = into(|data, room| unsafe { sys::nzg_device_written(&mut self.0, &mut setup, data, room) });
+        (answer.status == 0).then_some((setup.bytes, data))
+    }
+    /// STALL, where the status stage wasn't answered yet.
+    pub fn refuse(&mut self) {
+        unsafe { sys::nzg_device_refuse(&mut self.0) };
     }
     /// The request that was carried out just now.
     pub fn carried_out(&mut self) -> Option<[u8; 8]> {

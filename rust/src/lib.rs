@@ -17,7 +17,8 @@ mod fault;
 mod sys;
 
 pub use descriptor::{
-    Descriptor, Descriptors, Endpoint, Field, Finding, Input, Part, Role, TransferType, check, descriptors, judge,
+    Descriptor, Descriptors, Endpoint, Field, Finding, Input, Part, Remark, Role, TransferType, check, descriptors, judge,
+    remarks,
 };
 pub use ends::{Action, Decoder, Device, Difference, Host, Reply, Stage, State, Toggle, Transaction, Transfer};
 use fault::done;
@@ -56,7 +57,7 @@ pub enum Speed {
     Full,
     /// 480 Mb/s.
     High,
-    /// 5 Gb/s and more: for `explain` alone.
+    /// 5 Gb/s and more: for `explain` and `remarks` alone.
     Super,
 }
 

@@ -31,6 +31,7 @@ structs! {
     }
     nzg_field { usize: place; u64: value; u8: width name_length; [u8; 62]: name; }
     nzg_finding { usize: place set setting endpoint; u8: rule part role; }
+    nzg_remark { usize: place set setting endpoint; u8: number part role; }
     nzg_transaction { u8: address stage toggle; [u8; 8]: setup; }
     nzg_packet { u8: reply toggle length; [u8; 64]: data; }
     nzg_setup { [u8; 8]: bytes; }
@@ -55,6 +56,7 @@ unsafe extern "C" {
     pub fn nzg_field(bytes: *const u8, len: usize, descriptor: *const nzg_descriptor, n: usize, field: *mut nzg_field) -> bool;
     pub fn nzg_judge(bytes: *const u8, len: usize) -> nzg_answer;
     pub fn nzg_findings(bytes: *const u8, len: usize, found: *mut nzg_finding, room: usize) -> nzg_answer;
+    pub fn nzg_remarks(bytes: *const u8, len: usize, speed: u8, remarks: *mut nzg_remark, room: usize) -> nzg_answer;
     pub fn nzg_rule(rule: u8, text: *mut u8, room: usize) -> nzg_answer;
     pub fn nzg_text(bytes: *const u8, len: usize, string: *const nzg_descriptor, text: *mut u8, room: usize) -> nzg_answer;
     pub fn nzg_with_strings(dump: *const u8, len: usize, file: *mut u8, room: usize) -> nzg_answer;
@@ -68,6 +70,8 @@ unsafe extern "C" {
     pub fn nzg_device_refused(device: *mut nzg_device, setup: *mut nzg_setup) -> bool;
     pub fn nzg_device_answer_with(device: *mut nzg_device, bytes: *const u8, len: usize) -> nzg_answer;
     pub fn nzg_device_accept(device: *mut nzg_device) -> nzg_answer;
+    pub fn nzg_device_written(device: *mut nzg_device, setup: *mut nzg_setup, data: *mut u8, room: usize) -> nzg_answer;
+    pub fn nzg_device_refuse(device: *mut nzg_device) -> bool;
     pub fn nzg_device_carried_out(device: *mut nzg_device, setup: *mut nzg_setup) -> bool;
     pub fn nzg_device_state(device: *mut nzg_device, state: *mut nzg_state) -> bool;
     pub fn nzg_device_close(device: *mut nzg_device);

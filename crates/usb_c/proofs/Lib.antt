@@ -8,6 +8,7 @@ mod HandleValues
 mod HostValues
 mod InputFaults
 mod LooseValues
+mod Numbering
 mod Placed
 mod Reasons
 pub mod Named

@@ -9,7 +9,7 @@ use Rattle.usb_file_data.specs.declared.file.DescriptorFile.{DescriptorFile}
 use Rattle.usb_file_data.specs.declared.fault.InputFault.TheVariants as inputs
 use Rattle.usb_file_data.specs.FileFaults.{FileFaulty}
 use Rattle.usb_device.specs.Accepted.{Accepted}
-use Rattle.usb_device.specs.Beside.{Response, answered, refused_in, room_size, unanswered}
+use Rattle.usb_device.specs.Beside.{Response, accepted, answered, refused_in, rejected, room_size, unaccepted, unanswered, written_in}
 use Rattle.usb_device.specs.Step.{new_device}
 use Rattle.usb_device.specs.View.{View, served_by, after}
 use Rattle.usb_device.specs.declared.state.State.{State}
@@ -19,7 +19,7 @@ use Rattle.usb_c.specs.declared.answer.Verdict.TheVariants as verdicts
 use Rattle.usb_c.specs.declared.device.NzgState.{NzgState}
 use Rattle.usb_c.specs.declared.device.NzgSetup.{NzgSetup}
 use Rattle.usb_device.specs.declared.transaction.NzgPacket.{NzgPacket}
-use Rattle.usb_c.specs.Answers.{RefusesFile}
+use Rattle.usb_c.specs.Answers.{Puts, RefusesFile}
 use Rattle.usb_device.specs.Transactions.{packet_of}
 
 -- a new device of the file that these bytes are is held
@@ -73,6 +73,30 @@ abbrev pub answer_told : (Setup → Option Unanswered) → Option View → Verdi
 answer_told unfit None = verdicts.Closed
 answer_told unfit (Some v) = taken_or (unanswered unfit (refused_in v.device.stage))
 
+-- and of accepting it, or the data of a write
+abbrev pub acceptance_told : Option View → Verdict
+acceptance_told None = verdicts.Closed
+acceptance_told (Some v) = taken_or (unaccepted room_size v.device.stage)
+
 -- the device once it was answered for
 abbrev pub answered_for : Response → View → View
 answered_for response v = after v (answered room_size response v.device)
+
+-- the device once its owner has accepted
+abbrev pub accepted_for : View → View
+accepted_for v = after v (accepted room_size v.device)
+
+-- the device once its owner has refused
+abbrev pub rejected_for : View → View
+rejected_for v = after v (rejected v.device)
+
+-- A write whose data have all come, and that is not answered yet: its request is told, and the data are put into the buffer.
+abbrev pub TellsWrite : Option (Setup × List ℕ) → NzgSetup → NzgSetup → List ℕ → List ℕ → Verdict → Type 0
+TellsWrite None old new before after verdict = (verdict ≡ verdicts.Open 0) × (new ≡ old) × (after ≡ before)
+TellsWrite (Some (request, got)) old new before after verdict =
+    (new ≡ record { bytes = setup_bytes request }) × Puts verdicts.Done got before after verdict
+
+-- that of the device that is held
+abbrev pub TellsWritten : Option View → NzgSetup → NzgSetup → List ℕ → List ℕ → Verdict → Type 0
+TellsWritten None old new before after verdict = (verdict ≡ verdicts.Closed) × (new ≡ old) × (after ≡ before)
+TellsWritten (Some v) old new before after verdict = TellsWrite (written_in v.device.stage) old new before after verdict

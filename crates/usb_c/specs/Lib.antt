@@ -7,6 +7,7 @@ pub mod Devices
 pub mod Enumerations
 pub mod Facts
 pub mod Hosts
+pub mod Remarks
 pub mod Strings
 pub mod Texts
 pub mod Transfers

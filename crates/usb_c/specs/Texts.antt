@@ -99,6 +99,7 @@ manner_told options speed =
     record {
       look = record { brief = options % 2 == 1; places = (options / 2) % 2 == 1; utf8 = (options / 4) % 2 == 1 };
       speed = running_speed_told speed;
+      decoded = false;
     }
 
 -- the explanation of bytes of which this was read is in the buffer, with this verdict

@@ -13,27 +13,27 @@ use crate::text::{build, check, explain_bytes, manner, show};
 use std::alloc::Global;
 use usb_file_data::InputFault;
 
-/// Puts a text into the first bytes of the buffer, where it has room.
-pub(crate) fn fill(text: &[u8], out: &mut [u8]) -> bool
-    ensures whole { result ≡ true → out.new ≡ text.now ++ drop (length text.now) out.old }
-    ensures short { result ≡ false → (length out.old < length text.now) × (out.new ≡ out.old) }
+/// Puts a text or other items into the first places of the buffer, where it has room.
+pub(crate) fn fill<T: Copy + Drop>(items: &[T], out: &mut [T]) -> bool
+    ensures whole { result ≡ true → out.new ≡ items.now ++ drop (length items.now) out.old }
+    ensures short { result ≡ false → (length out.old < length items.now) × (out.new ≡ out.old) }
 {
-    let length = text.len();
+    let length = items.len();
     if out.len() < length {
         return false;
     }
-    out[..length].copy_from_slice(text);
+    out[..length].copy_from_slice(items);
     true
 }
 
-/// Puts a text into the buffer, and answers its length.
-pub(crate) fn fill_done(text: &[u8], out: &mut [u8]) -> Verdict
-    ensures { Puts verdicts.Done text.now out.old out.new result }
+/// Puts a text or other items into the buffer, and answers how many they are.
+pub(crate) fn fill_done<T: Copy + Drop>(items: &[T], out: &mut [T]) -> Verdict
+    ensures { Puts verdicts.Done items.now out.old out.new result }
 {
-    if fill(text, out) {
-        Verdict::Done(text.len())
+    if fill(items, out) {
+        Verdict::Done(items.len())
     } else {
-        Verdict::NoRoom(text.len())
+        Verdict::NoRoom(items.len())
     }
 }
 

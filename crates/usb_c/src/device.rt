@@ -1,14 +1,15 @@
 //! A device, by a handle.
 ghost use Rattle.std.specs.Prelude.{◌≡◌, None, is_some};
 ghost use Rattle.std.specs.Option.{option_and_then, option_map};
-ghost use Rattle.usb_device.specs.Beside.{carried_out_in, refused_in, room_size, unfit_bytes, unfit_status, Gives, Does};
+ghost use Rattle.usb_device.specs.Beside.{carried_out_in, refused_in, room_size, unfit_bytes, written_in, Gives};
 ghost use Rattle.usb_device.specs.Step.{new_device};
 ghost use Rattle.usb_device.specs.View.{acked_by, after};
 ghost use Rattle.usb_c.specs.Answers.{AnswersOn, answer_of};
-ghost use Rattle.usb_c.specs.Devices.{DeviceOpens, DeviceOpensAt, Serves, answer_told, answered_for, setup_told, state_numbers, state_told};
+ghost use Rattle.usb_c.specs.Devices.{DeviceOpens, DeviceOpensAt, Serves, TellsWrite, TellsWritten, acceptance_told, accepted_for, answer_told, answered_for, rejected_for, setup_told, state_numbers, state_told};
 ghost use Rattle.usb_device.specs.Transactions.{sent_told, speed_told};
 
 use crate::answer::{Answer, Verdict, refused_description, refused_file};
+use crate::buffer::fill_done;
 use crate::device_handle::NzgDevice;
 use std::alloc::Global;
 use std::mem::replace;
@@ -181,11 +182,11 @@ pub extern "C" fn nzg_device_answer_with(
     }
 }
 
-/// Answers that request by the status stage of a request without data.
+/// Accepts that request, which has no data or brings some to the device; or the data of a write, once all have come.
 #[unsafe(no_mangle)]
 pub extern "C" fn nzg_device_accept(alloc: Global, device: &mut NzgDevice) -> Answer
-    ensures held { device.new.held ≡ option_map (answered_for Does) device.old.held }
-    ensures answer { result ≡ answer_of (answer_told unfit_status device.old.held) }
+    ensures held { device.new.held ≡ option_map accepted_for device.old.held }
+    ensures answer { result ≡ answer_of (acceptance_told device.old.held) }
 {
     let Some(mut held) = replace(device, NzgDevice::empty(alloc)).into_box() else {
         return Verdict::Closed.answer();
@@ -197,6 +198,67 @@ pub extern "C" fn nzg_device_accept(alloc: Global, device: &mut NzgDevice) -> An
         Ok(()) => Verdict::Done(0).answer(),
         Err(why) => Verdict::Unanswered(why).answer(),
     }
+}
+
+/// Puts the data of the write that have all come, and that isn't answered yet, into the buffer, and its request into the
+/// setup. It is open where there is no such write.
+#[unsafe(no_mangle)]
+pub extern "C" fn nzg_device_written(
+    alloc: Global,
+    device: &mut NzgDevice,
+    setup: &mut NzgSetup,
+    buffer: &mut [u8],
+) -> Answer
+    ensures held { device.new.held ≡ device.old.held }
+    ensures answer { AnswersOn (TellsWritten device.old.held setup.old setup.new buffer.old buffer.new) result }
+{
+    written(alloc, device, setup, buffer).answer()
+}
+
+fn written(
+    alloc: Global,
+    device: &mut NzgDevice,
+    setup: &mut NzgSetup,
+    buffer: &mut [u8],
+) -> Verdict
+    ensures held { device.new.held ≡ device.old.held }
+    ensures told { TellsWritten device.old.held setup.old setup.new buffer.old buffer.new result }
+{
+    let Some(held) = replace(device, NzgDevice::empty(alloc)).into_box() else {
+        return Verdict::Closed;
+    };
+    let told = tell_write(&held, setup, buffer);
+    *device = NzgDevice::of(held);
+    told
+}
+
+/// Tells the write whose data have all come, if there is one.
+fn tell_write(device: &OwnedDevice, setup: &mut NzgSetup, buffer: &mut [u8]) -> Verdict
+    ensures { TellsWrite (written_in device.now.device.stage) setup.old setup.new buffer.old buffer.new result }
+{
+    match device.endpoint_zero.written() {
+        Some((request, bytes)) => {
+            setup.bytes = request.to_bytes();
+            fill_done(bytes, buffer)
+        }
+        None => Verdict::Open(0),
+    }
+}
+
+/// Refuses the request that the device's owner was to answer, or has accepted, until the status stage was answered. False
+/// where none is held.
+#[unsafe(no_mangle)]
+pub extern "C" fn nzg_device_refuse(alloc: Global, device: &mut NzgDevice) -> bool
+    ensures held { device.new.held ≡ option_map rejected_for device.old.held }
+    ensures done { result ≡ is_some device.old.held }
+{
+    let Some(mut held) = replace(device, NzgDevice::empty(alloc)).into_box() else {
+        return false;
+    };
+    let owned: &mut OwnedDevice = &mut held;
+    owned.endpoint_zero.refuse();
+    *device = NzgDevice::of(held);
+    true
 }
 
 /// The request that was carried out, in its status stage. False where there is none.

@@ -117,7 +117,7 @@ fn placed(descriptor: &Descriptor, found: &Found) -> NzgFinding
     }
 }
 
-fn part_number(part: Part) -> u8
+pub(crate) fn part_number(part: Part) -> u8
     ensures { result ≡ part_number part }
 {
     match part {

@@ -3,13 +3,14 @@
 //! A slice is a pointer and a length, lent for the call. No export has a `requires`: each takes any bytes, any numbers
 //! and any order of calls. A text or bytes go into the caller's buffer whole, or the buffer is left as it was:
 //! `specs/Texts.antt`, `specs/Enumerations.antt`. What bytes are, what breaks a rule in them and where, and the texts of
-//! strings are `specs/Facts.antt`.
+//! strings are `specs/Facts.antt`; what is remarked of them is `specs/Remarks.antt`.
 //!
 //! `nzg_next` goes from a descriptor to the next one, and `nzg_field` gives its fields, as numbers in the caller's structs and without
 //! memory: `specs/Descriptors.antt`, `specs/DescriptorFields.antt`. [`laws`] says which descriptors those are.
 //!
 //! Each call comes to a `Verdict`, which is given as the numbers of an [`Answer`]. [`NzgTransaction`], [`NzgPacket`],
-//! [`NzgOutcome`], [`NzgTrouble`] and [`NzgFinding`] are transactions, outcomes and findings as numbers.
+//! [`NzgOutcome`], [`NzgTrouble`], [`NzgFinding`] and [`NzgRemark`] are transactions, outcomes, findings and remarks as
+//! numbers.
 #![tactic(auto)]
 
 mod answer;
@@ -29,6 +30,7 @@ mod judging;
 pub mod laws;
 mod loose;
 mod outcome;
+mod remark;
 mod step;
 mod string_place;
 mod string_text;
@@ -48,8 +50,8 @@ pub use descriptor::NzgDescriptor;
 pub use descriptor_field::{NzgField, nzg_field};
 pub use device::{
     NzgSetup, NzgState, nzg_device_accept, nzg_device_acked, nzg_device_answer_with,
-    nzg_device_carried_out, nzg_device_close, nzg_device_open, nzg_device_refused,
-    nzg_device_reset, nzg_device_serve, nzg_device_state,
+    nzg_device_carried_out, nzg_device_close, nzg_device_open, nzg_device_refuse,
+    nzg_device_refused, nzg_device_reset, nzg_device_serve, nzg_device_state, nzg_device_written,
 };
 pub use device_handle::NzgDevice;
 pub use enumeration::NzgOutcome;
@@ -61,6 +63,7 @@ pub use host::{
 pub use host_handle::NzgHost;
 pub use judging::nzg_judge;
 pub use outcome::NzgTrouble;
+pub use remark::{NzgRemark, nzg_remarks};
 pub use step::NzgStep;
 pub use string_text::nzg_text;
 pub use transfer::{nzg_transfer_close, nzg_transfer_next, nzg_transfer_open, nzg_transfer_take};

@@ -98,10 +98,11 @@ pub(crate) fn manner(options: u32, speed: u8) -> Manner
             utf8: options / 4 % 2 == 1,
         },
         speed: running_speed(speed),
+        decoded: false,
     }
 }
 
-fn running_speed(number: u8) -> Option<SetSpeed>
+pub(crate) fn running_speed(number: u8) -> Option<SetSpeed>
     ensures { result ≡ running_speed_told number }
 {
     match number {

@@ -1,0 +1,60 @@
+/* writes: data to a device, packet by packet. Its owner takes them, is given just the bytes that were sent, and accepts or
+ * refuses them. Ends in 0 where all comes as docs/control-transfers.md says, else in the number of what doesn't. The device
+ * asks for no memory once it is open. */
+#define POOL (1 << 16)
+#include "pool.h"
+#include "hosted.h"
+
+/* a mouse with packets of 8 bytes */
+static const uint8_t file[] = {
+    18, 1, 0x10, 1, 0, 0, 0, 8, 0x34, 0x12, 0x78, 0x56, 0, 1, 0, 0, 0, 1,
+    9, 2, 34, 0, 1, 1, 0, 0xa0, 50, 9, 4, 0, 0, 1, 3, 1, 2, 0, 9, 0x21, 0x10, 1, 0, 1, 0x22, 0x34, 0, 7, 5, 0x81, 3, 4, 0, 10};
+/* SET_REPORT of 9 and of 513 bytes */
+static const uint8_t report[8] = {0x21, 9, 0, 2, 0, 0, 9, 0}, longer[8] = {0x21, 9, 0, 2, 0, 0, 1, 2};
+static const uint8_t sent[9] = {1, 2, 3, 4, 5, 6, 7, 8, 9};
+static struct nzg_device device;
+static struct nzg_packet packet;
+static struct nzg_setup setup;
+static uint8_t data[16];
+
+static uint8_t serve(uint8_t stage, uint8_t toggle, const uint8_t *request, const uint8_t *bytes, size_t length) {
+    struct nzg_transaction it = {0, stage, toggle, {0}};
+    memcpy(it.setup, request, 8);
+    nzg_device_serve(&device, &it, bytes, length, true, &packet);
+    return packet.reply;
+}
+
+/* A write up to its last packet, the first of which comes again. */
+static bool all_come(void) {
+    return serve(NZG_SETUP, 0, report, sent, 0) == NZG_ACK && nzg_device_accept(&device).status == NZG_DONE &&
+           serve(NZG_OUT, 1, report, sent, 8) == NZG_ACK && serve(NZG_OUT, 1, report, sent, 8) == NZG_ACK &&
+           nzg_device_written(&device, &setup, data, sizeof data).status == NZG_OPEN &&
+           serve(NZG_OUT, 0, report, sent + 8, 1) == NZG_ACK;
+}
+
+static bool is_written(void) {
+    struct nzg_answer answer = nzg_device_written(&device, &setup, data, 8);
+    if (answer.status != NZG_NO_ROOM || answer.length != 9 || data[0] != 0xa5) return false;
+    answer = nzg_device_written(&device, &setup, data, sizeof data);
+    return answer.status == NZG_DONE && answer.length == 9 && !memcmp(data, sent, 9) && data[9] == 0xa5 && !memcmp(setup.bytes, report, 8);
+}
+
+int main(void) {
+    memset(data, 0xa5, sizeof data);
+    if (nzg_device_written(&device, &setup, data, 16).status != NZG_CLOSED || nzg_device_refuse(&device)) return 1;
+    if (nzg_device_open(&device, file, sizeof file, NZG_FULL).status != NZG_DONE) return 2;
+    long before = pool_calls;
+    if (nzg_device_written(&device, &setup, data, 16).status != NZG_OPEN || !nzg_device_refuse(&device)) return 3;
+    if (!all_come() || !is_written()) return 4;
+    if (nzg_device_accept(&device).status != NZG_DONE || nzg_device_written(&device, &setup, data, 16).status != NZG_OPEN) return 5;
+    if (serve(NZG_IN, 0, report, sent, 0) != NZG_DATA || packet.toggle != 1 || packet.length != 0) return 6;
+    if (!nzg_device_carried_out(&device, &setup) || memcmp(setup.bytes, report, 8)) return 7;
+    if (!all_come() || !nzg_device_refuse(&device) || serve(NZG_IN, 0, report, sent, 0) != NZG_STALL) return 8;
+    if (!all_come() || serve(NZG_IN, 0, report, sent, 0) != NZG_STALL) return 9;
+    if (serve(NZG_SETUP, 0, longer, sent, 0) != NZG_ACK) return 10;
+    struct nzg_answer answer = nzg_device_accept(&device);
+    if (answer.status != NZG_UNANSWERED || answer.number != 4) return 11;
+    if (pool_calls != before) return 12;
+    nzg_device_close(&device);
+    return pool_live ? 13 : 0;
+}
