@@ -199,6 +199,12 @@ def build(text, has_comments=False):
     return b"".join(builder.parts)
 
 
+def digits(built):
+    """The bytes as hexadecimal text, as --hex has them: 16 a line."""
+    lines = (built[place : place + 16].hex(" ") for place in range(0, len(built), 16))
+    return "".join(f"{line}\n" for line in lines).encode()
+
+
 def main(paths):
     has_comments = paths[:1] == ["--comments"]
     if not paths[has_comments:]:

@@ -233,10 +233,17 @@ def size_remark(transfer, n, speed):
     return f"{with_article(transfer)} packet is {words} bytes at {speed}"
 
 
-def multiple_remark(transfer, more, speed):
+# Table 9-14: the sizes of packets by bits 12 to 11 of wMaxPacketSize. Greater ones have a remark of their own.
+COUNTED = {0: range(0x800), 1: range(513, 0x800), 2: range(683, 0x800)}
+
+
+def multiple_remark(transfer, size, more, speed):
     """Of bits 12 to 11 of wMaxPacketSize."""
     if HIGH in OPEN.get(speed, (speed,)) and transfer in INTERVALS:
-        return "3 in bits 12 to 11 of wMaxPacketSize is reserved" if more == 3 else None
+        if more not in COUNTED:
+            return "3 in bits 12 to 11 of wMaxPacketSize is reserved"
+        fits = size in COUNTED[more]
+        return None if fits else f"packets of {more + 1} transactions a microframe have at least {COUNTED[more][0]} bytes"
     return "bits 12 to 11 of wMaxPacketSize are reserved here" if more else None
 
 
@@ -253,7 +260,7 @@ def endpoint_remarks(d, speed):
     transfer, size = TRANSFERS[d[3] % 4], little(d[4:6])
     yield interval_remark(transfer, d[6], speed)
     yield size_remark(transfer, size & 0x7FF, speed)
-    yield multiple_remark(transfer, size >> 11 & 3, speed)
+    yield multiple_remark(transfer, size & 0x7FF, size >> 11 & 3, speed)
     yield attributes_remark(transfer, d[3], speed)
 
 
@@ -284,10 +291,18 @@ RELEASES = ("1.00", "1.10", "2.00", "2.01", "2.10", "2.50", "3.00", "3.10", "3.2
 FIRST_PACKETS = {LOW: "8", FULL: "8, 16, 32 or 64", HIGH: "64", SUPER: "9"}
 
 
-def device_remarks(usb, packet, sets, speed):
+# Base classes that the list of the USB-IF has for interfaces and not for devices.
+OF_INTERFACES = bytes.fromhex("01 03 05 06 07 08 0a 0b 0d 0e 0f 10")
+
+
+def device_remarks(usb, class_, packet, sets, speed):
     """Of a device; of a qualifier nothing is known of the packet, and of an input that has findings nothing of the sets."""
     if bcd(usb) not in RELEASES:
         yield "bcdUSB is no release of USB"
+    elif packet is None and usb < 0x0200:
+        yield "bcdUSB of a qualifier is 2.00 at least"
+    if class_ in OF_INTERFACES:
+        yield "this class is one of interfaces, and not of devices"
     right = FIRST_PACKETS.get(speed)
     if packet is not None and right and str(packet) not in right.replace(",", "").split():
         yield f"bMaxPacketSize0 is {right} at {speed}"
@@ -301,10 +316,17 @@ def power_remarks(milliamperes, speed):
         yield f"bMaxPower is {milliamperes} mA, and a device draws at most {most} mA"
 
 
-def association_remarks(device):
-    """Of an association, with the device descriptor or the qualifier before it."""
+def association_remarks(d, device, numbers, later):
+    """Of an association, with the device descriptor or the qualifier before it, the numbers of the interfaces of its set, and the
+    descriptors after it, or None where they aren't all there."""
     if device and tuple(device[4:7]) != (0xEF, 2, 1):
         yield "a device with associations is of class 0xef, subclass 0x02, protocol 0x01"
+    if later is not None and d[2] in numbers and d[2] not in interface_numbers(later):
+        yield "an association stands before its interfaces"
+
+
+def interface_numbers(descriptors):
+    return {d[2] for d in descriptors if d[1] == 4 and len(d) >= 9}
 
 
 def interface_remarks(d, own):
@@ -320,6 +342,8 @@ def interface_remarks(d, own):
             yield "a bulk-only interface has a bulk endpoint of each direction"
     if class_ == 2 and subclass in range(1, 15) and subclass != 12 and all(x[1:3] != b"\x24\0" for x in own):
         yield "a communications interface has a header functional descriptor"
+    if class_ == 3 and not any(x[1] == 5 and len(x) >= 7 and x[3] % 4 == 3 and x[2] >= 128 for x in own):
+        yield "a HID interface has an interrupt IN endpoint"
 
 
 def setting_remarks(d, speed, interface, later):
@@ -332,20 +356,47 @@ def setting_remarks(d, speed, interface, later):
         yield "packets of 0 bytes hold no data, and no other setting follows"
 
 
-def raw_remarks(d, codes, depth):
-    """Of a descriptor of a class by its own bytes, after an interface of these codes."""
+def hid_remarks(d, depth):
+    right = 6 + 3 * (d[5] if len(d) > 5 else 0)
+    if len(d) != right:
+        yield f"by bNumDescriptors it has {count(right, 'byte')}, and bLength is {len(d)}"
+    if len(d) >= 9 and d[6] != 0x22:
+        yield "a HID descriptor names its report descriptor first"
+    elif len(d) >= 9 and d[7:9] == b"\0\0":
+        yield "the report descriptor has 0 bytes"
+    if depth == 4:
+        yield "a HID descriptor stands before the endpoints"
+    if len(d) >= 4:
+        yield from release_remarks(d[2:4])
+
+
+def functional_remarks(d, depth, numbers, later):
+    if depth == 4:
+        yield "a functional descriptor stands before the endpoints"
+    kind = d[2] if len(d) > 2 else None
+    least = {0: 5, 1: 5, 2: 4, 6: 5}.get(kind, 0)
+    if len(d) < least:
+        yield f"this functional descriptor has at least {least} bytes, and bLength is {len(d)}"
+        return
+    if kind == 6 and later is not None:
+        yield from [f"it names interface {n}, which the set hasn't" for n in d[3:] if n not in numbers][:1]
+    if kind == 0:
+        yield from release_remarks(d[3:5])
+
+
+def release_remarks(b):
+    """Of the release of a class, whose digits before the point are one at most."""
+    if not 1 <= b[1] <= 0x0F:
+        yield "this is no release: its bytes may be swapped"
+
+
+def raw_remarks(d, codes, depth, numbers, later):
+    """Of a descriptor of a class after an interface of these codes, with the numbers of the interfaces of its set, and the
+    descriptors after it, or None where they aren't all there."""
     if codes and codes[0] == 3 and d[1] == 0x21:
-        right = 6 + 3 * (d[5] if len(d) > 5 else 0)
-        if len(d) != right:
-            yield f"by bNumDescriptors it has {count(right, 'byte')}, and bLength is {len(d)}"
-        if len(d) >= 9 and d[6:9] == b"\x22\0\0":
-            yield "the report descriptor has 0 bytes"
-        if depth == 4:
-            yield "a HID descriptor stands before the endpoints"
-    if codes and codes[0] == 2 and d[1] == 0x24 and len(d) >= 3:
-        least = {0: 5, 1: 5, 2: 4, 6: 5}.get(d[2], 0)
-        if len(d) < least:
-            yield f"this functional descriptor has at least {least} bytes, and bLength is {len(d)}"
+        yield from hid_remarks(d, depth)
+    if codes and codes[0] == 2 and d[1] == 0x24:
+        yield from functional_remarks(d, depth, numbers, later)
 
 
 def proves_high(kind, size):
@@ -485,9 +536,9 @@ def raw_fields(d, row, index):
 
 
 class Explanation:
-    def __init__(self, kind, data, speed=None, fault=None, brief=False, places=True, utf8=False):
+    def __init__(self, kind, data, speed=None, fault=None, brief=False, places=True, utf8=False, decoded=False):
         self.kind, self.data, self.asked, self.brief, self.places, self.utf8 = kind, data, speed, brief, places, utf8
-        self.fault, self.lines = fault, []
+        self.fault, self.decoded, self.lines = fault, decoded, []
         self.found = set()
         self.names, self.string_places = {}, None
         if not fault:
@@ -591,7 +642,7 @@ class Explanation:
             self.findings(0, [(10, "there is no configuration")], "main")
         self.findings(0, [(11, causes(self.packet_fault(d[7], usb >= 0x0300), self.subclass_fault(codes)))], "device")
         speed = SUPER if self.is_super() else AT.get(self.asked)
-        self.remarks(0, device_remarks(usb, d[7], d[17] or not self.fault, speed))
+        self.remarks(0, device_remarks(usb, d[4], d[7], d[17] or not self.fault, speed))
         fields = [("bcdUSB", f"{word(usb)} ({bcd(usb)})"), *class_fields("bDevice", codes)]
         fields.append(("bMaxPacketSize0", self.device_packet(d[7])))
         fields += [("idVendor", word(little(d[8:10]))), ("idProduct", word(little(d[10:12])))]
@@ -607,7 +658,7 @@ class Explanation:
             self.findings(0, [(10, "there is no configuration")], "other")
         wrong = causes(self.packet_fault(d[7], False), self.subclass_fault(codes), (d[9] != 0, "bReserved isn't 0"))
         self.findings(0, [(11, wrong)], "other")
-        self.remarks(0, device_remarks(usb, None, d[8] or not self.fault, None))
+        self.remarks(0, device_remarks(usb, d[4], None, d[8] or not self.fault, None))
         fields = [("bcdUSB", f"{word(usb)} ({bcd(usb)})"), *class_fields("bDevice", codes)]
         self.fields(0, [*fields, ("bMaxPacketSize0", d[7]), ("bNumConfigurations", d[8]), ("bReserved", byte(d[9]))])
 
@@ -655,7 +706,7 @@ class Explanation:
         self.sets[part] += 1
         speed = self.speed_of([d for _, d in descriptors])
         associations = [d for _, d in descriptors[1:] if d[1] == 11]
-        numbers = {d[2] for _, d in descriptors[1:] if d[1] == 4}
+        numbers = interface_numbers(d for _, d in descriptors[1:])
         self.of_configuration(header, at, main, place, speed, len(numbers))
         codes, owner, setting, endpoint, association = None, 1, -1, 0, 0
         interface = None
@@ -673,10 +724,10 @@ class Explanation:
                 self.of_endpoint(d, p, place + (setting, endpoint), speed, codes, setting_remarks(d, speed, interface, later))
                 endpoint += 1
             elif d[1] == 11:
-                self.of_association(d, p, place + (association,))
+                self.of_association(d, p, place + (association,), numbers, later)
                 association += 1
             else:
-                self.of_raw(d, p, owner + 1, codes, later)
+                self.of_raw(d, p, owner + 1, codes, numbers, later)
         return descriptors[-1][0] + len(descriptors[-1][1])
 
     def of_configuration(self, d, at, main, place, speed, interfaces):
@@ -705,14 +756,14 @@ class Explanation:
         ]
         self.fields(1, fields + tail(d[9:]))
 
-    def of_association(self, d, at, place):
+    def of_association(self, d, at, place, numbers, later):
         first, n = d[2], d[3]
         bound = "no interface" if n == 0 else f"interface {first}" if n == 1 else f"interfaces {first} to {first + n - 1}"
         self.heading(2, f"association {place[2]} of {bound}, {function_class_words('bFunction', d[4:7])}", at, len(d))
         wrong = "it binds an interface that the set hasn't" if n else "it binds no interface"
         self.findings(2, [(13, wrong)], *place)
         forbidden = [] if d[4] else ["class 0x00 is not allowed"]
-        self.remarks(2, [*forbidden, *association_remarks(self.qualifier or self.device)])
+        self.remarks(2, [*forbidden, *association_remarks(d, self.qualifier or self.device, numbers, later)])
         fields = [("bFirstInterface", first), ("bInterfaceCount", n), *class_fields("bFunction", d[4:7])]
         self.fields(2, [*fields, ("iFunction", self.index(d[7])), *tail(d[8:])])
 
@@ -757,12 +808,12 @@ class Explanation:
             fields += tail(d[7:])
         self.fields(3, fields)
 
-    def of_raw(self, d, at, depth, codes, later):
+    def of_raw(self, d, at, depth, codes, numbers, later):
         row = row_of(d, codes)
         self.heading(depth, row[0] if row else f"descriptor of type {byte(d[1])}", at, len(d))
         if later is not None:
             self.remarks(depth, header_remarks(d, codes, later))
-        self.remarks(depth, raw_remarks(d, codes, depth))
+        self.remarks(depth, raw_remarks(d, codes, depth, numbers, later))
         self.fields(depth, raw_fields(d, row, self.index))
 
     def of_string(self, d, at):
@@ -770,6 +821,8 @@ class Explanation:
         if self.languages is None and (self.device is not None or names_languages(d)):
             self.languages = units
             self.heading(0, " ".join(["languages", *map(word, units)]), at, len(d))
+            if not names_languages(d):
+                self.remarks(0, ["a language has bits 9 to 8 zero, and not all of bits 15 to 10"])
             return
         place = ""
         if self.string_places:
@@ -777,6 +830,8 @@ class Explanation:
             place = f" {index} in {word(language)}:"
         self.strings += 1
         self.heading(0, f"string{place} {quoted(units, self.utf8)}", at, len(d))
+        if units[-1:] == [0]:
+            self.remarks(0, ["a string isn't ended by a unit 0"])
 
     # The whole
 
@@ -799,8 +854,11 @@ class Explanation:
         if not b:
             yield "there are no bytes"
         elif len(b) > 1 and all(chr(x) in TEXT for x in b):
-            yield "this is text; explain reads the bytes of descriptors, or their hexadecimal digits"
-        elif line.startswith("file fault 5 ") and is_dump(b[:place]) and b[place : place + 2] != b"\x02\x03":
+            if not self.decoded:
+                yield "this is text; explain reads the bytes of descriptors, or their hexadecimal digits"
+        elif line.startswith("file fault 4 ") or (
+            line.startswith("file fault 5 ") and is_dump(b[:place]) and b[place : place + 2] != b"\x02\x03"
+        ):
             follow = len(b) - place
             yield f"the dump ends here, and {count(follow, 'byte')} follow{'s' if follow == 1 else ''}"
         elif len(b) >= 5 and b[:2] == bytes([5, 15]):
@@ -809,6 +867,15 @@ class Explanation:
             yield "this looks like a string descriptor alone"
         elif REPORT.match(b):
             yield "this looks like a report descriptor"
+        elif begins_inside(b) or is_standard_request(b):
+            yield "this begins like a fragment of an input, or a setup packet; --loose explains it"
+
+    def put_rest(self, at):
+        rest = self.data[at:]
+        if rest:
+            self.heading(0, "the rest", at, len(rest))
+            more = f" and {len(rest) - 32} more" if len(rest) > 32 else ""
+            self.fields(0, [("bytes", rest[:32].hex() + more)])
 
     def text(self):
         names = {"set": "set", "file": "file", "dump": "device and its sets without strings"}
@@ -832,14 +899,102 @@ class Explanation:
         if self.fault:
             self.lines.append(f"  ! {self.fault[1]}")
             self.lines += [f"  ? {words}" for words in self.likeness()]
-        rest = self.data[at:]
-        if rest:
-            self.heading(0, "the rest", at, len(rest))
-            more = f" and {len(rest) - 32} more" if len(rest) > 32 else ""
-            self.fields(0, [("bytes", rest[:32].hex() + more)])
+        self.put_rest(at)
         if not self.fault:
             self.lines.append(count(len(self.found), "finding") if self.found else "no findings")
         return "".join(line + "\n" for line in self.lines)
+
+
+class Fragment(Explanation):
+    """The explanation of descriptors one after another, of which no owner is asked for, or of a setup packet."""
+
+    def __init__(self, data, speed=None, brief=False, places=True, utf8=False):
+        super().__init__("fragment", data, speed, (0, ""), brief, places, utf8)
+        self.speed, self.limit = AT.get(speed, FULL_OR_HIGH), 0
+
+    def index(self, n):
+        return f"{n} (not in the input)" if n else "0 (none)"
+
+    def heading(self, depth, text, at, length):
+        super().heading(0, text, at, length)
+
+    def remarks(self, depth, texts):
+        super().remarks(0, texts)
+
+    def fields(self, depth, fields):
+        super().fields(0, fields)
+
+    def find_speeds(self, limit):
+        pass
+
+    def is_super(self):
+        return self.speed == SUPER
+
+    def of(self, d, at):
+        kind, n = d[1], len(d)
+        if kind == 1 and n == 18:
+            self.of_device(d, at)
+        elif kind == 6 and n == 10:
+            self.of_qualifier(d, at)
+        elif kind in (2, 7) and n >= 9:
+            self.of_configuration(d, at, kind == 2, ("main",), self.speed, 0)
+        elif kind == 3 and n % 2 == 0:
+            self.of_string(d, at)
+        elif kind == 4 and n >= 9:
+            self.of_interface(d, at, ("main",), [], 0, None)
+        elif kind == 5 and n >= 7:
+            self.of_endpoint(d, at, ("main",), self.speed, self.codes, [])
+        elif kind == 11 and n >= 8:
+            self.of_association(d, at, ("main", 0, self.associations), (), None)
+            self.associations += 1
+        else:
+            hid = kind == 0x21 and n == 6 + 3 * sum(d[5:6])
+            self.of_raw(d, at, 3, self.codes or ((3, 0, 0) if hid else None), (), None)
+
+    def of_setup(self, b):
+        ways, types = ("OUT", "IN"), ("standard", "class", "vendor", "reserved")
+        to = ("device", "interface", "endpoint", "other")[b[0] & 0x1F]
+        type_ = types[b[0] >> 5 & 3]
+        name = REQUESTS.get(b[1], "reserved request") if type_ == "standard" else f"{type_} request {byte(b[1])}"
+        self.heading(0, f"setup packet, {name}", 0, 8)
+        fields = [("bmRequestType", f"{byte(b[0])} ({ways[b[0] >> 7]}, {type_}, {to})"), ("bRequest", b[1])]
+        fields += [("wValue", word(little(b[2:4]))), ("wIndex", word(little(b[4:6]))), ("wLength", little(b[6:8]))]
+        self.fields(0, fields)
+
+    def text(self):
+        b = self.data
+        self.lines.append(f"fragment, {count(len(b), 'byte')}")
+        if len(b) == 8 and b[0] & 0x1F <= 3 and (b[0] & 0x60 or b[1] <= 12):
+            self.of_setup(b)
+        else:
+            self.codes, self.associations, end = None, 0, 0
+            for at, d in cut(b, 0, len(b)):
+                self.device = self.qualifier = self.languages = None
+                self.of(d, at)
+                end = at + len(d)
+                if d[1] == 4 and len(d) >= 9:
+                    self.codes = tuple(d[5:8])
+            self.put_rest(end)
+        return "".join(line + "\n" for line in self.lines)
+
+
+# Standard requests (USB 2.0, table 9-4).
+REQUESTS = {
+    **{0: "GET_STATUS", 1: "CLEAR_FEATURE", 3: "SET_FEATURE", 5: "SET_ADDRESS", 6: "GET_DESCRIPTOR", 7: "SET_DESCRIPTOR"},
+    **{8: "GET_CONFIGURATION", 9: "SET_CONFIGURATION", 10: "GET_INTERFACE", 11: "SET_INTERFACE", 12: "SYNCH_FRAME"},
+}
+
+# Interface, endpoint, qualifier, association, HID, of a class for an interface or an endpoint, hub.
+INNER_TYPES = bytes.fromhex("04 05 06 0b 21 24 25 29")
+
+
+def begins_inside(b):
+    return len(b) >= 3 and 3 <= b[0] <= len(b) and b[1] in INNER_TYPES
+
+
+def is_standard_request(b):
+    """A setup packet, by the direction, type and recipient of its first byte and the request."""
+    return len(b) == 8 and b[0] & 0x7F in (0, 1, 2) and b[1] <= 12
 
 
 def names_languages(d):

@@ -14,19 +14,47 @@ import sys
 
 import explaining
 
-ITEM = re.compile(rb"[\t\r ,]|(?:0x|\\x)(?=[0-9A-Fa-f]{2})|([0-9A-Fa-f]{2})")
-COLUMNS = re.compile(rb"0{4,}(?:(:| (?! )(?=[^\n]*\n0{4}))|  )")
-OFFSET = re.compile(rb"([0-9A-Fa-f]{4,}):? *")
+DIGIT = rb"[0-9A-Fa-f]"
+ITEM = re.compile(rb"[\t\r ,]|(?:0x|\\x)(?=[0-9A-Fa-f]{2}(?![0-9A-Fa-f]))|([0-9A-Fa-f]{2})")
+BEFORE = rb"[\t >\xef\xbb\xbf]*"
+ZEROS = re.compile(rb"0{4,}(?=:[\t ]|[\t ])")
+OFFSET = re.compile(rb"(?:0x)?(" + DIGIT + rb"{4,})(?: <[^\n>]*>?)?(:?)[\t ]*")
+ADDRESS = re.compile(rb"(?:0x)?(" + DIGIT + rb"{4,})(?: <[^\n>]*>?)?:[\t ]")
+NUMBERED = re.compile(DIGIT + rb"*(?:[\t\n\r ,]|\Z)")
+WORDS = re.compile(
+    rb"[\t ]" + BEFORE + rb"(?:" + DIGIT + rb"{4}){1,2}(?!" + DIGIT + rb")[\t ]"
+    rb"|" + BEFORE + rb"(?:0b)?[01]{8}[\t ]"
+)
+ASSEMBLER = re.compile(BEFORE + rb"[A-Fa-f]+[\t ]*0x")
+# What is before the bytes of a line: a name and a colon; a directive; a declaration or a call before a string.
+PAIR = DIGIT + rb"{2}"
+LABEL = re.compile(
+    rb"^(?:[^0-9:\n]*[G-Zg-z_][^0-9:\n]*:(?=[\t ]+" + PAIR + rb"[\t ]" + PAIR + rb"|" + PAIR + rb"," + PAIR + rb")"
+    rb"|[\t ]*\.?(?:[dD][bB]|[dD][cC]\.?[bB]|[fF][cC][bB]|[bB][yY][tT][eE])[\t ][A-Za-z_.\t ]*"
+    rb"(?=\$|[0-9]" + DIGIT + rb"*[xXhH])"
+    rb"|(?![\t ]*[0-9])(?:[^\n\\,{\"']*=[\t ]*\n?[\t ]*|(?=[^\n\\,{\"']*[G-Zg-z_])[^\n\\,{\"']*[^\n\\,{\"'\[\t ][\t ]*)(?=[\"']\\x)"
+    rb"|[\t ]*b(?=[\"']\\x)"
+    rb"|(?![\t ]*[0-9])[^\n\\,{\"']*\([\t ]*(?=[\"']" + PAIR + rb"))",
+    re.M,
+)
+# Of each form with columns how many digits a group has at most, and where the characters of a line begin.
+COLUMNS = {
+    "colons": (4, re.compile(rb"  ")),
+    "spaces": (2, re.compile(rb"\||   |  (?!" + ITEM.pattern + rb"|\Z)")),
+    "groups": (None, re.compile(rb"  ")),
+    "addresses": (2, re.compile(rb"  ")),
+}
 COMMENT = re.compile(rb"/\*.*?(?:\*/|\Z)|//[^\n]*|# [^\n]*|^[\t >]*```[^\n]*", re.M | re.S)
 GAP = rb"[\t\n\r ,;]"
-DIGIT = rb"[0-9A-Fa-f]"
+CLOSING = rb"\)[\t\n\r ,;)]*\Z"
 # Of each style what is between bytes, and how a byte is written.
 STYLES = {
-    "escaped": (rb"[\"']|\\(?=[\n\r])|" + GAP + rb"(?!\\x)", rb"\\x(" + DIGIT + rb"{2})(?=[\\\"'])"),
-    "prefixed": (GAP + rb'|"', rb"(?:0[xX]|\$)(" + DIGIT + rb"{1,2})[uU]?(?!\w)|([0-9])(?!\w)"),
-    "pairs": (GAP + rb"|[\"']", rb"(" + DIGIT + rb"{2})[hH]?"),
+    "escaped": (rb"[\"']|\\(?=[\n\r])|" + GAP + rb"(?!\\x)|" + CLOSING, rb"\\x(" + DIGIT + rb"{2})(?=[\\\"'])"),
+    "prefixed": (GAP + rb'|"', rb"(?:0[xX]|\$)(" + DIGIT + rb"{1,2})(?:[uU]8?)?(?!\w)|([0-9])(?!\w)"),
+    "suffixed": (GAP + rb"|0(?=" + DIGIT + rb"?.[hH](?!\w))(?!.[hH](?!\w))", rb"(" + DIGIT + rb"{2})[hH](?!\w)"),
+    "pairs": (GAP + rb"|[\"']|" + CLOSING, rb"(" + DIGIT + rb"{2})"),
     "separated": (GAP, rb"(" + DIGIT + rb"{2})(?:[:-](?=" + DIGIT + rb")|(?=[\n\r])|\Z)"),
-    "loose": (GAP, rb"(" + DIGIT + rb"{1,2})[uU]?(?!\w)"),
+    "loose": (GAP, rb"(" + DIGIT + rb"{1,2})(?!\w)"),
     "decimals": (GAP, rb"(0|[1-9][0-9]{0,2})(?!\w)"),
 }
 
@@ -40,33 +68,101 @@ def place(text, at):
     return text.count(b"\n", 0, at) + 1, at - text.rfind(b"\n", 0, at)
 
 
-def column(line, end_mark, offset):
-    """Where the bytes of a line begin and end, in a text with columns."""
-    start = offset.end() if offset else 0
-    mark = end_mark.search(line, start)
-    return start, mark.start() if mark else len(line)
+def columns_of(text):
+    """Where the first offset is, which only headings may be before; none where a text has no columns."""
+    at = 0
+    while at < len(text):
+        start = re.compile(BEFORE).match(text, at).end()
+        if ZEROS.match(text, start) or ADDRESS.match(text, start):
+            return start
+        is_empty = text[start : start + 1] in (b"", b"\n", b"\r")
+        if NUMBERED.match(text, start) and not is_empty and text[start : start + 8] != b"00 01 02":
+            return None
+        at = text.find(b"\n", start) + 1 or len(text)
+    return None
+
+
+def form_at(text, at):
+    """The form of a text whose columns begin there, and its first offset."""
+    zeros = ZEROS.match(text, at)
+    if not zeros:
+        return "addresses", int(ADDRESS.match(text, at)[1], 16)
+    line, _, rest = text[zeros.end() :].partition(b"\n")
+    if line.startswith(b":"):
+        return "colons", 0
+    if line.startswith(b"  "):
+        return "spaces", 0
+    characters = re.search(rb"  ([^\x00-\x20])", line)
+    if characters and characters[1] != b">":
+        return "groups", 0
+    return ("addresses" if re.match(BEFORE + rb"0{4}", rest) else "words"), 0
+
+
+def is_at(offset, place):
+    """Whether an offset is that of a place: hexadecimal, or octal where it is one of `od`."""
+    digits, colon = offset[1], offset[2]
+    is_octal = len(offset[1]) == 7 and not colon and offset[0][:2] != b"0x" and not re.search(rb"[^0-7]", digits)
+    return int(digits, 16) == place or (is_octal and int(digits, 8) == place)
+
+
+def in_columns(text, at):
+    """The bytes of a text whose columns begin there."""
+    form, base = form_at(text, at)
+    if form == "words":
+        raise Fault(*place(text, 0))
+    most, characters = COLUMNS[form]
+    found, at = bytearray(), OFFSET.match(text, at).end()
+    while True:
+        end = text.find(b"\n", at)
+        end = len(text) if end < 0 else end
+        mark = characters.search(text[at:end])
+        items(text, at, at + mark.start() if mark else end, most, found)
+        if end == len(text):
+            break
+        start = re.compile(BEFORE).match(text, end + 1).end()
+        offset = OFFSET.match(text, start)
+        if offset and is_at(offset, base + len(found)):
+            at = offset.end()
+        elif text[start : start + 1] in (b"", b"\n", b"\r"):
+            at = start
+        elif text[start : start + 3] == b"```":
+            at = text.find(b"\n", start)
+            at = len(text) if at < 0 else at
+        else:
+            raise Fault(*place(text, end))
+    if not found:
+        raise Fault(*place(text, len(text)))
+    return bytes(found)
+
+
+def items(text, at, end, most, found):
+    """Adds the bytes from there to an end, in groups of as many digits at most."""
+    while at < end:
+        item = ITEM.match(text, at, end)
+        is_long = most and item and item[1] and re.compile(DIGIT + rb"{%d}" % (most + 1)).match(text, at, end)
+        if not item or is_long:
+            raise Fault(*place(text, at))
+        found += bytes.fromhex((item[1] or b"").decode())
+        at = item.end()
 
 
 def as_it_is(text):
     """The bytes of a text that is hexadecimal as it is."""
-    columns = COLUMNS.match(text)
-    end_mark = re.compile(rb"  " if columns and columns[1] else rb"\||   ")
-    found, lines = bytearray(), text.split(b"\n")
-    for number, line in enumerate(lines, 1):
-        at, end = 0, len(line)
-        if columns:
-            offset = OFFSET.match(line)
-            if not (offset and int(offset[1], 16) == len(found)) and line not in (b"", b"\r"):
-                raise Fault(number - 1, len(lines[number - 2]) + 1)
-            at, end = column(line, end_mark, offset)
-        while at < end:
+    if ZEROS.match(text):
+        return in_columns(text, 0)
+    if columns_of(text) is not None or WORDS.match(text) or ASSEMBLER.match(text):
+        raise Fault(*place(text, 0))
+    found = bytearray()
+    for number, line in enumerate(text.split(b"\n"), 1):
+        at = 0
+        while at < len(line):
             item = ITEM.match(line, at)
             if not item:
                 raise Fault(number, at + 1)
             found += bytes.fromhex((item[1] or b"").decode())
             at = item.end()
     if not found:
-        raise Fault(len(lines), len(lines[-1]) + 1)
+        raise Fault(*place(text, len(text)))
     return bytes(found)
 
 
@@ -99,20 +195,36 @@ def style_of(is_array, inner):
     if re.search(rb"[xX$]", inner):
         return "prefixed"
     if not is_array:
-        return "separated" if re.search(rb"[:-]", inner) else "pairs"
+        if re.search(rb"[:-]", inner):
+            return "separated"
+        return "suffixed" if re.search(rb"[hH]", inner) else "pairs"
+    if re.search(rb"[hH]", inner):
+        return "suffixed"
     if re.search(rb"[^0-9\t\n\r ,;]", inner):
         return "loose"
     return "decimals" if re.search(rb"[0-9]{2}", inner) else "pairs"
 
 
+def uncommented(comment):
+    """What is in place of a comment. One that doesn't end is wrong at the end of the text."""
+    if comment[0].startswith(b"/*") and not (comment[0].endswith(b"*/") and len(comment[0]) > 3):
+        return spaces(comment[0][:-1]) + b"*"
+    return spaces(comment[0])
+
+
 def source(text):
     """The bytes of the source of a program, or of another text."""
-    code = COMMENT.sub(lambda it: spaces(it[0]), text)
+    columns = columns_of(text)
+    if columns is not None:
+        return in_columns(text, columns)
+    code = COMMENT.sub(uncommented, text)
     code = re.sub(rb"\xef\xbb\xbf", b"   ", code)
     code = re.sub(rb"^[\t >]+", lambda it: it[0].replace(b">", b" "), code, flags=re.M)
+    code = LABEL.sub(lambda it: spaces(it[0]), code)
+    code = re.sub(rb"\\(?=[\n\r])", b" ", code)
     is_array, inner = between(code)
-    if COLUMNS.match(inner):
-        return as_it_is(inner)
+    if WORDS.match(text):
+        raise Fault(*place(inner, 0))
     style = style_of(is_array, inner)
     gap, number = (re.compile(it) for it in STYLES[style])
     found, at = bytearray(), 0

@@ -81,7 +81,7 @@ class Log:
     """The lines of a log. It hears of each transaction from the bus, and what the transfer makes of it."""
 
     def __init__(self, device, host, fates):
-        self.lines = []
+        self.lines, used = [], []
         fates = iter(fates)
         while host.due != "ended":
             if host.due == "reset":
@@ -93,7 +93,10 @@ class Log:
             if (transfer.stage, transfer.strikes, transfer.naks) == ("setup", 0, 0):
                 words = request_words(transfer.setup)
                 self.lines.append(f"{host.step}: {words}, to {transfer.address}")
+            used.append(fate)
             self.step(device, host, transfer, fate)
+        lost = sum(used.count(fate) for fate in "dua")
+        self.lines.append(f"fates: losses {lost}, busy {used.count('n')}")
 
     def step(self, device, host, transfer, fate):
         token, before = transfer.token(), (len(transfer.got), transfer.strikes, transfer.naks)

@@ -36,8 +36,16 @@ fn command(alloc: Global, line: &Line<'_>) -> Result<String> {
         Line::Enumerate(options) => with_options(alloc, "enumerate", &texts(options)),
         Line::ShowAny => Ok(String::from_str(alloc, "show any")?),
         Line::CheckAny => Ok(String::from_str(alloc, "check any")?),
+        Line::ShowHex(false) => Ok(String::from_str(alloc, "show hex")?),
+        Line::ShowHex(true) => Ok(String::from_str(alloc, "show any hex")?),
+        Line::CheckHex(false) => Ok(String::from_str(alloc, "check hex")?),
+        Line::CheckHex(true) => Ok(String::from_str(alloc, "check any hex")?),
         Line::CheckRemarks(options) => checking(alloc, options),
         Line::BuildCommented => Ok(String::from_str(alloc, "build comments")?),
+        Line::BuildHex(false) => Ok(String::from_str(alloc, "build hex")?),
+        Line::BuildHex(true) => Ok(String::from_str(alloc, "build comments hex")?),
+        Line::BuildForced(false) => Ok(String::from_str(alloc, "build force")?),
+        Line::BuildForced(true) => Ok(String::from_str(alloc, "build force comments")?),
         Line::Explain(options) => explanation(alloc, options),
         Line::EnumerateWith(options, flags) => {
             let mut told = with_options(alloc, "enumerate", &texts(options))?;
@@ -51,6 +59,7 @@ fn command(alloc: Global, line: &Line<'_>) -> Result<String> {
 fn checking(alloc: Global, options: &Checking<'_>) -> Result<String> {
     let given = [
         ("any", options.any.then_some("")),
+        ("hex", options.hex.then_some("")),
         ("remarks", options.remarks.then_some("")),
         ("speed", options.speed),
     ];
@@ -64,6 +73,7 @@ fn explanation(alloc: Global, options: &Explaining<'_>) -> Result<String> {
         ("no-places", options.no_places.then_some("")),
         ("utf8", options.utf8.then_some("")),
         ("hex", options.hex.then_some("")),
+        ("loose", options.loose.then_some("")),
         ("speed", options.speed),
     ];
     with_options(alloc, "explain", &given)

@@ -93,12 +93,13 @@ const LIMIT_FAULTS: [LimitFault; 2] = [LimitFault::Address, LimitFault::Attempts
 const FATES_FAULTS: [FatesFault; 2] = [FatesFault::Letter, FatesFault::Memory];
 
 /// Why the options of `enumerate` are refused.
-const SETTINGS_FAULTS: [SettingsFault; 5] = [
+const SETTINGS_FAULTS: [SettingsFault; 6] = [
     SettingsFault::Number,
     SettingsFault::Speed,
     SettingsFault::Fates,
     SettingsFault::Memory,
     SettingsFault::SpeedAlone,
+    SettingsFault::ToTerminal,
 ];
 
 /// All that can go wrong in a transfer.

@@ -119,7 +119,7 @@ def transaction_lines(device, host, number, fate):
 
 
 def steps(device, host, fates):
-    """What each step of an enumeration writes."""
+    """What each step of an enumeration writes, and its end."""
     number, begun = 0, None
     while host.due != "ended":
         if host.due == "reset":
@@ -133,3 +133,5 @@ def steps(device, host, fates):
         fate = fates[number] if number < len(fates) else "."
         number += 1
         yield line + transaction_lines(device, host, number, fate)
+    used = fates[:number]
+    yield f"fates: losses {sum(fate in 'dua' for fate in used)}, busy {sum(fate == 'n' for fate in used)}\n"

@@ -264,19 +264,19 @@ def explain(b):
         except hexadecimal.Fault as stopped:
             status, text, fault = explain_bytes(b)
             return status, hexadecimal.stop(b, stopped).encode() + text, fault
-        status, text, fault = explain_bytes(data)
+        status, text, fault = explain_bytes(data, decoded=True)
         return status, f"hexadecimal text, {explaining.count(len(data), 'byte')}: ".encode() + text, fault
     return explain_bytes(b)
 
 
-def explain_bytes(b):
+def explain_bytes(b, decoded=False):
     fault, kind = form(b)
     if not fault:
         return 0, explaining.Explanation(kind, b).text().encode(), ""
     line = fault.strip().removeprefix("usbdesc: ")
     place = int(line.rsplit(" ", 1)[1])
     told = place, f"{line}: {message(b, line)}"
-    return 3, explaining.Explanation(kind, b, fault=told).text().encode(), fault
+    return 3, explaining.Explanation(kind, b, fault=told, decoded=decoded).text().encode(), fault
 
 
 def build(b, commented=False):

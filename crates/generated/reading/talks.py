@@ -71,13 +71,14 @@ class Device:
             self.stage = "status_out"
 
 
-def transfer(device, address, setup, naks, fates):
-    """The transactions of one transfer, and what came of it."""
+def transfer(device, address, setup, naks, fates, data=b""):
+    """The transactions of one transfer, with these data to the device, and what came of it."""
     length = setup[6] | setup[7] << 8
     stage, one, got, strikes, busy, count = "setup", True, b"", 0, 0, 0
     while True:
         fate = next(fates, ".")
-        token = {"setup": ("setup", setup), "data_out": ("out",), "status_out": ("out",)}.get(stage, ("in",))
+        out = data[:device.packet]
+        token = {"setup": ("setup", setup), "data_out": ("out", one, out), "status_out": ("out", True, b"")}.get(stage, ("in",))
         answer = None
         if fate != "d":
             answer = device.serve(address, token, fate != "n")
@@ -102,18 +103,23 @@ def transfer(device, address, setup, naks, fates):
             strikes = busy = 0
             if stage == "setup":
                 stage = "status_in" if not length else "data" if setup[0] & 0x80 else "data_out"
+            elif stage == "data_out":
+                data, one = data[len(out):], not one
+                if not data:
+                    stage = "status_in"
             else:
                 got, one = got + answer[1], not one
                 if len(answer[1]) < device.packet or len(got) == length:
                     stage = "status_out"
 
 
-def talk(packet, requests, naks, fates):
-    """How the talk ended, its transactions, what each transfer that completed brought, and the device."""
-    device, address, fates, transactions, results = Device(packet), 0, iter(fates), 0, []
+def talk(packet, requests, naks, fates, kind=Device):
+    """How the talk ended, its transactions, what each transfer that completed brought, and the device. Those of a write have
+    the data behind it."""
+    device, address, fates, transactions, results = kind(packet), 0, iter(fates), 0, []
     for text in requests:
-        setup = bytes.fromhex(text)
-        count, result = transfer(device, address, setup, naks, fates)
+        setup, data = bytes.fromhex(text)[:8], bytes.fromhex(text)[8:]
+        count, result = transfer(device, address, setup, naks, fates, data)
         transactions += count
         if result in ("no answer", "busy"):
             return result, transactions, results, device
@@ -141,6 +147,51 @@ class AnsweredDevice(Device):
             self.data, self.sent, self.one, self.limit, self.stage = OWNERS[: setup[6]], 0, True, setup[6], "sending"
         elif self.stage == "halted":
             self.code, self.stage = setup[1], "status_in"
+
+
+# SET_ADDRESS, SET_REPORT of nine bytes, and GET_REPORT, by which the device's owner gives them again.
+WRITES = ["0005050000000000", "2109000200000900" + b"nine here".hex(), "a101000200000900"]
+
+
+class WritingDevice(Device):
+    """The mouse with an owner who takes the data of a write, once all have come, and gives them again."""
+
+    def __init__(self, packet):
+        super().__init__(packet)
+        self.kept, self.times, self.is_write = b"", 0, False
+
+    def begin(self, setup):
+        super().begin(setup)
+        self.is_write = self.stage == "halted" and setup[0] < 0x80 and setup[6] > 0
+        if self.is_write:
+            self.got, self.one, self.limit, self.stage = b"", True, setup[6], "receiving"
+        elif self.stage == "halted" and setup[6]:
+            self.data, self.sent, self.one, self.limit, self.stage = self.kept[: setup[6]], 0, True, setup[6], "sending"
+
+    def serve(self, address, token, ready):
+        takes = self.is_write and self.stage in ("receiving", "status_in")
+        if address != self.address or token[0] != "out" or not ready or not takes:
+            return super().serve(address, token, ready)
+        self.waits = False
+        _, one, data = token
+        if self.stage == "status_in" or one != self.one:
+            return "ack"
+        if len(data) != min(self.packet, self.limit - len(self.got)):
+            self.stage = "halted"
+            return "stall"
+        self.got, self.one = self.got + data, not self.one
+        if len(self.got) == self.limit:
+            self.kept, self.times, self.code, self.stage = self.got, self.times + 1, None, "status_in"
+        return "ack"
+
+
+def written(b, fates, naks):
+    """What comes of three requests with a write among them: how often the owner was given its data, these, and what was read."""
+    end, transactions, results, device = talk(b[7], WRITES, naks, fates, WritingDevice)
+    kind = f"write, trouble {TROUBLES[end]}"
+    read = results[2].hex() if len(results) == 3 and isinstance(results[2], bytes) else "none"
+    told = f"transactions {transactions} replies {len(results)} address {device.address} writes {device.times}"
+    return f"{kind} {told} bytes {device.kept.hex()} read {read}\n", kind
 
 
 def answered(b, fates, naks):

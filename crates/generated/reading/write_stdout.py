@@ -54,7 +54,7 @@ EXPLAINED = ["mouse", "over", "goes-on", "cut-short"]
 
 
 # What is done with each device: a talk or an enumeration names its lists, the limit of NAKs and the attempts.
-TALKS = ["talk-six-0-1", "talk-long-0-1", "talk-six-2-1", "talk-long-2-1", "answered-six-1-1"]
+TALKS = [f"{word}-{name}-{naks}-1" for word in ("talk", "written") for naks in (0, 2) for name in ("six", "long")] + ["answered-six-1-1"]
 SHORT = ["enumerate-losses-16-3", "enumerate-busy-16-3", "enumerate-five-0-2", "enumerate-five-2-1", "enumerate-long-0-8", "enumerate-long-2-3"]
 DEVICES = {
     "board": ["asked"],
@@ -128,8 +128,8 @@ def runs(word, rest, b):
     for fates in lists.named(name, 4 if word in ("enumerate", "log") else 3):
         if word == "answered":
             yield from ((line.encode(), [kind]) for line, kind in talks.answered(b, fates, int(naks)))
-        elif word == "talk":
-            line, kind = talks.case(b, fates, int(naks))
+        elif word in ("talk", "written"):
+            line, kind = {"talk": talks.case, "written": talks.written}[word](b, fates, int(naks))
             yield line.encode(), [kind]
         else:
             status, texts, errors = refusing.enumeration(b, fates, int(naks), int(attempts), word == "log")

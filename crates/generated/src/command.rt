@@ -19,6 +19,7 @@ const WHOLE: Manner = Manner {
         utf8: false,
     },
     speed: None,
+    decoded: false,
 };
 
 /// With a log.

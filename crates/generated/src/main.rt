@@ -25,6 +25,7 @@ mod plan;
 mod runs;
 mod stream;
 mod tally;
+mod writes;
 
 use anyhow::{Context, Result, bail};
 use command::Command;

@@ -18,10 +18,10 @@ const MOST: usize = 64;
 
 /// What came of a transfer.
 #[derive(Drop)]
-struct Came {
-    transactions: u128,
-    bytes: Vec<u8>,
-    failure: Option<Why>,
+pub(crate) struct Came {
+    pub(crate) transactions: u128,
+    pub(crate) bytes: Vec<u8>,
+    pub(crate) failure: Option<Why>,
 }
 
 /// Makes each of the requests of a new device under these fates, and adds a line for each.
@@ -93,7 +93,7 @@ fn make(
 }
 
 /// A transaction under its fate. Where a packet is lost, the transfer hears nothing.
-fn exchange(
+pub(crate) fn exchange(
     device: &mut Device<'_>,
     transfer: &mut Transfer,
     transaction: &Transaction<'_>,

@@ -6,6 +6,7 @@ use crate::lists::Lists;
 use crate::numbers::Numbers;
 use crate::owners::make_all;
 use crate::tally::Tally;
+use crate::writes;
 use anyhow::{Context, Result, bail};
 use usb_bus::{Fate, converse};
 use usb_device::Description;
@@ -39,8 +40,8 @@ impl Runs {
         })
     }
 
-    /// Runs with the device of the example, as this word says: talks of three requests, transfers that its owner answers,
-    /// or enumerations by a command.
+    /// Runs with the device of the example, as this word says: talks of three requests, also with data to the device, transfers
+    /// that its owner answers, or enumerations by a command.
     pub(crate) fn all(&self, example: &Example, word: &str, tally: &mut Tally) -> Result<()> {
         let description = example.description()?;
         let limits = self.limits;
@@ -61,6 +62,7 @@ impl Runs {
                 }
                 ("talk", _) => self.talk(&description, &fates, tally)?,
                 ("answered", _) => make_all(&description, limits.naks(), &fates, tally)?,
+                ("written", _) => writes::make_talk(&description, limits.naks(), &fates, tally)?,
                 _ => bail!("{word} is no run"),
             }
         }

@@ -24,6 +24,7 @@ mod longest;
 mod mixed;
 mod onto;
 mod plenty;
+mod requests;
 mod rules;
 mod samples;
 mod sets;
@@ -38,6 +39,7 @@ use asked::{LONGEST, begin, read_asked};
 use bus::{LOSSES, talk};
 use command::run_with;
 use enumeration::{EVERYTHING_ONCE, ONCE, TWICE, enumerate_under};
+use requests::make_each;
 use samples::{EVERYTHING, MOUSE};
 use std::io;
 use std::process::ExitCode;
@@ -142,6 +144,7 @@ fn tell_everything<R: Print + AllocGlobal>(rt: &R, all: bool) -> io::Result<()> 
     };
     let calls = [
         ("Description::descriptor", device::look_up(everything)),
+        ("Device and Transfer by each request", make_each(everything)),
         ("Host::take", enumeration::drive(alloc, everything)),
         (
             "enumerate",

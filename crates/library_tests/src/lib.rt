@@ -30,4 +30,6 @@ mod programs;
 #[cfg(test)]
 mod sequence;
 #[cfg(test)]
+mod talks;
+#[cfg(test)]
 mod transfers;

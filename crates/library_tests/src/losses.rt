@@ -44,7 +44,7 @@ fn fates_of(number: u16) -> [Fate; 6] {
     fates
 }
 
-fn hub(alloc: Global) -> Result<Description> {
+pub(crate) fn hub(alloc: Global) -> Result<Description> {
     let file = read_file(alloc, &HUB)?;
     Ok(Description::new(alloc, file, Speed::Full)?)
 }

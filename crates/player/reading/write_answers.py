@@ -30,15 +30,10 @@ def pattern(count):
 
 
 def read_answers(name):
-    """The lines of a file of answers that is right: the request's bytes or None, and the bytes or `done`."""
-    lines = []
-    for line in open(f"../data/answers/{name}", encoding="ascii"):
-        words = line.split("#")[0].split()
-        if words:
-            digits = [words[0][place : place + 2] for place in range(0, 12, 2)]
-            wanted = [None if pair == "**" else int(pair, 16) for pair in digits]
-            lines.append((wanted, "done" if words[1] == "done" else bytes.fromhex(words[1].strip("-"))))
-    return lines
+    """The lines of a file of answers that is right: the request's digits, and the words of its answer."""
+    with open(f"../data/answers/{name}", encoding="ascii") as file:
+        lines = [line.split("#")[0].split() for line in file]
+    return [(words[0], words[1:]) for words in lines if words]
 
 
 class Script(table.Script):
@@ -47,7 +42,7 @@ class Script(table.Script):
     answers = ()
 
     def __init__(self, name, title, packet=8):
-        self.packet = packet
+        self.packet, self.kept = packet, {}
         self.name, self.lines = name, [f"# {title}", "# Written by reading/write_answers.py.", ""]
         device = table.FILE[:7] + bytes([packet]) + table.FILE[8:]
         self.lines += [f"file {device.hex()} -> read", "speed full -> accepted"]
@@ -68,9 +63,18 @@ class Script(table.Script):
             self.stage = ("sending", self.packets(table.answer(self.state, setup), length_of(setup)), 0)
 
     def ask_answers(self, setup):
-        for wanted, answer in self.answers:
-            if all(want in (None, byte) for want, byte in zip(wanted, setup)):
-                return self.respond(answer)
+        """An owner by a file, asked after each SETUP and after the packet that was the last one of a write: the first line that
+        fits is its answer."""
+        for digits, words in self.answers:
+            if all(want in ("*", digit) for want, digit in zip(digits, setup.hex())):
+                if words[0] in ("done", "taken"):
+                    if (words[0] == "done") == (length_of(setup) == 0):
+                        if self.stage[0] == "written":
+                            self.kept[digits] = self.stage[2]
+                        self.respond("done")
+                else:
+                    self.respond(self.kept.get(words[1], b"") if words[0] == "kept" else bytes.fromhex(words[0].strip("-")))
+                return
 
     def stall(self):
         super().stall()
@@ -82,21 +86,55 @@ class Script(table.Script):
 
     def respond(self, answer):
         """The number of the first reason why an answer isn't taken, or None: the stage is then what it makes of it."""
+        if self.stage[0] == "written" and answer == "done":
+            self.stage = ("status in", self.stage[1], False)
+            return None
         setup = self.waiting()
         if setup is None:
             return 1
         if not is_open(setup):
             return 2
-        length = length_of(setup)
-        if (length == 0) != (answer == "done") or answer != "done" and setup[0] < 0x80:
+        length, gives = length_of(setup), answer != "done"
+        if gives != (length > 0 and setup[0] >= 0x80):
             return 3
-        if answer == "done":
-            self.stage, self.waits = ("status in", setup, False), False
-            return None
-        if len(answer[:length]) > ROOM:
+        if length > ROOM if setup[0] < 0x80 else gives and len(answer[:length]) > ROOM:
             return 4
-        self.stage, self.waits = ("sending", self.packets(answer[:length], length), 0), False
+        self.waits = False
+        if gives:
+            self.stage = ("sending", self.packets(answer[:length], length), 0)
+        else:
+            self.stage = ("receiving", setup, b"") if length else ("status in", setup, False)
         return None
+
+    def toggle(self):
+        """The toggle of the packet that is awaited: DATA1 first, and then the other one after each that was kept (8.5.3)."""
+        return 1 - -(-len(self.stage[2]) // self.packet) % 2
+
+    def out(self, toggle, data="-", busy=False):
+        """OUT, by the table of the stages of a write; in other stages as before."""
+        if self.stage[0] not in ("receiving", "written") and not self.is_accepted_write():
+            return super().out(toggle, data, busy)
+
+        def outcome():
+            self.waits = False
+            if self.stage[0] == "status in" or toggle != self.toggle():
+                return "ack"
+            if self.stage[0] == "written":
+                return self.stall()
+            _, setup, got = self.stage
+            left, count = length_of(setup) - len(got), len(bytes.fromhex(data.strip("-")))
+            if not (count == self.packet < left or count == left <= self.packet):
+                return self.stall()
+            got += bytes.fromhex(data)
+            self.stage = ("written" if count == left else "receiving", setup, got)
+            if count == left:
+                self.ask_answers(setup)
+            return "ack"
+
+        self.say(f"out data{toggle} {data}" + (" busy" if busy else ""), self.here(busy, outcome))
+
+    def is_accepted_write(self):
+        return self.stage[0] == "status in" and length_of(self.stage[1]) > 0 and self.stage[1][0] < 0x80
 
     def refused(self):
         self.say("refused", self.waiting().hex() if self.waiting() else "none")
@@ -275,7 +313,7 @@ def write_lengths(packet):
 def write_files():
     script = Script("answers-files", "Files of answers, which the owner of a device answers from.")
     script.lines.insert(3, "answers board.txt -> no step")
-    for name, line in [("short-request", 4), ("half-a-byte", 1), ("taken", 2), ("half-a-value", 2), ("no-answer", 2), ("no-text", 2)]:
+    for name, line in [("short-request", 4), ("half-a-byte", 1), ("no-word", 2), ("half-a-value", 2), ("no-answer", 2), ("no-text", 2)]:
         script.say(f"answers {name}.txt", f"bad answers at line {line}")
     for name in ("none.txt", "../answers/board.txt", ".."):
         script.say(f"answers {name}", "no such answers")

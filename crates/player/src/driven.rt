@@ -65,11 +65,31 @@ impl<'d> Driven<'d> {
             "refused" => told(alloc, self.device.refused())?,
             "carried" => told(alloc, self.device.carried_out())?,
             "accept" => taken(alloc, self.device.accept())?,
+            "written" => self.written(alloc)?,
+            "refuse" => {
+                self.device.refuse();
+                Outcome::Word("done")
+            }
             _ => return self.send(alloc, &[verb], true),
         }))
     }
 
-    /// A transaction with the device, which is ready or not. After a SETUP that it took, the answers are asked.
+    /// The write whose data have all come, as in `2109000200000100 02`, or `none`.
+    fn written(&self, alloc: Global) -> Result<Outcome> {
+        Ok(match self.device.written() {
+            Some((request, bytes)) => {
+                let (request, bytes) = (
+                    hex::encode(alloc, request.to_bytes())?,
+                    hex::encode(alloc, bytes)?,
+                );
+                Outcome::Text(format!(in alloc; "{request} {bytes}")?)
+            }
+            None => Outcome::Word("none"),
+        })
+    }
+
+    /// A transaction with the device, which is ready or not. After a packet that it took, the answers are asked: they
+    /// answer where a request is refused, or all data of a write have come.
     fn send(&mut self, alloc: Global, words: &[&str], ready: bool) -> Result<Option<Outcome>> {
         let Some(sent) = Sent::read(alloc, words) else {
             return Ok(None);
@@ -84,12 +104,11 @@ impl<'d> Driven<'d> {
             stage: sent.stage(),
         };
         let answer = self.device.serve(&transaction, ready);
-        let was_taken = matches!((&sent, &answer), (Sent::Setup(_), Answer::Ack));
+        let was_taken = matches!(&answer, Answer::Ack);
         let text = answer_text(alloc, &answer)?;
         if was_taken {
-            if let Some(answers) = &self.answers {
-                // An answer that isn't taken leaves the request refused.
-                let _ = answers.answer(&mut self.device);
+            if let Some(answers) = &mut self.answers {
+                answers.answer(alloc, &mut self.device)?;
             }
         }
         Ok(Some(Outcome::Text(text)))
@@ -133,5 +152,7 @@ fn stage_word(stage: DeviceStage) -> &'static str {
         DeviceStage::StatusOut => "status-out",
         DeviceStage::Over => "over",
         DeviceStage::StatusIn => "status-in",
+        DeviceStage::Receiving => "receiving",
+        DeviceStage::Written => "written",
     }
 }

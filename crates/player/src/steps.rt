@@ -1,7 +1,7 @@
 //! The steps that there are, by their forms.
 
 /// Each step's first word, and how it is written.
-pub const STEPS: [(&str, &str); 31] = [
+pub const STEPS: [(&str, &str); 33] = [
     ("file", "file NAME.file, or file HEX"),
     ("speed", "speed low, full or high, after a file"),
     ("setup", "setup HEX of eight bytes; setup HEX busy"),
@@ -15,6 +15,8 @@ pub const STEPS: [(&str, &str); 31] = [
     ("refused", "refused"),
     ("answer", "answer HEX"),
     ("accept", "accept"),
+    ("written", "written"),
+    ("refuse", "refuse"),
     ("carried", "carried"),
     ("answers", "answers NAME"),
     ("trace", "trace on, trace off"),
