@@ -1,4 +1,4 @@
-"""Counting: instructions of a round by callgrind, of the proved program and of plain Rust."""
+"""Counting: instructions of a round by callgrind, of the program's libraries and of plain Rust."""
 
 import functools
 import os
@@ -7,31 +7,11 @@ import subprocess
 import sys
 import tempfile
 
-from playing import built
+from measuring.programs import FOLDER
 
-FOLDER = "crates/benchmarks"
-PROVED, PROGRAM = f"{FOLDER}/out/benchmarks", "crates/usbdesc/out/usbdesc"
-# As the proved program is built: one module for all, and for the same processor.
-FLAGS = ["--edition", "2024", "-O", "-C", "codegen-units=1", "-C", "target-cpu=x86-64-v2"]
-
-
-def build(room):
-    """Builds plain Rust, and answers the program."""
-    program = os.path.join(room, "plain")
-    subprocess.run(["rustc", *FLAGS, "--crate-name", "plain", "-o", program, f"{FOLDER}/plain/main.rs"], check=True)
-    return program
-
-
-def build_walk(room, library):
-    """Builds the walk in C over the library of a folder, or over what `rt ci` built, and answers the program."""
-    archive = f"{library}/libnozzlegorse.a" if library else built.build("usb_c", os.path.join(room, "usb_c.a"))
-    program = os.path.join(room, "walk")
-    headers = [word for folder in ("include", "callers/c", "callers/c/plain") for word in ("-I", folder)]
-    built.run(built.CLANG, "--no-default-config", "-O2", "-fPIC", *headers, "-c", f"{FOLDER}/walk.c", "-o", f"{program}.o")
-    linker = [f"{built.KIT}/bin/rattle-link", "--target", built.TARGET, "--toolchain", f"{built.KIT}/toolchain"]
-    built.run(*linker, "-o", program, f"{program}.o", archive, f"{built.KIT}/c/liblibc_c.a")
-    return program
-
+# Else the C library fills and copies more than some thousand bytes by one instruction, which counts as one a byte.
+REPEATED = 1 << 40
+SETTINGS = ":".join(f"glibc.cpu.x86_rep_{kind}_threshold={REPEATED}" for kind in ("stosb", "movsb"))
 
 class Missing(Exception):
     """A program lacks a work."""
@@ -40,8 +20,8 @@ class Missing(Exception):
 class Counter:
     """Counts by these programs; inputs are made once, and so is each count."""
 
-    def __init__(self, plain, walk, room):
-        self.plain, self.walk, self.room = plain, walk, room
+    def __init__(self, ours, plain, walk, room):
+        self.ours, self.plain, self.walk, self.room = ours, plain, walk, room
         self.round_of = functools.cache(self.round_of)
 
     @functools.cache
@@ -63,7 +43,8 @@ class Counter:
         line = ["valgrind", "--tool=callgrind", "--callgrind-out-file=/dev/null"]
         line += [f"--toggle-collect={inside}"] if inside else []
         with open(path, "rb") as source:
-            ran = subprocess.run([*line, program, str(rounds), work], stdin=source, capture_output=True, text=True, check=False)
+            how = {"env": {**os.environ, "GLIBC_TUNABLES": SETTINGS}, "capture_output": True, "text": True, "check": False}
+            ran = subprocess.run([*line, program, str(rounds), work], stdin=source, **how)
         if f"no work is named {work}" in ran.stdout + ran.stderr:
             raise Missing(f"{program} has no work {work}")
         said = re.search(r": (\d+) bytes, ", ran.stdout)
@@ -73,9 +54,9 @@ class Counter:
         return int(said[1]), int(counted[1])
 
     def round_of(self, number, count):
-        """What the work says, and the instructions of a round: of the proved program (0) or plain Rust (1)."""
-        proved = self.walk if count.work == "walk" else PROVED
-        program, path = [proved, self.plain][number], self.made(count.input)
+        """What the work says, and the instructions of a round: of ours (0) or plain Rust (1)."""
+        ours = self.walk if count.work == "walk" else self.ours
+        program, path = [ours, self.plain][number], self.made(count.input)
         inside = count.inside and count.inside[number]
         _, few = self.count(program, count.few, count.work, path, inside)
         said, many = self.count(program, count.many, count.work, path, inside)

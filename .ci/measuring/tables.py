@@ -46,8 +46,8 @@ def a_byte(work, source, few, many, bound=1.3):
     return Cell([(1, Count(work, source, few, many))], None, bound)
 
 
-def made(kind, *more):
-    return "!" + "|".join([f"descriptors.py {kind} 20", *more])
+def made(kind, *more, sets=20):
+    return "!" + "|".join([f"descriptors.py {kind} {sets}", *more])
 
 
 def shape(kind, count):
@@ -75,32 +75,43 @@ FILES = [
     ("associations", "associations"),
     ("strings of 126 units", "strings"),
     ("strings of one unit", "short-strings"),
+    ("empty strings", "empty-strings"),
 ]
+# Work on shapes that no device has.
+SHAPES = {("describe", "short-raws"), ("describe", "associations"), ("list-given", "empty-strings"), ("write-given", "empty-strings")}
 
 
-def of_file(path, few, many, listing, bound):
-    works = [a_byte(work, path, few, many) for work in ("write-given", "describe", "list-given")]
-    return [*works, a_byte("assemble", listing, few, many, bound)]
+def of_file(path, few, many, listing, bound, kind=None):
+    works = ("write-given", "describe", "list-given")
+    cells = [a_byte(work, path, few, many, 1.4 if (work, kind) in SHAPES else 1.3) for work in works]
+    return [*cells, a_byte("assemble", listing, few, many, bound)]
 
 
 def files():
     yield "with everything", of_file(f"{EVERYTHING}.file", 100, 600, f"{EVERYTHING}.txt", 1.15)
     yield "webcam", of_file(f"{CAMERA}.file", 100, 600, f"{CAMERA}.txt", 1.15)
     for title, kind in FILES:
-        yield title, of_file(made(kind), 2, 4, made(kind, "show"), 1.5)
+        yield title, of_file(made(kind), 2, 4, made(kind, "show"), 1.5, kind)
 
 
 def checks():
-    for title, path in (("with everything", EVERYTHING), ("webcam", CAMERA)):
-        yield title, [a_byte("check-file", f"{path}.file", 100, 1100, 1.2)]
-    yield "every rule broken", [a_byte("check-file", f"{EXAMPLES}/files/every-rule-broken.file", 100, 1100)]
-    yield "alternate settings", [a_byte("check-file", made("settings"), 2, 4)]
-    yield "thirty endpoints a setting", [a_byte("check-file", made("endpoints"), 2, 4)]
-    yield "associations of one interface", [a_byte("check-file", made("associations"), 2, 4)]
-    yield "associations of all 255 interfaces", [a_byte("check-file", made("bindings"), 2, 4)]
-    yield "a set of 7,280 settings", [a_byte("check-sets", shape("interfaces", 7280), 20, 40)]
-    yield "9,330 findings", [a_byte("check-sets", shape("endpoints", 9359), 20, 40)]
-    yield "17,354 findings", [a_byte("check-sets", shape("bytes", 9359), 20, 40)]
+    def of_files(path, few, many, bound=1.3):
+        return [a_byte("check-file", path, few, many, bound)]
+
+    def of_sets(path, bound=1.3):
+        return [a_byte("check-sets", path, 20, 40, bound)]
+
+    yield "with everything", of_files(f"{EVERYTHING}.file", 100, 1100, 1.2)
+    yield "webcam", of_files(f"{CAMERA}.file", 100, 1100, 1.2)
+    yield "every rule broken", of_files(f"{EXAMPLES}/files/every-rule-broken.file", 100, 1100)
+    yield "raw descriptors of 255 bytes", of_files(made("raws"), 20, 40, 1.25)
+    yield "alternate settings", of_files(made("settings"), 2, 4, 1.2)
+    yield "thirty endpoints a setting", of_files(made("endpoints"), 2, 4)
+    yield "associations of one interface", of_files(made("associations"), 2, 4)
+    yield "associations of all 255 interfaces", of_files(made("bindings"), 2, 4)
+    yield "a set of 7,280 settings", of_sets(shape("interfaces", 7280), 1.2)
+    yield "9,330 findings", of_sets(shape("endpoints", 9359), 1.2)
+    yield "17,354 findings", of_sets(shape("bytes", 9359))
 
 
 def a_round(terms, parts=1, bound=1.3):
@@ -136,6 +147,7 @@ def transactions():
     yield "IN of the longest set", a_round([(1, host("enumeration-packets", LONGEST, 2, 12))], 8192)
     yield "IN of the webcam's set", a_round([(1, host("enumeration-packets", WEBCAM, 10, 110))], 74)
     yield "status stage of a header", a_round([(1, host("enumeration-header"))])
+    yield "a write of 64 bytes in packets of 8, both ends", a_round([(1, device("written"))], bound=1.2)
 
 
 def enumerations():
@@ -165,6 +177,9 @@ def explanations():
     yield "a set of 34 bytes", explained(HID)
     yield "the longest set, of raw descriptors", explained(LONGEST, 5, 10)
     yield "a set of 7,280 settings", explained(shape("interfaces", 7280), 2, 4)
+    yield "raw descriptors of 2 bytes", explained(made("short-raws", sets=1), 2, 4)
+    yield "associations of all 255 interfaces", explained(made("bindings", sets=1), 2, 4)
+    yield "strings of 126 units", explained(made("strings"), 2, 4)
     yield "9,330 findings", explained(shape("endpoints", 9359), 2, 4)
 
 

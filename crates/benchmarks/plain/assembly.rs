@@ -63,80 +63,81 @@ fn fields<'a>(buffer: &mut [u8; 255], start: usize, widths: &[u8], text: &'a [u8
     Some((at, rest))
 }
 
-/// Reads a tail to a place of the buffer, and answers where it ends.
-fn tail(buffer: &mut [u8; 255], at: usize, text: &[u8]) -> Option<usize> {
+/// Reads a tail to a place of the buffer; answers where it ends, and the next line.
+fn tail<'a>(buffer: &mut [u8; 255], start: usize, text: &'a [u8]) -> Option<(usize, &'a [u8])> {
+    if let Some(after) = text.strip_prefix(b" -\n") {
+        return Some((start, after));
+    }
     let digits = text.strip_prefix(b" ")?;
-    if digits == b"-" {
-        return Some(at);
+    let mut count = 0;
+    for (place, digits) in buffer[start..].iter_mut().zip(digits.chunks_exact(2)) {
+        let Some(value) = pair(digits[0], digits[1]) else {
+            break;
+        };
+        *place = value;
+        count += 1;
     }
-    let end = at + digits.len() / 2;
-    let room = buffer.get_mut(at..end)?;
-    if digits.is_empty() || digits.len() % 2 == 1 {
-        return None;
-    }
-    let mut bits = 0;
-    for (place, digits) in room.iter_mut().zip(digits.chunks_exact(2)) {
-        let value = VALUES[usize::from(digits[0])] * 16 + VALUES[usize::from(digits[1])];
-        bits |= value;
-        *place = value as u8;
-    }
-    (bits < 256).then_some(end)
+    let after = digits[2 * count..].strip_prefix(b"\n")?;
+    (count > 0).then_some((start + count, after))
 }
 
-/// Reads the bytes of a descriptor that begins with these, whose fields have these widths.
+/// Reads the bytes of a descriptor that begins with these, whose fields have these widths; answers the next line, too.
 #[inline(always)]
-fn descriptor<'b, const N: usize>(
+fn descriptor<'a, 'b, const N: usize>(
     buffer: &'b mut [u8; 255],
     head: [u8; N],
     widths: &[u8],
     has_tail: bool,
-    text: &[u8],
-) -> Result<&'b [u8], ListWhy> {
+    text: &'a [u8],
+) -> Result<(&'b [u8], &'a [u8]), ListWhy> {
     buffer[..N].copy_from_slice(&head);
     let (at, rest) = fields(buffer, N, widths, text).ok_or(ListWhy::Field)?;
-    let end = match rest {
-        [] if !has_tail => at,
-        _ if has_tail => tail(buffer, at, rest).ok_or(ListWhy::Field)?,
-        _ => return Err(ListWhy::Field),
-    };
+    let ended = if has_tail { tail(buffer, at, rest) } else { rest.strip_prefix(b"\n").map(|it| (at, it)) };
+    let (end, next) = ended.ok_or(ListWhy::Field)?;
     buffer[0] = end as u8;
-    Ok(&buffer[..end])
+    Ok((&buffer[..end], next))
 }
 
-fn languages(text: &[u8]) -> Option<Vec<u16>> {
-    let mut languages = Vec::with_capacity(text.len() / 5);
+fn languages(text: &[u8]) -> Option<(Vec<u16>, &[u8])> {
+    let mut languages = Vec::with_capacity(126);
     let mut rest = text;
-    while !rest.is_empty() {
+    loop {
+        if let Some(next) = rest.strip_prefix(b"\n") {
+            return (!languages.is_empty()).then_some((languages, next));
+        }
         let (language, after) = number(rest.strip_prefix(b" ")?)?;
+        if languages.len() == 126 {
+            return None;
+        }
         languages.push(language);
         rest = after;
     }
-    (1..=126).contains(&languages.len()).then_some(languages)
 }
 
-fn string(text: &[u8]) -> Option<Vec<u16>> {
-    let mut rest = text.strip_prefix(b" \"")?.strip_suffix(b"\"")?;
+fn string(text: &[u8]) -> Option<(Vec<u16>, &[u8])> {
+    let mut rest = text.strip_prefix(b" \"")?;
     let mut units = Vec::with_capacity(rest.len().min(126));
-    while let Some((first, after)) = rest.split_first() {
+    loop {
+        let (first, after) = rest.split_first()?;
         let unit = u16::from(*first);
-        if *first == b'\\' {
+        if is_plain(unit) {
+            units.push(unit);
+            rest = after;
+        } else if *first == b'\\' {
             let (unit, after) = number(after)?;
             if is_plain(unit) {
                 return None;
             }
             units.push(unit);
             rest = after;
-        } else if is_plain(unit) {
-            units.push(unit);
-            rest = after;
         } else {
-            return None;
+            let next = rest.strip_prefix(b"\"\n")?;
+            return Some((units, next));
         }
         if units.len() > 126 {
             return None;
         }
     }
-    Some(units)
 }
 
 /// A file so far: the bytes of the set in work, how many strings there will be, and room for a descriptor.
@@ -166,23 +167,23 @@ impl Draft {
     }
 
     /// Adds a set, if the word for it is allowed: after the qualifier or not.
-    fn begin_set(&mut self, is_other: bool, kind: u8, text: &[u8]) -> Result<(), ListWhy> {
+    fn begin_set<'a>(&mut self, is_other: bool, kind: u8, text: &'a [u8]) -> Result<&'a [u8], ListWhy> {
         if self.file.other.is_some() != is_other || self.has_all_sets() || self.file.strings.is_some() {
             return Err(ListWhy::Place);
         }
-        let bytes = descriptor(&mut self.buffer, [0, kind, 0, 0], &[1; 5], true, text)?;
+        let (bytes, next) = descriptor(&mut self.buffer, [0, kind, 0, 0], &[1; 5], true, text)?;
         self.work = bytes.len();
         let sets = match &mut self.file.other {
             None => &mut self.file.sets,
             Some(other) => &mut other.sets,
         };
         sets.extend(Configuration::new(bytes));
-        Ok(())
+        Ok(next)
     }
 
     /// Adds a descriptor that begins with these bytes and has fields of these widths to the last set.
     #[inline(always)]
-    fn add<const N: usize>(&mut self, head: [u8; N], widths: &[u8], text: &[u8]) -> Result<(), ListWhy> {
+    fn add<'a, const N: usize>(&mut self, head: [u8; N], widths: &[u8], text: &'a [u8]) -> Result<&'a [u8], ListWhy> {
         let sets = match &mut self.file.other {
             None => &mut self.file.sets,
             Some(other) => &mut other.sets,
@@ -194,7 +195,7 @@ impl Draft {
         if head.get(1) == Some(&set::ENDPOINT) && set.settings.is_empty() {
             return Err(ListWhy::Place);
         }
-        let bytes = descriptor(&mut self.buffer, head, widths, true, text)?;
+        let (bytes, next) = descriptor(&mut self.buffer, head, widths, true, text)?;
         if N == 1 && is_typed(bytes[1]) {
             return Err(ListWhy::Field);
         }
@@ -203,53 +204,55 @@ impl Draft {
         }
         self.work += bytes.len();
         set.add(bytes);
-        Ok(())
+        Ok(next)
     }
 
-    fn add_qualifier(&mut self, text: &[u8]) -> Result<(), ListWhy> {
+    fn add_qualifier<'a>(&mut self, text: &'a [u8]) -> Result<&'a [u8], ListWhy> {
         if self.file.other.is_some() || !self.has_all_sets() || self.file.strings.is_some() {
             return Err(ListWhy::Place);
         }
         let widths = [2, 1, 1, 1, 1, 1, 1];
-        let bytes = descriptor(&mut self.buffer, [0, set::QUALIFIER], &widths, false, text)?;
+        let (bytes, next) = descriptor(&mut self.buffer, [0, set::QUALIFIER], &widths, false, text)?;
         let qualifier = Qualifier::read(bytes).ok_or(ListWhy::Field)?;
         self.file.other = Some(Other { qualifier, sets: Vec::new() });
-        Ok(())
+        Ok(next)
     }
 
-    fn add_languages(&mut self, text: &[u8]) -> Result<(), ListWhy> {
+    fn add_languages<'a>(&mut self, text: &'a [u8]) -> Result<&'a [u8], ListWhy> {
         let named = named(&self.file).count();
         if self.file.strings.is_some() || !self.has_all_sets() || named == 0 {
             return Err(ListWhy::Place);
         }
-        let languages = languages(text).ok_or(ListWhy::Field)?;
+        let (languages, next) = languages(text).ok_or(ListWhy::Field)?;
         self.strings = named * languages.len();
         self.file.strings = Some(Strings { languages, texts: Vec::new() });
-        Ok(())
+        Ok(next)
     }
 
-    fn add_string(&mut self, text: &[u8]) -> Result<(), ListWhy> {
+    fn add_string<'a>(&mut self, text: &'a [u8]) -> Result<&'a [u8], ListWhy> {
         match &mut self.file.strings {
             Some(strings) if strings.texts.len() < self.strings => {
-                strings.texts.push(string(text).ok_or(ListWhy::Field)?);
-                Ok(())
+                let (units, next) = string(text).ok_or(ListWhy::Field)?;
+                strings.texts.push(units);
+                Ok(next)
             }
             _ => Err(ListWhy::Place),
         }
     }
 
-    fn add_line(&mut self, word: &[u8], text: &[u8]) -> Result<(), ListWhy> {
-        match word {
-            b"configuration" => self.begin_set(false, set::CONFIGURATION, text),
-            b"other_speed" => self.begin_set(true, set::OTHER_SPEED, text),
-            b"interface" => self.add([0, set::INTERFACE], &[1; 7], text),
-            b"endpoint" => self.add([0, set::ENDPOINT], &[1, 1, 2, 1], text),
-            b"association" => self.add([0, set::ASSOCIATION], &[1; 6], text),
-            b"raw" => self.add([0], &[1], text),
-            b"string" => self.add_string(text),
-            b"qualifier" => self.add_qualifier(text),
-            b"languages" => self.add_languages(text),
-            b"device" => Err(ListWhy::Place),
+    /// Adds the first line; answers the next one.
+    fn add_line<'a>(&mut self, text: &'a [u8]) -> Result<&'a [u8], ListWhy> {
+        match text[0] {
+            b'i' => self.add([0, set::INTERFACE], &[1; 7], after(b"interface", text)?),
+            b'e' => self.add([0, set::ENDPOINT], &[1, 1, 2, 1], after(b"endpoint", text)?),
+            b'r' => self.add([0], &[1], after(b"raw", text)?),
+            b's' => self.add_string(after(b"string", text)?),
+            b'a' => self.add([0, set::ASSOCIATION], &[1; 6], after(b"association", text)?),
+            b'c' => self.begin_set(false, set::CONFIGURATION, after(b"configuration", text)?),
+            b'o' => self.begin_set(true, set::OTHER_SPEED, after(b"other_speed", text)?),
+            b'q' => self.add_qualifier(after(b"qualifier", text)?),
+            b'l' => self.add_languages(after(b"languages", text)?),
+            b'd' => after(b"device", text).and(Err(ListWhy::Place)),
             _ => Err(ListWhy::Word),
         }
     }
@@ -263,7 +266,16 @@ impl Draft {
     }
 }
 
-fn begin(word: &[u8], text: &[u8]) -> Result<Draft, ListWhy> {
+/// The text after the first word of its line, which must be this one.
+fn after<'a, const N: usize>(word: &[u8; N], text: &'a [u8]) -> Result<&'a [u8], ListWhy> {
+    match text.split_first_chunk() {
+        Some((first, rest @ [b' ' | b'\n', ..])) if first == word => Ok(rest),
+        _ => Err(ListWhy::Word),
+    }
+}
+
+/// The draft of a first line, and the next one.
+fn begin(text: &[u8]) -> Result<(Draft, &[u8]), ListWhy> {
     const WORDS: [&[u8]; 9] = [
         b"configuration",
         b"other_speed",
@@ -275,54 +287,35 @@ fn begin(word: &[u8], text: &[u8]) -> Result<Draft, ListWhy> {
         b"languages",
         b"string",
     ];
-    if word != b"device" {
-        return Err(if WORDS.contains(&word) { ListWhy::Place } else { ListWhy::Word });
-    }
+    let Ok(fields) = after(b"device", text) else {
+        let word = text.split(|it| matches!(it, b' ' | b'\n')).next();
+        return Err(if word.is_some_and(|it| WORDS.contains(&it)) { ListWhy::Place } else { ListWhy::Word });
+    };
     let widths = [2, 1, 1, 1, 1, 2, 2, 2, 1, 1, 1, 1];
     let mut buffer = [0; 255];
-    let bytes = descriptor(&mut buffer, [0, 1], &widths, false, text)?;
-    Device::read(bytes).map(Draft::new).ok_or(ListWhy::Field)
+    let (bytes, next) = descriptor(&mut buffer, [0, 1], &widths, false, fields)?;
+    let device = Device::read(bytes).ok_or(ListWhy::Field)?;
+    Ok((Draft::new(device), next))
 }
 
-/// The end of a line's first word.
-fn word_end(line: &[u8]) -> usize {
-    line.iter().position(|it| *it == b' ').unwrap_or(line.len())
-}
-
-/// Where a line ends. Lines are mostly short, but those of raw descriptors can be long.
-fn line_end(text: &[u8]) -> Option<usize> {
-    const ONES: u64 = u64::from_ne_bytes([1; 8]);
-    let feeds = ONES * u64::from(b'\n');
-    let (chunks, rest) = text.as_chunks::<8>();
-    for (number, chunk) in chunks.iter().enumerate() {
-        let differences = u64::from_le_bytes(*chunk) ^ feeds;
-        let zeros = differences.wrapping_sub(ONES) & !differences & (ONES << 7);
-        if zeros != 0 {
-            return Some(8 * number + zeros.trailing_zeros() as usize / 8);
-        }
+/// Why a line is none: a character in it, that it has no end, or what was found.
+fn why_not(text: &[u8], why: ListWhy) -> ListWhy {
+    match text.iter().find(|it| !(0x20..0x7f).contains(*it)) {
+        Some(b'\n') => why,
+        _ => ListWhy::Line,
     }
-    rest.iter().position(|it| *it == b'\n').map(|place| 8 * chunks.len() + place)
 }
 
 pub fn assemble(text: &[u8]) -> Result<DescriptorFile, ListFault> {
-    let mut draft: Option<Draft> = None;
-    let (mut rest, mut line) = (text, 1);
+    let (mut draft, mut rest) = match begin(text) {
+        Ok(begun) => begun,
+        Err(_) if text.is_empty() => return Err(ListFault { line: 1, why: ListWhy::Missing }),
+        Err(why) => return Err(ListFault { line: 1, why: why_not(text, why) }),
+    };
+    let mut line = 2;
     while !rest.is_empty() {
-        let Some(end) = line_end(rest) else {
-            return Err(ListFault { line, why: ListWhy::Line });
-        };
-        let first = &rest[..end];
-        rest = &rest[end + 1..];
-        let (word, fields) = first.split_at(word_end(first));
-        let result = match &mut draft {
-            Some(draft) => draft.add_line(word, fields),
-            None => begin(word, fields).map(|it| draft = Some(it)),
-        };
-        if let Err(why) = result {
-            let is_printable = first.iter().all(|it| (0x20..0x7f).contains(it));
-            return Err(ListFault { line, why: if is_printable { why } else { ListWhy::Line } });
-        }
+        rest = draft.add_line(rest).map_err(|why| ListFault { line, why: why_not(rest, why) })?;
         line += 1;
     }
-    draft.and_then(Draft::finish).ok_or(ListFault { line, why: ListWhy::Missing })
+    draft.finish().ok_or(ListFault { line, why: ListWhy::Missing })
 }

@@ -362,6 +362,8 @@ enum Stage {
     StatusOut,
     Over,
     StatusIn,
+    Receiving,
+    Written,
 }
 
 #[derive(Debug)]
@@ -492,6 +494,29 @@ impl<'d> Device<'d> {
                 self.stage = Stage::Over;
                 Answer::Ack
             }
+            _ => self.receive_data(is_data1, bytes),
+        }
+    }
+
+    /// A packet of a write: kept, discarded where it came again, or stalled.
+    #[inline(never)]
+    fn receive_data(&mut self, is_data1: bool, bytes: &[u8]) -> Answer<'_> {
+        match self.stage {
+            Stage::Receiving | Stage::Written if is_data1 != self.is_data1 => Answer::Ack,
+            Stage::StatusIn if self.request.length > 0 => Answer::Ack,
+            Stage::Receiving => {
+                let left = usize::from(self.request.length) - self.offset;
+                if bytes.len() != left.min(self.description.packet()) {
+                    return self.stall();
+                }
+                let end = self.offset + bytes.len();
+                self.kept[self.offset..end].copy_from_slice(bytes);
+                (self.offset, self.is_data1) = (end, !self.is_data1);
+                if bytes.len() == left {
+                    self.stage = Stage::Written;
+                }
+                Answer::Ack
+            }
             _ => self.stall(),
         }
     }
@@ -553,8 +578,8 @@ impl<'d> Device<'d> {
         (self.stage == Stage::Halted && !self.is_settled).then_some(self.request)
     }
 
-    /// The owner answers a rejected request.
-    pub fn answer_with(&mut self, bytes: &[u8]) -> Result<(), Unanswered> {
+    /// The rejected request, where it is open to an owner.
+    fn open(&self) -> Result<Setup, Unanswered> {
         let q = self.refused().ok_or(Unanswered::Nothing)?;
         let is_open = match q.request_type >> 5 & 3 {
             0 if q.request == 6 => match q.request_type & 0x1f {
@@ -563,9 +588,35 @@ impl<'d> Device<'d> {
             },
             class => class == 1 || class == 2,
         };
-        if !is_open {
-            return Err(Unanswered::Closed);
+        if is_open { Ok(q) } else { Err(Unanswered::Closed) }
+    }
+
+    /// The write whose data have all come, and those data.
+    pub fn written(&self) -> Option<(Setup, &[u8])> {
+        (self.stage == Stage::Written).then(|| (self.request, &self.kept[..self.offset]))
+    }
+
+    /// The owner accepts a rejected request, or the data of a write.
+    pub fn accept(&mut self) -> Result<(), Unanswered> {
+        if self.stage == Stage::Written {
+            self.wait(Stage::StatusIn, self.request);
+            return Ok(());
         }
+        let q = self.open()?;
+        if q.length > 0 && q.is_in() {
+            return Err(Unanswered::Shape);
+        }
+        if usize::from(q.length) > ROOM {
+            return Err(Unanswered::Room);
+        }
+        self.wait(if q.length > 0 { Stage::Receiving } else { Stage::StatusIn }, q);
+        (self.offset, self.is_data1) = (0, true);
+        Ok(())
+    }
+
+    /// The owner answers a rejected request.
+    pub fn answer_with(&mut self, bytes: &[u8]) -> Result<(), Unanswered> {
+        let q = self.open()?;
         if q.length == 0 || !q.is_in() {
             return Err(Unanswered::Shape);
         }

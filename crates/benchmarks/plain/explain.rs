@@ -165,6 +165,8 @@ struct Place<'a> {
     endpoint: usize,
     speed: Speed,
     codes: Option<[u8; 3]>,
+    /// The number and the alternate setting of the interface.
+    interface: Option<[u8; 2]>,
     /// The associations of the set, and its descriptors after this one.
     associations: &'a [&'a [u8]],
     later: &'a [u8],
@@ -180,9 +182,15 @@ struct Explainer<'a> {
     names: Vec<Option<&'a [u16]>>,
     device: Option<&'a [u8]>,
     qualifier: Option<&'a [u8]>,
-    has_other: bool,
+    /// The speeds of the device's own sets and of those after the qualifier, if there is one.
+    own: Option<Speed>,
     other: Option<Speed>,
     sets: [usize; 2],
+}
+
+/// Of a device or a qualifier.
+fn is_high_hub(item: &[u8]) -> bool {
+    item[4] == 9 && matches!(item[6], 1 | 2)
 }
 
 impl<'a> Explainer<'a> {
@@ -304,16 +312,13 @@ impl<'a> Explainer<'a> {
             put_causes(&mut self.text, &causes);
             self.text.end();
         }
+        self.release_remark(usb);
         self.release_field(0, "bcdUSB", usb);
         self.class_fields(0, ["bDeviceClass", "bDeviceSubClass", "bDeviceProtocol"], codes, None);
         let text = self.field(0, "bMaxPacketSize0");
         text.number(usize::from(packet));
-        if usb >= 0x0300 {
-            text.put(if packet <= 15 { " (" } else { " (out of range" });
-            if packet <= 15 {
-                text.count(1 << packet, "byte");
-            }
-            text.put(")");
+        if usb >= 0x0300 && packet == 9 {
+            text.put(" (512 bytes)");
         }
         text.end();
         for (name, at) in [("idVendor", 8), ("idProduct", 10)] {
@@ -325,6 +330,12 @@ impl<'a> Explainer<'a> {
             self.index_field(0, name, item[at]);
         }
         self.number_field(0, "bNumConfigurations", item[17]);
+    }
+
+    fn release_remark(&mut self, usb: u16) {
+        if !matches!(usb, 0x0100 | 0x0110 | 0x0200 | 0x0201 | 0x0210 | 0x0250 | 0x0300 | 0x0310 | 0x0320) {
+            self.remark(0).put("bcdUSB is no release of USB\n");
+        }
     }
 
     fn of_qualifier(&mut self, item: &'a [u8], at: usize) {
@@ -344,6 +355,7 @@ impl<'a> Explainer<'a> {
             put_causes(&mut self.text, &[packet_cause(item[7], false, false), subclass_cause(codes), reserved]);
             self.text.end();
         }
+        self.release_remark(usb);
         self.release_field(0, "bcdUSB", usb);
         self.class_fields(0, ["bDeviceClass", "bDeviceSubClass", "bDeviceProtocol"], codes, None);
         self.number_field(0, "bMaxPacketSize0", item[7]);
@@ -352,21 +364,35 @@ impl<'a> Explainer<'a> {
         self.text.end();
     }
 
+    /// What is known of sets after a device descriptor, or after a qualifier.
+    fn known_before(device: &[u8], has_other: bool, other: Option<Speed>) -> Known {
+        let (usb, packet) = (word(device, 2), device[7]);
+        let is_super = usb >= 0x0300 && packet == 9;
+        let speed = match usb {
+            _ if is_super => Some(Speed::Super),
+            0..0x0200 => Some(Speed::LowOrFull),
+            _ => is_high_hub(device).then_some(Speed::High),
+        };
+        Known { speed, packet: Some(packet), is_hub: device[4] == 9, is_newer: usb >= 0x0300, has_other, other }
+    }
+
+    fn known_after(qualifier: &[u8], other: Option<Speed>) -> Known {
+        Known {
+            speed: is_high_hub(qualifier).then_some(Speed::High),
+            packet: Some(qualifier[7]),
+            is_hub: qualifier[4] == 9,
+            is_newer: false,
+            has_other: true,
+            other,
+        }
+    }
+
     /// The speed that a set has.
     fn set_speed(&self, set: &[u8]) -> Speed {
-        let none = Known { speed: None, packet: None, has_other: false, other: None };
         let known = match (self.device, self.qualifier) {
-            (None, _) => none,
-            (_, Some(qualifier)) => Known { packet: Some(qualifier[7]), has_other: true, ..none },
-            (Some(device), None) => {
-                let speed = match word(device, 2) {
-                    0x0300.. => Some(Speed::Super),
-                    0..0x0200 => Some(Speed::LowOrFull),
-                    _ if device[4] == 9 && matches!(device[6], 1 | 2) => Some(Speed::High),
-                    _ => None,
-                };
-                Known { speed, packet: Some(device[7]), has_other: self.has_other, other: self.other }
-            }
+            (None, _) => Known::default(),
+            (_, Some(qualifier)) => Self::known_after(qualifier, self.own),
+            (Some(device), None) => Self::known_before(device, self.other.is_some(), self.other),
         };
         speed_of(set, known)
     }
@@ -379,8 +405,17 @@ impl<'a> Explainer<'a> {
         let speed = self.set_speed(set);
         let bindings: Vec<&[u8]> = cut(set).map(|it| it.1).filter(|it| it[1] == ASSOCIATION).collect();
         let associations = bindings.as_slice();
-        let mut place =
-            Place { part, set: number, setting: 0, endpoint: 0, speed, codes: None, associations, later: set };
+        let mut place = Place {
+            part,
+            set: number,
+            setting: 0,
+            endpoint: 0,
+            speed,
+            codes: None,
+            interface: None,
+            associations,
+            later: set,
+        };
         let (mut owner, mut settings, mut associations) = (1, 0, 0);
         for (start, item) in cut(set) {
             place.later = &set[start + item.len()..];
@@ -389,6 +424,7 @@ impl<'a> Explainer<'a> {
                 INTERFACE => {
                     (owner, place.setting, place.endpoint) = (2, settings, 0);
                     (settings, place.codes) = (settings + 1, Some([item[5], item[6], item[7]]));
+                    place.interface = Some([item[2], item[3]]);
                     self.of_interface(item, at + start, place);
                 }
                 ENDPOINT => {
@@ -442,6 +478,15 @@ impl<'a> Explainer<'a> {
         let is_zero = item[5] == 0;
         let words = if is_zero { "bConfigurationValue is 0" } else { "an earlier set has this bConfigurationValue" };
         self.finding(1, 10, its, words);
+        let most = if place.speed == Speed::Super { 1500 } else { 500 };
+        if current > most {
+            let text = self.remark(1);
+            text.put("bMaxPower is ");
+            text.number(current);
+            text.put(" mA, and a device draws at most ");
+            text.number(most);
+            text.put(" mA\n");
+        }
         self.field(1, "wTotalLength").number(usize::from(word(item, 2)));
         self.text.end();
         self.number_field(1, "bNumInterfaces", item[4]);
@@ -484,6 +529,9 @@ impl<'a> Explainer<'a> {
         self.finding(2, 13, place, words);
         if codes[0] == 0 {
             self.remark(2).put("class 0x00 is not allowed\n");
+        }
+        if self.qualifier.or(self.device).is_some_and(|it| it[4..7] != [0xef, 2, 1]) {
+            self.remark(2).put("a device with associations is of class 0xef, subclass 0x02, protocol 0x01\n");
         }
         self.number_field(2, "bFirstInterface", item[2]);
         self.number_field(2, "bInterfaceCount", item[3]);
@@ -528,6 +576,7 @@ impl<'a> Explainer<'a> {
         if codes[0] == 0 {
             self.remark(2).put("class 0x00 is reserved for future use\n");
         }
+        self.interface_remark(codes, place.later);
         self.number_field(2, "bInterfaceNumber", number);
         self.number_field(2, "bAlternateSetting", item[3]);
         self.number_field(2, "bNumEndpoints", item[4]);
@@ -568,6 +617,7 @@ impl<'a> Explainer<'a> {
         self.finding(3, 8, its, "another interface of the set has this address");
         self.finding(3, 12, its, "bits 15 to 13 of wMaxPacketSize aren't zero");
         self.endpoint_remarks(attributes, size, interval, speed);
+        self.setting_remarks(attributes, size & 0x7ff, place);
         let text = self.field(3, "bEndpointAddress");
         text.byte(address);
         text.put(" (");
@@ -660,6 +710,74 @@ impl<'a> Explainer<'a> {
         }
     }
 
+    /// What an endpoint breaks by the alternate setting that it is of.
+    fn setting_remarks(&mut self, attributes: u8, size: u16, place: Place) {
+        let Some([number, 0]) = place.interface else {
+            return;
+        };
+        if attributes & 3 == 1 && size != 0 && place.speed != Speed::Super {
+            self.remark(3).put("an isochronous packet is 0 bytes in alternate setting 0\n");
+        }
+        if size == 0 && !cut(place.later).any(|(_, it)| it[1] == INTERFACE && it[2] == number) {
+            self.remark(3).put("packets of 0 bytes hold no data, and no other setting follows\n");
+        }
+    }
+
+    /// What an interface lacks among its descriptors.
+    fn interface_remark(&mut self, codes: &[u8], later: &[u8]) {
+        let mut own = cut(later).map(|(_, it)| it).take_while(|it| it[1] != INTERFACE);
+        let words = match *codes {
+            [3, ..] if own.all(|it| it[1] != 0x21) => "a HID interface has a HID descriptor\n",
+            [8, _, 0x50] if !has_both_directions(&mut own) => {
+                "a bulk-only interface has a bulk endpoint of each direction\n"
+            }
+            [2, 1..=11 | 13 | 14, _] if own.all(|it| it[1] != 0x24 || it.get(2) != Some(&0)) => {
+                "a communications interface has a header functional descriptor\n"
+            }
+            _ => return,
+        };
+        self.remark(2).put(words);
+    }
+
+    /// What is wrong with a class descriptor by its own bytes.
+    fn raw_remarks(&mut self, item: &[u8], depth: usize, codes: [u8; 3]) {
+        match (codes[0], item[1]) {
+            (3, 0x21) => {
+                let right = 6 + 3 * usize::from(item.get(5).copied().unwrap_or(0));
+                if item.len() != right {
+                    let text = self.remark(depth);
+                    text.put("by bNumDescriptors it has ");
+                    text.count(right, "byte");
+                    text.put(", and bLength is ");
+                    text.number(item.len());
+                    text.end();
+                }
+                if item.get(6..9) == Some(&[0x22, 0, 0]) {
+                    self.remark(depth).put("the report descriptor has 0 bytes\n");
+                }
+                if depth == 4 {
+                    self.remark(depth).put("a HID descriptor stands before the endpoints\n");
+                }
+            }
+            (2, 0x24) => {
+                let least = match item.get(2) {
+                    Some(0 | 1 | 6) => 5,
+                    Some(2) => 4,
+                    _ => 0,
+                };
+                if item.len() < least {
+                    let text = self.remark(depth);
+                    text.put("this functional descriptor has at least ");
+                    text.number(least);
+                    text.put(" bytes, and bLength is ");
+                    text.number(item.len());
+                    text.end();
+                }
+            }
+            _ => {}
+        }
+    }
+
     fn of_raw(&mut self, item: &[u8], at: usize, depth: usize, place: Place) {
         let row = row_of(item, place.codes);
         match row {
@@ -673,6 +791,9 @@ impl<'a> Explainer<'a> {
         self.end_heading(at, item.len());
         if let (Some(codes), [_, 0x24, 0x01, ..]) = (place.codes, item) {
             self.header_remark(item, depth, codes, place.later);
+        }
+        if let Some(codes) = place.codes {
+            self.raw_remarks(item, depth, codes);
         }
         self.field(depth, "bDescriptorType").byte(item[1]);
         self.text.end();
@@ -814,8 +935,9 @@ impl<'a> Explainer<'a> {
             (0..file.sets.len()).fold(18, |at, _| skip(at))
         };
         if file.other.is_some() {
-            let known = Known { speed: None, packet: Some(bytes[end_of_main + 7]), has_other: true, other: None };
-            (self.has_other, self.other) = (true, Some(speed_of(&bytes[end_of_main + 10..], known)));
+            let (own, later) = (&bytes[18..end_of_main], &bytes[end_of_main..]);
+            self.own = Some(speed_of(own, Self::known_before(bytes, true, None)));
+            self.other = Some(speed_of(&later[10..], Self::known_after(later, None)));
         }
         self.of_device(&bytes[..18]);
         let mut at = self.of_sets(file.sets.len(), 18);
@@ -825,6 +947,15 @@ impl<'a> Explainer<'a> {
         }
         self.of_strings(file, at);
     }
+}
+
+/// Whether descriptors have a bulk endpoint of each direction.
+fn has_both_directions<'a>(own: impl Iterator<Item = &'a [u8]>) -> bool {
+    let mut sides = [false; 2];
+    for it in own.filter(|it| it[1] == ENDPOINT && it[3] & 3 == 2) {
+        sides[usize::from(it[2] >> 7)] = true;
+    }
+    sides == [true; 2]
 }
 
 fn put_bits(text: &mut Text, names: &[&str], bits: u8) {
@@ -865,7 +996,7 @@ pub fn explain(bytes: &[u8], input: &Input) -> Vec<u8> {
         names: Vec::new(),
         device: None,
         qualifier: None,
-        has_other: false,
+        own: None,
         other: None,
         sets: [0; 2],
     };

@@ -61,10 +61,20 @@ impl Transfer {
 
     #[inline(always)]
     pub fn next(&self) -> Option<Transaction<'static>> {
+        self.next_of(&[])
+    }
+
+    /// The transaction that is due, with these data to the device.
+    #[inline(always)]
+    pub fn next_of<'a>(&self, data: &'a [u8]) -> Option<Transaction<'a>> {
         let token = match self.stage {
             Stage::Setup => Token::Setup(self.request.bytes()),
             Stage::DataIn | Stage::StatusIn => Token::In,
-            Stage::DataOut | Stage::StatusOut => Token::Out(true, &[]),
+            Stage::DataOut => {
+                let left = data.get(usize::from(self.kept)..).unwrap_or(&[]);
+                Token::Out(self.is_data1, &left[..left.len().min(usize::from(self.packet))])
+            }
+            Stage::StatusOut => Token::Out(true, &[]),
             Stage::Completed | Stage::Failed(_) => return None,
         };
         Some(Transaction { address: self.address, token })
@@ -88,7 +98,8 @@ impl Transfer {
                 _ => self.take_other(answer),
             },
             Stage::DataOut => match answer {
-                Answer::Data(..) | Answer::Ack => self.fail(Why::Unexpected),
+                Answer::Data(..) => self.fail(Why::Unexpected),
+                Answer::Ack => self.count_packet(),
                 _ => self.take_other(answer),
             },
             Stage::StatusOut => match answer {
@@ -137,6 +148,14 @@ impl Transfer {
         let is_last = bytes.len() < packet || self.kept == self.request.length;
         self.go_on(if is_last { Stage::StatusOut } else { Stage::DataIn });
         Heard::Bytes(bytes)
+    }
+
+    /// The device has acknowledged a packet of data.
+    fn count_packet(&mut self) -> Heard<'static> {
+        self.kept += (self.request.length - self.kept).min(u16::from(self.packet));
+        self.is_data1 = !self.is_data1;
+        let is_last = self.kept == self.request.length;
+        self.go_on(if is_last { Stage::StatusIn } else { Stage::DataOut })
     }
 
     fn go_on(&mut self, stage: Stage) -> Heard<'static> {

@@ -1,6 +1,6 @@
 //! The speed of a set, by what its descriptors show, and what can't be at a speed.
 
-use crate::set::ENDPOINT;
+use crate::set::{ENDPOINT, INTERFACE};
 
 #[derive(Clone, Copy, PartialEq, Eq)]
 pub enum Speed {
@@ -52,32 +52,40 @@ pub fn cut(bytes: &[u8]) -> impl Iterator<Item = (usize, &[u8])> + Clone {
     })
 }
 
-/// What is known of a set beside its own descriptors: its speed, bMaxPacketSize0, and whether the device has another speed,
-/// and which.
-#[derive(Clone, Copy)]
+/// What is known of a set beside its own descriptors: its speed, and what the device or the qualifier before it says.
+#[derive(Clone, Copy, Default)]
 pub struct Known {
     pub speed: Option<Speed>,
     pub packet: Option<u8>,
+    pub is_hub: bool,
+    /// Whether the device is of a release from 3.0 on.
+    pub is_newer: bool,
+    /// Whether the device has another speed, and which.
     pub has_other: bool,
     pub other: Option<Speed>,
 }
 
+/// Whether size and bits 12 to 11 of wMaxPacketSize are of high speed alone, as table 9-14 has them together.
+fn proves_high(kind: u8, size: u16, more: u16) -> bool {
+    match kind {
+        1 => size > 1023 || matches!((more, size), (1, 513..=1024) | (2, 683..=1024)),
+        2 => size == 512,
+        3 => size > 64,
+        _ => false,
+    }
+}
+
 pub fn speed_of(bytes: &[u8], known: Known) -> Speed {
     let (mut is_super, mut is_high, mut is_full, mut is_slow) = (false, false, false, false);
-    let mut is_above_low = known.has_other || known.packet.is_some_and(|it| it > 8);
+    let mut is_above_low = known.has_other || known.is_hub || known.packet.is_some_and(|it| it > 8);
     for (_, item) in cut(bytes) {
         match *item {
             [_, 0x30, ..] => is_super = true,
+            [_, INTERFACE, _, _, _, class, ..] => is_above_low |= class == 9,
             [_, ENDPOINT, _, attributes, low, high, interval, ..] => {
                 let whole = u16::from_le_bytes([low, high]);
-                let (size, has_more) = (whole & 0x7ff, whole & 0x1800 != 0);
-                let kind = attributes & 3;
-                is_high |= match kind {
-                    1 => size > 1023 || has_more,
-                    2 => size == 512,
-                    3 => size > 64 || has_more,
-                    _ => false,
-                };
+                let (size, kind) = (whole & 0x7ff, attributes & 3);
+                is_high |= proves_high(kind, size, whole >> 11 & 3);
                 is_full |= kind == 2 && size <= 64;
                 is_slow |= kind == 3 && interval > 16;
                 is_above_low |= kind == 1 || kind == 2 || size > 8;
@@ -88,11 +96,12 @@ pub fn speed_of(bytes: &[u8], known: Known) -> Speed {
     let speed = match (known.speed, known.packet, known.other) {
         (Some(speed), _, _) => speed,
         (None, Some(packet), _) if packet != 64 => Speed::LowOrFull,
-        _ if is_super => Speed::Super,
+        (None, None, _) if is_super => Speed::Super,
         _ if is_high => Speed::High,
         _ if is_full => Speed::Full,
         (_, _, Some(Speed::Full)) => Speed::High,
         (_, _, Some(Speed::High)) => Speed::Full,
+        _ if known.is_newer => Speed::High,
         _ if is_slow => Speed::LowOrFull,
         _ => Speed::FullOrHigh,
     };

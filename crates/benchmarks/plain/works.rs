@@ -93,6 +93,7 @@ pub fn run(name: &str, input: &[u8], copies: u32, rounds: u32) -> Result<usize> 
         "status" => transfer_again(input, 1, true, rounds),
         "nak" => refuse_again(input, rounds),
         "answered" => answer_again(input, rounds),
+        "written" => take_writes(input, rounds),
         _ => Err(format!("no work is named {name}")),
     }
 }
@@ -382,5 +383,46 @@ fn answer_again(set: &[u8], rounds: u32) -> Result<usize> {
         sent(&mut device, &read, true);
         respond(&mut device);
         read_packets(&mut device, 8) + sent(&mut device, &STATUS, true)
+    })
+}
+
+/// SET_REPORT of 64 bytes, and its data.
+const WRITE: [u8; 8] = [0x21, 9, 0, 2, 0, 0, 64, 0];
+const REPORT: [u8; 64] = [0x5a; 64];
+
+/// A transaction of both ends.
+#[inline(never)]
+fn exchange(device: &mut Device, transfer: &mut Transfer) {
+    let Some(transaction) = transfer.next_of(&REPORT) else {
+        return;
+    };
+    let answer = device.serve(&transaction, true);
+    let has_data = matches!(answer, Answer::Data(..));
+    let _ = black_box(transfer.take(answer));
+    if has_data {
+        device.acked();
+    }
+}
+
+/// The owner takes what is refused, and accepts the data once all have come.
+#[inline(never)]
+fn take(device: &mut Device) -> usize {
+    let count = device.written().map_or(0, |(_, bytes)| bytes.len());
+    if count > 0 || device.refused().is_some() {
+        let _ = black_box(device.accept());
+    }
+    count
+}
+
+/// A write that the device rejects and its owner takes, in packets of 8 bytes, by both ends.
+fn take_writes(set: &[u8], rounds: u32) -> Result<usize> {
+    let description = describe_set(set, 8)?;
+    let mut device = Device::new(&description);
+    again(rounds, || {
+        let mut transfer = Transfer::new(0, 8, 16, Setup::read(WRITE));
+        (0..10).fold(0, |count, _| {
+            exchange(&mut device, &mut transfer);
+            count + take(&mut device)
+        })
     })
 }
