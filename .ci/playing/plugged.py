@@ -62,8 +62,11 @@ def recorded(path):
     for line in open(path, encoding="ascii"):
         setup, _, answer = line.split("#")[0].strip().partition(" -> ")
         if answer and not setup.startswith("0005"):
-            came = plug.control(bytes.fromhex(setup), bytes(int(setup[14:] + setup[12:14], 16)))
-            wanted = None if answer == "stall" else b"" if answer == "done" else bytes.fromhex(answer)
+            is_write, digits = answer.startswith("taken "), answer.removeprefix("taken ")
+            came = plug.control(bytes.fromhex(setup), bytes.fromhex(digits) if is_write else bytes(int(setup[14:] + setup[12:14], 16)))
+            wanted = None if answer == "stall" else b"" if is_write or answer == "done" else bytes.fromhex(answer)
+            if is_write:
+                same("data of writes", plug.owner.kept[setup[:12]].hex(), digits)
             # Of its first read a host takes one packet on a bus; USB/IP carries whole transfers.
             same("recorded transfers", came[: len(wanted)] if setup == usbip.FIRST.hex() else came, wanted)
 
@@ -88,7 +91,10 @@ def kept():
         file.flush()
         plug = usbip.Plug(bytes_of("testdata/files/gadget-acm.file"), usbip.Answers(file.name), "high", tell=lambda line: None)
     for setup, data, wanted in (("a121000000000700", b"", b""), ("2120000000000700", b"\x80\x25\0\0\0\0\x08", b""), ("a121000000000700", b"", b"\x80\x25\0\0\0\0\x08"),
-                                ("a121000000000300", b"", b"\x80\x25\0"), ("2122000000000700", bytes(7), None)):
+                                ("a121000000000300", b"", b"\x80\x25\0"), ("2122000000000700", bytes(7), None), ("2120000000000000", b"", None),
+                                ("2120000000000102", bytes(513), None), ("2120000000000002", bytes(range(256)) * 2, b""), ("a121000000000002", b"", bytes(range(256)) * 2),
+                                ("2120000000000700", bytes(6), None), ("2120000000000700", bytes(8), None), ("0009010000000700", bytes(7), None),
+                                ("a121000000000100", b"", b"\0")):
         same("writes", plug.control(bytes.fromhex(setup), data), wanted)
 
 
@@ -99,7 +105,7 @@ def owners():
         "keyboard": ("testdata/binding/qemu-usb-keyboard.file", [("8106002200003f00", "", 63), ("210a000000000000", "", 0), ("2109000200000100", "02", 0), ("2109000200000200", "0202", None)]),
         "serial_line": ("testdata/files/gadget-acm.file", [("2120000000000700", "00c20100000008", 0), ("a121000000000700", "", 7), ("2122030000000000", "", 0)]),
         "rndis": ("testdata/binding/gadget-rndis.file", [("2100000000001800", "020000001800000001000000010000000000000000080000", 0), ("a101000000000104", "", 52),
-                                                       ("2100000000001c00", "040000001c000000020000000101010100000000000000000000000000", 0), ("a101000000000104", "", 30)]),
+                                                       ("2100000000001c00", "040000001c0000000200000001010101000000000000000000000000", 0), ("a101000000000104", "", 30)]),
     }
     with contextlib.redirect_stdout(None):
         for name, (file, transfers) in asked.items():

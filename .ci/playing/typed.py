@@ -1,4 +1,4 @@
-"""Compares descriptors, their fields and findings as values, by the Python package, with the texts of the library: `show`,
+"""Compares descriptors, their fields, findings and remarks as values, by the Python package, with the texts of the library: `show`,
 `check` and `explain`, of each example and of mutations of them. Faults are the same; of broken bytes the walk goes at least as
 far as the explanation does. The owner of what has one is the nearest configuration, interface or endpoint before it, and a
 raw descriptor is one deeper than that.
@@ -37,14 +37,16 @@ def line_of(it):
 
 
 def headings(text):
-    """Of each heading of an explanation the place, the length and the depth; its words; its fields; and the rules that it breaks."""
+    """Of each heading of an explanation the place, the length and the depth; its words; its fields; the rules that it breaks; and its remarks."""
     found = []
     for line in text.splitlines():
         indent = len(line) - len(line.lstrip(" "))
         if it := re.fullmatch(r" *(.*) @(\d+)\+(\d+)", line):
-            found.append(((int(it[2]), int(it[3]), indent // 2), it[1], [], []))
+            found.append(((int(it[2]), int(it[3]), indent // 2), it[1], [], [], []))
         elif it := re.match(r" +! V(\d+) ", line):
             found[-1][3].append(int(it[1]))
+        elif found and line.lstrip(" ").startswith("? "):
+            found[-1][4].append(line)
         elif (it := re.match(r" +(\w+) +(\S+)", line)) and found and indent == 2 * found[-1][0][2] + 4:
             found[-1][2].append((it[1], it[2]))
     return found[:-1] if found and found[-1][1] == "the rest" else found
@@ -76,7 +78,7 @@ def walk_differs(walked, told, fault):
     if [(it.place, len(it.data), it.depth) for it in walked] != [numbers for numbers, *_ in told]:
         return f"descriptors {[(it.place, len(it.data), it.depth) for it in walked]} against {[numbers for numbers, *_ in told]}"
     owner, place = None, 0
-    for it, (_, words, fields, _) in zip(walked, told):
+    for it, (_, words, fields, *_) in zip(walked, told):
         mine = it.fields
         if len(mine) != len(fields) or not all(map(is_shown, mine, *zip(*fields))) if mine or fields else False:
             return f"fields {mine} against {fields}"
@@ -93,7 +95,7 @@ def walk_differs(walked, told, fault):
 def differs(data):
     """How the values of an input differ from its texts, or None; and whether it is whole."""
     explained, fault = usb.explain(data, utf8=True), fault_of(usb.judge, data)
-    others = [explained.fault and explained.fault.args, *(fault_of(it, data) for it in (usb.show, usb.read, usb.check))]
+    others = [explained.fault and explained.fault.args, *(fault_of(it, data) for it in (usb.show, usb.read, usb.check, usb.remarks))]
     if any(it != fault for it in others):
         return f"faults {fault} and {others}"
     walked, told = list(usb.walk(data)), headings(explained.text)
@@ -109,8 +111,10 @@ def differs(data):
     found = usb.check(data)
     if sorted(f"V{it.rule} {it.part} {it.set} {it.setting} {it.endpoint}" for it in found) != sorted(check_lines(data)):
         return f"findings {found} against {check_lines(data)}"
-    if [(it.place, it.rule) for it in found] != [(numbers[0], rule) for numbers, _, _, rules in told for rule in rules]:
+    if [(it.place, it.rule) for it in found] != [(numbers[0], rule) for numbers, _, _, rules, _ in told for rule in rules]:
         return f"places of {found}"
+    if [it.place for it in usb.remarks(data)] != [numbers[0] for numbers, *_, lines in told for _ in lines]:
+        return f"remarks {usb.remarks(data)} against {told}"
     return None
 
 

@@ -40,7 +40,14 @@ def cell_of(pair, bound):
     return f"{shown(pair[0])} / {shown(pair[1])} = {f'**{ratio}**' if pair[0] / pair[1] > bound else ratio}"
 
 
+def said():
+    """Of what the numbers are: the first line of their file."""
+    return sources.text_of(NUMBERS).partition("\n")[0].removeprefix("# ")
+
+
 def printed(name):
+    if name == "said":
+        return said()
     found = numbers()
     table = next(it for it in tables.tables() if it.name == name)
     if not any(it.startswith(f"{table.name}, ") for it in found):
