@@ -20,9 +20,10 @@ class Disk(usbip.Owner):
 
     def received(self, endpoint, data):
         if self.write:
-            place, length, tag, wanted = self.write
-            self.blocks[place : place + length], self.write = data[:length], None
-            self.end(tag, wanted - len(data), GOOD if len(data) == length else FAILED)
+            tag, place, left = self.write
+            data = data[:left]
+            self.blocks[place : place + len(data)] = data
+            self.write = (tag, place + len(data), left - len(data)) if len(data) < left else self.end(tag, 0, GOOD)
         elif len(data) == 31 and data[:4] == b"USBC":
             tag, wanted = struct.unpack("<II", data[4:12])
             self.command(tag, wanted, data[12] > 0x7F, data[15:31])
@@ -30,8 +31,8 @@ class Disk(usbip.Owner):
     def command(self, tag, wanted, is_in, command):
         """A command of SCSI: what it reads is sent, and then how it ended."""
         place, count = struct.unpack(">IxH", command[2:9])
-        if command[0] == 0x2A and place + count <= COUNT and wanted == count * BLOCK:  # WRITE(10)
-            self.write = place * BLOCK, wanted, tag, wanted
+        if command[0] == 0x2A and 0 < count <= COUNT - place and wanted == count * BLOCK:  # WRITE(10)
+            self.write = tag, place * BLOCK, wanted
             return
         found = self.found(command, place, count)
         if is_in and wanted:

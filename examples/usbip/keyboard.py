@@ -17,4 +17,5 @@ class Keyboard(usbip.Owner):
         return None
 
 
-usbip.main(Keyboard)
+if __name__ == "__main__":
+    usbip.main(Keyboard)

@@ -1,13 +1,12 @@
-"""A network device that echoes nothing and is always up: `python3 rndis.py gadget-rndis.file --speed high`."""
+"""A network device that answers each ping: `python3 rndis.py gadget-rndis.file --speed high`, then `ip addr add 10.0.0.1/24 dev usb0`."""
 import struct
 
 from nozzlegorse import usbip
 
-NOTIFY = 0x85
-# What queries of these objects give: the vendor's name, both addresses, the longest frame, the medium, its state, speed.
-OBJECTS = {0x01010101: bytes.fromhex("02aabbccdd01"), 0x01010102: bytes.fromhex("02aabbccdd01"), 0x00010106: struct.pack("<I", 1500),
-           0x00010202: struct.pack("<I", 0), 0x00010114: struct.pack("<I", 0), 0x00010107: struct.pack("<I", 4_000_000),
-           0x0001010D: b"RNDIS\0", 0x0001010E: struct.pack("<I", 0)}
+HOST, OURS = bytes.fromhex("02aabbccdd01"), bytes.fromhex("02aabbccdd02")
+INITIALIZED = struct.pack("<9I", 1, 0, 1, 0, 1, 1558, 0, 0, 0)  # version 1.0, connectionless, 802.3, one packet of 1558 bytes
+# What queries of objects give: the host's address, twice, the longest frame, and of others the number 0.
+OBJECTS = {0x01010101: HOST, 0x01010102: HOST, 0x00010106: struct.pack("<I", 1500)}
 
 
 class Rndis(usbip.Owner):
@@ -15,23 +14,27 @@ class Rndis(usbip.Owner):
 
     def request(self, setup, data):
         if setup[:2] == b"\x21\0" and len(data) >= 12:  # SEND_ENCAPSULATED_COMMAND
-            kind, _, number = struct.unpack("<III", data[:12])
-            self.answer = self.answered(kind, number, data)
-            self.send(NOTIFY, struct.pack("<II", 1, 0))
+            kind, number = struct.unpack("<I4xI", data[:12])
+            found = OBJECTS.get(int.from_bytes(data[12:16], "little"), bytes(4))
+            rest = {2: INITIALIZED, 4: struct.pack("<II", len(found), 16) + found}.get(kind, b"")
+            self.answer = struct.pack("<IIII", kind & 0xFF | 1 << 31, 16 + len(rest), number, 0) + rest
+            self.send(0x85, struct.pack("<II", 1, 0))
             return True
         return self.answer if setup[:2] == b"\xa1\x01" else None  # GET_ENCAPSULATED_RESPONSE
 
-    def answered(self, kind, number, data):
-        """The message that completes one: its number again, and 0 for a success."""
-        rest = b""
-        if kind == 2:  # INITIALIZE: version 1.0, connectionless, 802.3, one packet of 1558 bytes a transfer
-            rest = struct.pack("<8I", 1, 0, 1, 0, 1, 1558, 0, 0) + bytes(4)
-        elif kind == 4 and len(data) >= 16:  # QUERY
-            found = OBJECTS.get(struct.unpack("<I", data[12:16])[0], b"")
-            rest = struct.pack("<II", len(found), 16) + found
-        elif kind == 8:  # KEEPALIVE
-            rest = b""
-        return struct.pack("<IIII", kind | 1 << 31, 16 + len(rest), number, 0) + rest
+    def received(self, endpoint, data):
+        if data[:4] == b"\1\0\0\0" and (frame := answered(data[44:])):  # a packet; Linux puts its frame after 44 bytes
+            self.send(0x81, struct.pack("<4I28x", 1, 44 + len(frame), 36, len(frame)) + frame)
 
 
-usbip.main(Rndis)
+def answered(frame):
+    """What answers an ARP request, whatever address it asks for, and an ICMP echo request without options of IP."""
+    if frame[12:22] == bytes.fromhex("08060001080006040001") and frame[28:32] not in (bytes(4), frame[38:42]):
+        return (HOST + OURS + frame[12:20] + b"\0\2" + OURS + frame[38:42] + frame[22:32]).ljust(60, b"\0")
+    if frame[12:15] + frame[23:24] + frame[34:36] == b"\x08\0\x45\1\x08\0":
+        checksum = int.from_bytes(frame[36:38], "big") + 0x0800  # the type is less by 8
+        return HOST + OURS + frame[12:26] + frame[30:34] + frame[26:30] + struct.pack(">HH", 0, (checksum & 0xFFFF) + (checksum >> 16)) + frame[38:]
+
+
+if __name__ == "__main__":
+    usbip.main(Rndis)

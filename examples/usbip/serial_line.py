@@ -17,4 +17,5 @@ class SerialLine(usbip.Owner):
         self.send(0x81, data)
 
 
-usbip.main(SerialLine)
+if __name__ == "__main__":
+    usbip.main(SerialLine)

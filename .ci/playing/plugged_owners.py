@@ -1,0 +1,186 @@
+"""The programs of examples/usbip, owners of one's own, and a dump, each asked by a host what a Linux driver asks. `.ci/callers`
+runs it.
+
+    plugged_owners.py USBDESC
+"""
+import re
+import struct
+import subprocess
+import sys
+import tempfile
+
+from nozzlegorse import usbip
+from usbip_client import FIRST, MOUSE, MOUSE_ANSWERS, Host, bytes_of, end, same, served
+
+DUMP = "testdata/dumps/matias-keyboard.descriptors"
+HOST, OTHER = bytes.fromhex("02aabbccdd01"), bytes([10, 0, 0, 9])
+
+
+def example(name, file):
+    return served(file, "--speed", "high", program=(f"examples/usbip/{name}.py",))
+
+
+def begun(host, file):
+    """What a host asks of each device, and its configuration selected."""
+    same("a device", host.control(FIRST), bytes_of(file)[:18])
+    same("a configuration", host.control("0009" + bytes_of(file)[18 + 5 :][:1].hex() + "0000000000"), b"")
+
+
+def keyboard():
+    file = "testdata/binding/qemu-usb-keyboard.file"
+    with example("keyboard", file) as it:
+        host = Host(it)
+        begun(host, file)
+        report = re.search("810600220000 (.*)", bytes_of("testdata/answers/qemu-usb-keyboard.high.txt").decode())[1]
+        same("the keyboard", [host.control("8106002200003f00"), host.control("210a000000000000")], [bytes.fromhex(report), b""])
+        for lamps, wanted in ((2, "caps lock"), (5, "num lock, scroll lock"), (0, "none")):
+            same("lamps", host.control("2109000200000100", bytes([lamps])), b"")
+            it.printed(f"\nlamps: {wanted}\n")
+        same("lamps", host.control("2109000200000200", b"\2\2"), None)
+        same("lamps", it.text().count("lamps: "), 3)
+
+
+def serial_line():
+    file = "testdata/files/gadget-acm.file"
+    with example("serial_line", file) as it:
+        host = Host(it)
+        begun(host, file)
+        coding = bytes.fromhex("00c20100000008")
+        same("a serial line", [host.control("2120000000000700", coding), host.control("a121000000000700"), host.control("2122030000000000")], [b"", coding, b""])
+        host.write(2, b"hello")
+        host.write(2, bytes(range(256)) * 4)
+        same("an echo", [host.read(1, 2048), host.read(1, 2048)], [b"hello", bytes(range(256)) * 4])
+        waits = host.submit(1, 512)
+        host.write(2, b"again")
+        same("an echo", host.returned(), (waits, 0, b"again"))
+
+
+def checksum(data):
+    """The checksum of IP and ICMP (RFC 1071)."""
+    total = sum(struct.unpack(f">{len(data) // 2}H", data))
+    while total >> 16:
+        total = (total & 0xFFFF) + (total >> 16)
+    return 0xFFFF - total
+
+
+def ping(source, destination, ours, theirs, kind, data):
+    """A frame with an ICMP echo request (8) or reply (0)."""
+    icmp = struct.pack(">BBHHH", kind, 0, 0, 7, 1) + data
+    icmp = icmp[:2] + struct.pack(">H", checksum(icmp)) + icmp[4:]
+    ip = struct.pack(">BBHHHBBH", 0x45, 0, 20 + len(icmp), 1, 0, 64, 1, 0) + source + destination
+    return theirs + ours + b"\x08\0" + ip[:10] + struct.pack(">H", checksum(ip)) + ip[12:] + icmp
+
+
+def packet(frame):
+    """A packet message of RNDIS."""
+    return struct.pack("<11I", 1, 44 + len(frame), 36, len(frame), *[0] * 7) + frame
+
+
+def rndis():
+    file = "testdata/binding/gadget-rndis.file"
+    with example("rndis", file) as it:
+        host = Host(it)
+        begun(host, file)
+        same("RNDIS", host.control("2100000000001800", struct.pack("<6I", 2, 24, 1, 1, 0, 2048)), b"")
+        same("RNDIS", (host.read(5, 8), host.control("a101000000000104")[:16]), (struct.pack("<II", 1, 0), struct.pack("<4I", 0x80000002, 52, 1, 0)))
+        ours = bytes([10, 0, 0, 1])
+        arp = bytes.fromhex("0806000108000604")
+        host.write(2, packet(b"\xff" * 6 + HOST + arp + b"\0\1" + HOST + ours + bytes(6) + OTHER))
+        came = host.read(1, 2048)[44:]
+        theirs = came[6:12]
+        same("ARP", came[:42], HOST + theirs + arp + b"\0\2" + theirs + OTHER + HOST + ours)
+        # Nobody answers a host that asks for its own address.
+        host.write(2, packet(b"\xff" * 6 + HOST + arp + b"\0\1" + HOST + ours + bytes(6) + ours))
+        for length in (0, 56, 470, 1400):
+            data = bytes(place % 251 for place in range(length))
+            host.write(2, packet(ping(ours, OTHER, HOST, theirs, 8, data)))
+            same("pings", host.read(1, 2048), packet(ping(OTHER, ours, theirs, HOST, 0, data)))
+
+
+def disk():
+    file, ended = "testdata/binding/gadget-storage.file", []
+
+    def command(words, wanted, is_in, *data):
+        """A command: what it reads, and how it ended, which is how many bytes are left and the status."""
+        ended.append(0)
+        host.write(2, b"USBC" + struct.pack("<IIBBB", len(ended), wanted, is_in << 7, 0, len(words) // 2) + bytes.fromhex(words).ljust(16, b"\0"))
+        for piece in data:
+            host.write(2, piece)
+        came = host.read(1, wanted) if is_in and wanted else b""
+        signature, tag, left, status = struct.unpack("<4sIIB", host.read(1, 13))
+        same("the disk", (signature, tag), (b"USBS", len(ended)))
+        return came, left, status
+
+    with example("disk", file) as it:
+        host = Host(it)
+        begun(host, file)
+        same("the disk", host.control("a1fe000000000100"), b"\0")
+        same("the disk", command("120000002400", 36, True)[0][8:16], b"USB     ")
+        same("the disk", command("25" + "00" * 9, 8, True), (struct.pack(">II", 63, 512), 0, 0))
+        blocks = [bytes([number]) * 512 for number in range(64)]
+        same("the disk", command("2a000000000000004000", 64 * 512, False, b"".join(blocks)), (b"", 0, 0))
+        same("the disk", command("2a000000003f00000100", 512, False, *(b"last"[at : at + 1] * 128 for at in range(4))), (b"", 0, 0))
+        blocks[63] = b"".join(b"last"[at : at + 1] * 128 for at in range(4))
+        same("64 blocks", [command(f"280000{number:06x}00000100", 512, True) for number in range(64)], [(block, 0, 0) for block in blocks])
+        same("64 blocks", command("28000000000000004000", 64 * 512, True), (b"".join(blocks), 0, 0))
+        same("past the end", [command("28000000004000000100", 512, True), command("030000001200", 18, True)[0][2]], [(b"", 512, 1), 5])
+
+
+def own(text, *words):
+    """A program with an owner of one's own."""
+    file = tempfile.NamedTemporaryFile("w", suffix=".py")
+    file.write(f"from nozzlegorse import usbip\n{text}\nusbip.main(Mine)\n")
+    file.flush()
+    return file, served(MOUSE, *words, program=(file.name,))
+
+
+def owners():
+    """The mouse of the module's own text, and an owner with a mistake, which ends its program as in any other."""
+    report = re.search("810600220000 (.*)", bytes_of(MOUSE_ANSWERS).decode())[1]
+    mouse = usbip.__doc__[usbip.__doc__.index("    class Mouse") :].replace("\n    ", "\n").strip()
+    file, program = own(f"REPORT = bytes.fromhex('{report}')\n{mouse}\nMine = Mouse")
+    with file, program as it:
+        host = Host(it)
+        begun(host, MOUSE)
+        same("an owner of one's own", (host.control("8106002200003400"), host.control("210a000000000000")), (bytes.fromhex(report), None))
+        same("an owner of one's own", [host.read(1, 4), host.read(1, 4)], [bytes([0, 5, 0, 0])] * 2)
+        same("the report descriptor of the mouse", len(bytes.fromhex(report)), 52)
+    file, program = own("class Mine(usbip.Owner):\n    def received(self, endpoint, data):\n        raise ValueError('mine')")
+    it = program.__enter__()
+    with file:
+        Host(it).submit(2, 1, data=b"1")
+        _, err = it.program.communicate(timeout=20)
+        same("an owner's mistake", (it.program.returncode, err.splitlines()[-1]), (1, b"ValueError: mine"))
+
+
+def text_of(descriptor):
+    return descriptor[2:].decode("utf-16-le")
+
+
+def dump(usbdesc):
+    """A dump is served: its descriptors, and strings that have their index, as usbdesc lists them."""
+    data = bytes_of(DUMP)
+    with served(DUMP, "--with-strings") as it:
+        host = Host(it)
+        same("a dump", (host.control(FIRST), host.control("8006000100001200")), (data[:18], data[:18]))
+        total = host.control("8006000200000900")[2:4]
+        sets = host.control("800600020000" + total.hex())
+        same("a dump", sets, data[18:])
+        languages = host.control("800600030000ff00")
+        same("a dump", languages, bytes.fromhex("04030904"))
+        strings = [host.control(f"8006{index:02x}030904ff00") for index in (1, 2)]
+        same("strings of a dump", [text_of(it) for it in strings], ["string 1", "string 2"])
+        same("strings of a dump", host.control("800603030904ff00"), None)
+    read = data[:18] + sets + languages + b"".join(strings)
+    listed = subprocess.run([usbdesc, "enumerate", "--with-strings"], input=data, capture_output=True, check=True).stdout
+    same("what usbdesc enumerates", subprocess.run([usbdesc, "show"], input=read, capture_output=True).stdout, listed.partition(b"\n")[2])
+    same("--help", subprocess.run([sys.executable, "-m", "nozzlegorse.usbip", "--help"], capture_output=True, check=True).stderr, b"")
+
+
+keyboard()
+serial_line()
+rndis()
+disk()
+owners()
+dump(sys.argv[1])
+end()
