@@ -6,10 +6,11 @@ import os
 import random
 import re
 import runpy
+import struct
 import tempfile
 
 from nozzlegorse import usbip
-from usbip_client import FIRST, MOUSE, MOUSE_ANSWERS, bytes_of, end, same
+from usbip_client import FIRST, IMPORT, LIST, MOUSE, MOUSE_ANSWERS, bytes_of, end, same
 
 EXAMPLES = {"keyboard": "qemu-usb-keyboard", "serial_line": "gadget-acm", "rndis": "gadget-rndis", "disk": "gadget-storage"}
 
@@ -149,10 +150,15 @@ def addresses():
             same("schemes of enumeration", plug.control(bytes.fromhex(setup), b""), wanted)
 
 
+def owner_of(name):
+    """The owner of an example."""
+    return runpy.run_path(f"examples/usbip/{name}.py")[name.title().replace("_", "")]()
+
+
 def anything(name, cases):
     """An owner of the examples takes whatever a host sends: no exception, and the device goes on."""
     lot = random.Random(54)
-    plug = usbip.Plug(file_of(EXAMPLES[name]), runpy.run_path(f"examples/usbip/{name}.py")[name.title().replace("_", "")](), "high", tell=quiet)
+    plug = usbip.Plug(file_of(EXAMPLES[name]), owner_of(name), "high", tell=quiet)
     starts = (b"", b"USBC\1\0\0\0\0\2\0\0", b"\1\0\0\0", b"\2\0\0\0\x18\0\0\0\1\0\0\0", b"\1\0\0\0" + bytes(52) + b"\x08\0\x45", b"\1\0\0\0" + bytes(52) + b"\x08\x06\0\1\x08\0\6\4\0\1")
     for _ in range(cases):
         data = lot.choice(starts) + lot.randbytes(lot.choice((0, 1, 8, 19, 40, 512, 600)))
@@ -160,6 +166,24 @@ def anything(name, cases):
         setup = lot.choice((b"\x21\0", b"\xa1\x01", b"\x21\x20", b"\x21\x09\0\2", b"\x81\x06\0\x22", lot.randbytes(2))) + lot.randbytes(4)
         plug.control(setup[:6] + len(data).to_bytes(2, "little"), data)
     same("owners that are asked anything", plug.control(bytes.fromhex(FIRST), b"")[:2], b"\x12\1")
+
+
+def garbage(cases):
+    """Clients whose messages have any fields: each is answered or refused, with no other exception."""
+    lot, refusals = random.Random(55), 0
+    few = (0, 1, 2, 8, 9, 64, 1 << 20, (1 << 20) + 1, 1 << 31, (1 << 32) - 1)
+    plug = usbip.Plug(bytes_of(MOUSE), usbip.Answers(MOUSE_ANSWERS), "high", tell=quiet)
+    for _ in range(cases):
+        client = usbip.Client([plug], quiet)
+        try:
+            client.take(lot.choice((IMPORT + b"1-1".ljust(32, b"\0"), LIST, IMPORT + lot.randbytes(32), LIST[:4], lot.randbytes(8))))
+            for _ in range(lot.randrange(8)):
+                header = [lot.choice((1, 1, 1, 2, 3)), *(lot.choice(few) for _ in range(9))]
+                client.take(struct.pack(">10I", *header) + lot.choice((lot.randbytes(8), bytes.fromhex(FIRST), bytes.fromhex("0009010000000000"))) + lot.randbytes(lot.choice((0, 8, 64))))
+        except usbip.Refused:
+            refusals += 1
+        client.close()
+    same("clients that send garbage", (plug.client, 0 < refusals < cases), (None, True))
 
 
 for length in (1, 7, 4096):
@@ -173,8 +197,9 @@ for lines, wanted in FILES:
 writes()
 wrong_owners()
 addresses()
-for name, device in EXAMPLES.items():
-    recorded(f"testdata/binding/{device}.high.txt", runpy.run_path(f"examples/usbip/{name}.py")[name.title().replace("_", "")]())
-    with contextlib.redirect_stdout(None):
+with contextlib.redirect_stdout(None):
+    for name, device in EXAMPLES.items():
+        recorded(f"testdata/binding/{device}.high.txt", owner_of(name))
         anything(name, 2000)
+garbage(20_000)
 end()

@@ -134,6 +134,17 @@ def own(text, *words):
     return file, served(MOUSE, *words, program=(file.name,))
 
 
+THREADED = """import threading
+class Mine(usbip.Owner):
+    def received(self, endpoint, data):
+        threading.Thread(target=self.run).start()
+
+    def run(self):
+        for number in range(1000):
+            self.send(0x81, b"%04d" % number)
+"""
+
+
 def owners():
     """The mouse of the module's own text, and an owner with a mistake, which ends its program as in any other."""
     report = re.search("810600220000 (.*)", bytes_of(MOUSE_ANSWERS).decode())[1]
@@ -145,6 +156,14 @@ def owners():
         same("an owner of one's own", (host.control("8106002200003400"), host.control("210a000000000000")), (bytes.fromhex(report), None))
         same("an owner of one's own", [host.read(1, 4), host.read(1, 4)], [bytes([0, 5, 0, 0])] * 2)
         same("the report descriptor of the mouse", len(bytes.fromhex(report)), 52)
+    file, program = own(THREADED)
+    with file, program as it:
+        host = Host(it)
+        host.control("0009010000000000")
+        for _ in range(4):
+            host.write(2, b"go")
+        came = [host.read(1, 4).decode() for _ in range(4000)]
+        same("sends of threads", sorted(came), sorted(4 * [f"{number:04}" for number in range(1000)]))
     file, program = own("class Mine(usbip.Owner):\n    def received(self, endpoint, data):\n        raise ValueError('mine')")
     it = program.__enter__()
     with file:

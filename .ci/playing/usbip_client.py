@@ -12,6 +12,8 @@ import time
 
 ROOT = os.path.join(os.path.dirname(os.path.abspath(__file__)), "../..")
 os.chdir(ROOT)
+# Else it would not show that a line isn't flushed.
+os.environ.pop("PYTHONUNBUFFERED", None)
 MOUSE, MOUSE_ANSWERS = "testdata/files/qemu-usb-mouse.file", "testdata/answers/qemu-usb-mouse.high.txt"
 LIST, IMPORT = bytes.fromhex("01118005 00000000"), bytes.fromhex("01118003 00000000")
 FIRST = "8006000100004000"

@@ -2,6 +2,7 @@
 from __future__ import annotations
 
 import collections
+import threading
 
 from .ends import Device, Transaction
 from .faults import Fault
@@ -11,6 +12,8 @@ FIRST, SET_ADDRESS = bytes.fromhex("8006000100004000"), bytes.fromhex("000502000
 # How much is queued for an endpoint at most, in bytes and in transfers.
 MOST_BYTES, MOST_QUEUED = 16 << 20, 4096
 EOVERFLOW = -75
+# Held while anything is done with a device, so that its owner may send from any thread.
+LOCK = threading.RLock()
 
 
 class Owner:
@@ -32,9 +35,10 @@ class Owner:
         """The device was plugged in, or its bus was reset."""
 
     def send(self, endpoint: int, data: bytes) -> None:
-        """Queues bytes of an endpoint, for one IN of the host."""
-        if not self.plug.send(endpoint, bytes(data)):
-            self.plug.tell(f"endpoint {endpoint:02x}: too much is queued, {len(data)} bytes are dropped")
+        """Queues bytes of an endpoint, for one IN of the host. Any thread may."""
+        with LOCK:
+            if not self.plug.send(endpoint, bytes(data)):
+                self.plug.tell(f"endpoint {endpoint:02x}: too much is queued, {len(data)} bytes are dropped")
 
 
 class Plug:
@@ -72,10 +76,10 @@ class Plug:
 
     def control(self, setup: bytes, data: bytes) -> bytes | None:
         """A control transfer: the bytes that it brought, or None for a STALL. The reset and the address are put back where Linux
-        has them: before its first request, and after it or before any other one but SET_ADDRESS."""
+        has them: before its first request, and after it or before any other one."""
         if setup == FIRST or self.is_fresh:
             self.reset()
-        if self.is_fresh and setup != FIRST and setup[:2] != SET_ADDRESS[:2]:
+        if self.is_fresh and setup != FIRST:
             self._transfer(SET_ADDRESS, b"")
         self.is_fresh = setup == FIRST
         return self._transfer(setup, data)

@@ -23,10 +23,10 @@ import sys
 
 from . import Fault, with_strings
 from ._answers import Answers
-from ._plug import FIRST, Owner, Plug
+from ._plug import LOCK, Owner, Plug
 from ._wire import MOST, SPEEDS, Client, Refused
 
-__all__ = ["FIRST", "Answers", "Client", "Owner", "Plug", "Refused", "main"]
+__all__ = ["Answers", "Client", "Owner", "Plug", "Refused", "main"]
 # The most connections, and the most bytes that wait until one is ready for them.
 MOST_LINKS, MOST_UNSENT = 256, 16 << 20
 
@@ -155,10 +155,11 @@ class Bridge:
 
     def step(self) -> None:
         for key, _ in self.waits.select():
-            if isinstance(key.data, type):
-                self._accept(key.fileobj, key.data)
-            elif not key.data.go_on():
-                key.data.close()
+            with LOCK:
+                if isinstance(key.data, type):
+                    self._accept(key.fileobj, key.data)
+                elif not key.data.go_on():
+                    key.data.close()
 
     def _accept(self, server: socket.socket, kind: type) -> None:
         try:
