@@ -3,6 +3,7 @@ and nothing of it is written to standard error. `.ci/callers` runs it."""
 import contextlib
 import re
 import struct
+import threading
 import time
 
 from usbip_client import FIRST, IMPORT, LIST, MOUSE, MOUSE_ANSWERS, Feed, Host, bytes_of, connected, end, ended, reset_by_peer, same, served, taken
@@ -18,7 +19,7 @@ def goes_on(what, host):
     """The host that has attached the device still has it, and soon gets what it asks for."""
     start = time.monotonic()
     same(what, host.control("8006000100001200"), DEVICE)
-    same(f"{what}: soon", time.monotonic() - start < 5, True)
+    same(f"{what}: soon", time.monotonic() - start < 3, True)
 
 
 def free(it):
@@ -213,38 +214,54 @@ def many():
         free(it).close()
 
 
-def never_read():
-    """A lister, a feeder and a host that never read, and a line without an end: the others go on, and memory is bounded."""
+def read_late():
+    """A lister that reads after it has asked 100,000 times has every answer; meanwhile nothing of it is in the way."""
     with served(*SERVED) as it:
         host, start = Host(it), it.memory()
-        goes_on("a host", host)
-        deaf = [(connected(it.port), LIST * 8000), (connected(it.feed), b"fee\n" * 16_000), (connected(it.feed), b"feed 81 " + b"0" * 60_000)]
+        late = connected(it.port)
+        asks = threading.Thread(target=late.sendall, args=(LIST * 100_000,))
+        asks.start()
+        time.sleep(1)
+        goes_on("beside one who reads late", host)
+        same("memory", it.memory() - start < MOST, True)
+        one = taken(late, 12 + 312 + 4)
+        same("who reads late", taken(late, 99_999 * len(one)) == one * 99_999, True)
+        asks.join()
+
+
+def never_read():
+    """Feeders that never read, and a line without an end: the others go on."""
+    with served(*SERVED) as it:
+        host, start = Host(it), it.memory()
+        deaf = [(connected(it.feed), b"fee\n" * 16_000), (connected(it.feed), b"feed 81 " + b"0" * 60_000)]
         for link, message in deaf:
             link.settimeout(1)
             with contextlib.suppress(OSError):
                 for _ in range(400):
                     link.sendall(message)
             goes_on("beside those who never read", host)
-        same("a line without an end", ended(deaf[2][0]), True)
-        feed = Feed(it)
+        same("a line without an end", ended(deaf[1][0]), True)
+        same("memory", it.memory() - start < MOST, True)
+
+
+def too_much():
+    """What is queued has its bounds, which are told; a host that asks for it all and reads nothing is ended."""
+    with served(*SERVED) as it:
+        host, feed, start = Host(it), Feed(it), it.memory()
         feed.say("feed 81 01\n" * 5000)
         full = [feed.lines.readline().strip() for _ in range(5000)]
         same("what is queued at most", (full.count("fed 1"), full[-1]), (4096, "no feed: too much is queued for 81"))
-        for _ in range(40):
-            feed.say(f"feed 82 {'00' * LONGEST}\n")
-        same("what is queued at most", [feed.lines.readline().strip() for _ in range(40)].count(f"fed {LONGEST}"), 16)
+        for endpoint in ("82", "83"):
+            for _ in range(17):
+                feed.say(f"feed {endpoint} {'00' * LONGEST}\n")
+            full = [feed.lines.readline().strip() for _ in range(17)]
+            same("what is queued at most", (full.count(f"fed {LONGEST}"), full[-1]), (16, f"no feed: too much is queued for {endpoint}"))
         same("what was queued before", {host.read(1, 4) for _ in range(10)}, {b"\1"})
-        same("memory", it.memory() - start < MOST, True)
-        for link, _ in deaf:
-            reset_by_peer(link)
-        # A host that asks for it all, and reads nothing.
-        for _ in range(40):
-            host.submit(2, LONGEST)
-        goes = Feed(it)
-        goes.say("feed 82 01\n")
-        goes.hears("fed 1")
+        for endpoint in (2, 3):
+            for _ in range(16):
+                host.submit(endpoint, LONGEST)
+        it.printed("1-1 detached\n")
         same("memory", it.memory() - start < 2 * MOST, True)
-        reset_by_peer(host.link)
         free(it).close()
 
 
@@ -255,5 +272,7 @@ feeds()
 several()
 broken_hosts()
 many()
+read_late()
 never_read()
+too_much()
 end()
