@@ -2,6 +2,7 @@
 and nothing of it is written to standard error. `.ci/callers` runs it."""
 import contextlib
 import re
+import resource
 import struct
 import threading
 import time
@@ -25,11 +26,12 @@ def goes_on(what, host):
 def free(it):
     """A host of the device, once it is free again."""
     for _ in range(200):
-        if not (host := Host(it)).status:
-            return host
-        host.close()
+        with contextlib.suppress(struct.error, ConnectionResetError):
+            if not (host := Host(it)).status:
+                return host
+            host.close()
         time.sleep(0.02)
-    return same("a device that is free again", host.status, 0)
+    return same("a device that is free again", False, True)
 
 
 def others_beside_a_host():
@@ -39,12 +41,11 @@ def others_beside_a_host():
         goes_on("a host", host)
         for message, length, wanted in ((LIST, 12, "011100050000000000000001"), (IMPORT + b"1-1".ljust(32, b"\0"), 8, "0111000300000002"), (IMPORT + b"1-2".ljust(32, b"\0"), 8, "0111000300000004"),
                                         (b"GET / HTTP/1.1\r\n\r\n", 1, ""), (bytes(100_000), 1, ""), (b"\x01\x11\x80\x04\0\0\0\0", 1, ""), (b"\x01\x06\x80\x05\0\0\0\0", 1, "")):
-            stray = connected(it.port)
-            stray.sendall(message)
-            try:
-                same("strays", taken(stray, length).hex(), wanted)
-            except ConnectionResetError:
-                same("strays", "", wanted)
+            stray, came = connected(it.port), b""
+            with contextlib.suppress(ConnectionResetError, BrokenPipeError):
+                stray.sendall(message)
+                came = taken(stray, length)
+            same("strays", came.hex(), wanted)
             goes_on("a host beside strays", host)
             reset_by_peer(stray)
         reset_by_peer(connected(it.feed))
@@ -211,6 +212,13 @@ def many():
         for link in idle:
             reset_by_peer(link)
         host.close()
+        host = free(it)
+        # Where no file is left for another connection, those that there are go on.
+        resource.prlimit(it.program.pid, resource.RLIMIT_NOFILE, (32, 32))
+        idle = [connected(it.port) for _ in range(40)]
+        goes_on("beside connections that can't be taken", host)
+        for link in [*idle, host.link]:
+            link.close()
         free(it).close()
 
 

@@ -134,14 +134,16 @@ def own(text, *words):
     return file, served(MOUSE, *words, program=(file.name,))
 
 
-THREADED = """import threading
+THREADED = """import sys, threading
+sys.setswitchinterval(0.000001)
+
 class Mine(usbip.Owner):
     def received(self, endpoint, data):
         threading.Thread(target=self.run).start()
 
     def run(self):
-        for number in range(1000):
-            self.send(0x81, b"%04d" % number)
+        for number in range(200):
+            self.send(0x81, b"%04d" % number * 4096)
 """
 
 
@@ -160,10 +162,11 @@ def owners():
     with file, program as it:
         host = Host(it)
         host.control("0009010000000000")
-        for _ in range(4):
-            host.write(2, b"go")
-        came = [host.read(1, 4).decode() for _ in range(4000)]
-        same("sends of threads", sorted(came), sorted(4 * [f"{number:04}" for number in range(1000)]))
+        for _ in range(800):
+            host.submit(1, 16_384)
+        host.outs = [host.submit(2, 2, data=b"go") for _ in range(4)]
+        came = [host.returned() for _ in range(804)]
+        same("sends of threads", sorted(data for _, status, data in came if not status and data != 2), sorted(4 * [b"%04d" % number * 4096 for number in range(200)]))
     file, program = own("class Mine(usbip.Owner):\n    def received(self, endpoint, data):\n        raise ValueError('mine')")
     it = program.__enter__()
     with file:

@@ -55,7 +55,8 @@ class Served:
         until = time.monotonic() + SECONDS
         while (found := re.search(pattern, self.text())) is None:
             if time.monotonic() > until or self.program.poll() is not None:
-                same("what is printed", self.text() + self.program.stderr.read1().decode(), pattern)
+                self.program.kill()
+                same("what is printed", self.text() + self.program.stderr.read().decode(), pattern)
             time.sleep(0.01)
         return found
 
