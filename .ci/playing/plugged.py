@@ -157,7 +157,7 @@ def owner_of(name):
 
 def anything(name, cases):
     """An owner of the examples takes whatever a host sends: no exception, and the device goes on."""
-    lot = random.Random(54)
+    lot = random.Random(1)
     plug = usbip.Plug(file_of(EXAMPLES[name]), owner_of(name), "high", tell=quiet)
     starts = (b"", b"USBC\1\0\0\0\0\2\0\0", b"\1\0\0\0", b"\2\0\0\0\x18\0\0\0\1\0\0\0", b"\1\0\0\0" + bytes(52) + b"\x08\0\x45", b"\1\0\0\0" + bytes(52) + b"\x08\x06\0\1\x08\0\6\4\0\1")
     for _ in range(cases):
@@ -170,7 +170,7 @@ def anything(name, cases):
 
 def garbage(cases):
     """Clients whose messages have any fields: each is answered or refused, with no other exception."""
-    lot, refusals = random.Random(55), 0
+    lot, refusals = random.Random(2), 0
     few = (0, 1, 2, 8, 9, 64, 1 << 20, (1 << 20) + 1, 1 << 31, (1 << 32) - 1)
     plug = usbip.Plug(bytes_of(MOUSE), usbip.Answers(MOUSE_ANSWERS), "high", tell=quiet)
     for _ in range(cases):
