@@ -155,6 +155,8 @@ def run(words, given, names):
     device, host = Device(File(data)), Host(**{name: int(text) for name, text in options.items()})
     if "--log" in words:
         lines = Log(device, host, fates).lines
+        if "--brief" in words:
+            lines = [line for line in lines if not line.startswith(" ")]
     else:
         lines = enumerate_device(device, host, fates) and []
     if host.outcome:

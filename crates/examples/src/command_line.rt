@@ -4,7 +4,7 @@ use anyhow::{Result, bail};
 use std::alloc::Global;
 use usb_tool::{
     Checking, EnumerateFlags, Explaining, Fate, Line, Options, manner_of, read_fates, read_line,
-    read_running_speed, read_speed, settings_of,
+    read_running_speed, read_speed, settings_with,
 };
 
 /// The words of the program, its name first.
@@ -99,13 +99,24 @@ fn texts<'a>(options: &Options<'a>) -> [(&'static str, Option<&'a str>); 5] {
 
 /// The flags of an enumeration that are given, each after a space.
 fn said(flags: EnumerateFlags) -> &'static str {
-    match (flags.log, flags.with_strings) {
-        (false, false) => "",
-        (true, false) => " log",
-        (false, true) => " with-strings",
-        (true, true) => " log with-strings",
+    match (flags.log, flags.brief, flags.with_strings) {
+        (false, false, false) => "",
+        (true, false, false) => " log",
+        (false, true, false) => " brief",
+        (true, true, false) => " log brief",
+        (false, false, true) => " with-strings",
+        (true, false, true) => " log with-strings",
+        (false, true, true) => " brief with-strings",
+        (true, true, true) => " log brief with-strings",
     }
 }
+
+/// No flag of an enumeration.
+const NO_FLAGS: EnumerateFlags = EnumerateFlags {
+    log: false,
+    brief: false,
+    with_strings: false,
+};
 
 /// The command with the options that are given; a flag has no text.
 fn with_options(alloc: Global, command: &str, options: &[(&str, Option<&str>)]) -> Result<String> {
@@ -183,11 +194,11 @@ fn listed(alloc: Global, fates: &[Fate]) -> Result<String> {
 pub(crate) fn settings(alloc: Global, words: &[String]) -> Result<String> {
     let words = line_of(alloc, words)?;
     let (options, flags) = match read_line(alloc, &words) {
-        Ok(Line::Enumerate(options)) => (options, ""),
-        Ok(Line::EnumerateWith(options, flags)) => (options, said(flags)),
+        Ok(Line::Enumerate(options)) => (options, NO_FLAGS),
+        Ok(Line::EnumerateWith(options, flags)) => (options, flags),
         _ => bail!("no enumeration"),
     };
-    let settings = match settings_of(alloc, &options) {
+    let settings = match settings_with(alloc, &options, flags) {
         Ok(settings) => settings,
         Err(fault) => return Ok(format!(in alloc; "{} {fault}", fault.status())?),
     };
@@ -199,5 +210,5 @@ pub(crate) fn settings(alloc: Global, words: &[String]) -> Result<String> {
         limits.naks(),
         limits.attempts()
     )?;
-    Ok(format!(in alloc; "{}{flags}", told.as_str().trim_end())?)
+    Ok(format!(in alloc; "{}{}", told.as_str().trim_end(), said(flags))?)
 }

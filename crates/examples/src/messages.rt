@@ -93,13 +93,14 @@ const LIMIT_FAULTS: [LimitFault; 2] = [LimitFault::Address, LimitFault::Attempts
 const FATES_FAULTS: [FatesFault; 2] = [FatesFault::Letter, FatesFault::Memory];
 
 /// Why the options of `enumerate` are refused.
-const SETTINGS_FAULTS: [SettingsFault; 6] = [
+const SETTINGS_FAULTS: [SettingsFault; 7] = [
     SettingsFault::Number,
     SettingsFault::Speed,
     SettingsFault::Fates,
     SettingsFault::Memory,
     SettingsFault::SpeedAlone,
     SettingsFault::ToTerminal,
+    SettingsFault::BriefAlone,
 ];
 
 /// All that can go wrong in a transfer.

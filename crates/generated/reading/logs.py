@@ -97,7 +97,7 @@ def filled(columns):
     return "".join(words.ljust(width - 1) + " " for words, width in zip(columns, WIDTHS))
 
 
-def transaction_lines(device, host, number, fate):
+def transaction_lines(device, host, number, fate, brief):
     """One transaction: its line, and another one where the attempt is given up."""
     before = copy.copy(host.transfer)
     token = before.token()
@@ -115,10 +115,10 @@ def transaction_lines(device, host, number, fate):
     columns.append(host_words(before, after, came, why, host.outcome))
     cause = why if host.due == "reset" else host.outcome
     given_up = f"attempt {host.resets} given up: {MESSAGES[cause]}\n" if cause else ""
-    return filled(columns) + device_words(device) + "\n" + data_lines(packet) + given_up
+    return filled(columns) + device_words(device) + "\n" + ("" if brief else data_lines(packet)) + given_up
 
 
-def steps(device, host, fates):
+def steps(device, host, fates, brief):
     """What each step of an enumeration writes, and its end."""
     number, begun = 0, None
     while host.due != "ended":
@@ -132,6 +132,6 @@ def steps(device, host, fates):
         begun = host.transfer
         fate = fates[number] if number < len(fates) else "."
         number += 1
-        yield line + transaction_lines(device, host, number, fate)
+        yield line + transaction_lines(device, host, number, fate, brief)
     used = fates[:number]
     yield f"fates: losses {sum(fate in 'dua' for fate in used)}, busy {sum(fate == 'n' for fate in used)}\n"

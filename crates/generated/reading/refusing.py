@@ -296,7 +296,7 @@ def refused_or_listed(b):
     return ((1, line + "\n", ""), None) if line else (None, listing_of("file", b))
 
 
-def enumeration(b, fates="", naks=16, attempts=3, is_logged=False):
+def enumeration(b, fates="", naks=16, attempts=3, word="enumerate"):
     """The status, the texts that are written one after another, and the line of the fault."""
     answer, listing = refused_or_listed(b)
     if answer:
@@ -304,8 +304,8 @@ def enumeration(b, fates="", naks=16, attempts=3, is_logged=False):
         return status, [text] if text else [], fault
     device, host = Device(DeviceFile(b)), Host("full", 1, naks, attempts)
     texts = []
-    if is_logged:
-        texts = list(logs.steps(device, host, fates))
+    if word != "enumerate":
+        texts = list(logs.steps(device, host, fates, word == "brief"))
     else:
         enumerate_device(device, host, fates)
     if host.outcome:
@@ -335,7 +335,7 @@ def texts(command, b):
     if command in COMMANDS:
         status, output, errors = COMMANDS[command](b)
         return status, [output], errors
-    status, written, errors = enumeration(b, LOST, is_logged=True) if command == "log" else enumeration(b)
+    status, written, errors = enumeration(b, LOST, word="log") if command == "log" else enumeration(b)
     return status, [text.encode() for text in written], errors
 
 

@@ -61,7 +61,7 @@ DEVICES = {
     "mouse-64": ["anything", "lies", *TALKS, "enumerate-five-0-1", "enumerate-five-2-2", "enumerate-long-2-2", "enumerate-far-65535-1", "log-far-65535-1"],
     "mouse-8": ["lies", *TALKS, *SHORT],
     "everything": ["lies", "long", "enumerate-long-1-3", "log-long-1-3"],
-    "real-mouse": ["enumerate-given-16-3", "log-given-16-3"],
+    "real-mouse": ["enumerate-given-16-3", "log-given-16-3", "brief-given-16-3"],
 }
 
 
@@ -125,14 +125,14 @@ def told(*answers, title=""):
 def runs(word, rest, b):
     """Talks, or enumerations by the command of this word."""
     name, naks, attempts = rest.split("-")
-    for fates in lists.named(name, 4 if word in ("enumerate", "log") else 3):
+    for fates in lists.named(name, 4 if word in ("enumerate", "log", "brief") else 3):
         if word == "answered":
             yield from ((line.encode(), [kind]) for line, kind in talks.answered(b, fates, int(naks)))
         elif word in ("talk", "written"):
             line, kind = {"talk": talks.case, "written": talks.written}[word](b, fates, int(naks))
             yield line.encode(), [kind]
         else:
-            status, texts, errors = refusing.enumeration(b, fates, int(naks), int(attempts), word == "log")
+            status, texts, errors = refusing.enumeration(b, fates, int(naks), int(attempts), word)
             yield told((word, status, "".join(texts).encode(), errors))
 
 

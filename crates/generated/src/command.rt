@@ -25,6 +25,14 @@ const WHOLE: Manner = Manner {
 /// With a log.
 const LOGGED: EnumerateFlags = EnumerateFlags {
     log: true,
+    brief: false,
+    with_strings: false,
+};
+
+/// With a brief log.
+const BRIEF: EnumerateFlags = EnumerateFlags {
+    log: true,
+    brief: true,
     with_strings: false,
 };
 
@@ -46,6 +54,8 @@ pub(crate) enum Command {
     Enumerate,
     /// The same with its log.
     Log,
+    /// The same with a brief log.
+    Brief,
 }
 
 impl Command {
@@ -61,6 +71,7 @@ impl Command {
             "build_commented" => Some(Command::BuildCommented),
             "enumerate" => Some(Command::Enumerate),
             "log" => Some(Command::Log),
+            "brief" => Some(Command::Brief),
             _ => None,
         }
     }
@@ -77,6 +88,7 @@ impl Command {
             Command::BuildCommented => "build_commented",
             Command::Enumerate => "enumerate",
             Command::Log => "log",
+            Command::Brief => "brief",
         }
     }
 
@@ -112,6 +124,7 @@ impl Command {
             Command::BuildCommented => run_build_commented(alloc, r, w),
             Command::Enumerate => run_enumerate(alloc, r, w, limits, speed, fates),
             Command::Log => run_enumerate_with(alloc, r, w, limits, speed, fates, LOGGED),
+            Command::Brief => run_enumerate_with(alloc, r, w, limits, speed, fates, BRIEF),
         }
     }
 

@@ -120,7 +120,7 @@ impl Bus {
     ) -> Result<Option<Outcome>> {
         let limits = Limits::new(1, self.naks, 3)?;
         let mut log = Vec::new(alloc);
-        let run = enumerate_logged(alloc, description, limits, fates, &mut log)?;
+        let run = enumerate_logged(alloc, description, limits, fates, false, &mut log)?;
         self.log = String::from_utf8(log)?;
         let text = end_text(alloc, run.outcome.err(), run.attempts, run.transactions)?;
         Ok(Some(Outcome::Text(text)))

@@ -6,7 +6,7 @@ use Rattle.usb_file_data.specs.declared.file.DescriptorFile.{DescriptorFile}
 use Rattle.usb_text.specs.Output.{Held}
 use Rattle.usb_text.proofs.Pages.{appends_more, appends_nothing, keeps_refl}
 use Rattle.std.specs.Option.{is_some}
-use Rattle.std.specs.Prelude.{◌⊎◌, Bool, true}
+use Rattle.std.specs.Prelude.{◌⊎◌, Bool, eqb, not, true}
 use Rattle.usb_fields.specs.Packets.{Reply, Sent}
 use Rattle.usb_host.specs.Transfer.{TransferView, due}
 use Rattle.usb_host.specs.declared.step.Step.{Step}
@@ -28,21 +28,25 @@ use Rattle.usb_bus.specs.inside.Running.{AllWork, StepWork, Breaks, Leads, Walks
 use Rattle.usb_bus.specs.declared.enumeration.Run.{Run}
 use Rattle.usb_text.specs.declared.output.OutFault.{OutFault}
 
+-- a log is brief, by the constant of its type
+abbrev pub is_brief : ℕ → Bool
+is_brief n = not (eqb n 0)
+
 -- a transfer wants no reset
 no_reset : (o : Option Sent) → sends o ≡ WantsReset → ⊥
 no_reset None e = absurd (cc)
 no_reset (Some sent) e = absurd (cc)
 
 -- what was seen of a transaction, and what both ends have then, are its lines
-seen_lines : (size number : ℕ) (fate : Fate) (step : Step) (t : TransferView) (answer : Reply) (y : Pair) (lines packet : List ℕ) (why : Option Why)
-    → HasSeen number fate (Some step) (Some t) answer y.host.phase [] lines packet why
-    → done_lines size true lines packet why y.host y.device ≡ lines_with size number fate (Some step) (Some t) answer y
+seen_lines : (brief : Bool) (size number : ℕ) (fate : Fate) (step : Step) (t : TransferView) (answer : Reply) (y : Pair) (lines packet : List ℕ) (why : Option Why)
+    → HasSeen brief number fate (Some step) (Some t) answer y.host.phase [] lines packet why
+    → done_lines size true lines packet why y.host y.device ≡ lines_with brief size number fate (Some step) (Some t) answer y
 unfolding exchange_lines
-seen_lines size number fate step t answer y lines packet why (put, held, cause) =
+seen_lines brief size number fate step t answer y lines packet why (put, held, cause) =
     let before = transfer_part step t in
     let part = answered_part number fate t answer y.host.phase in
     let device = device_words size y.device in
-    let below = data_below (data_of (due t) answer) in
+    let below = data_below brief (data_of (due t) answer) in
     let last = given_up_part y.host.resets (cause_of t (brought fate answer) y.host.phase) in
     rw (put, held, cause)
     (ap (λ l. l ++ below ++ last) (append_assoc before part device)
@@ -50,42 +54,42 @@ seen_lines size number fate step t answer y lines packet why (put, held, cause) 
     ∙ append_assoc before (part ++ device ++ below) last)
 
 -- The lines of a step are those with the answer that was seen.
-lines_at : (f : DescriptorFile) (fates : List Fate) (d : DeviceView) (y : Pair) (phase : HostPhase) (n now : ℕ) (lines packet : List ℕ) (why : Option Why)
+lines_at : (brief : Bool) (f : DescriptorFile) (fates : List Fate) (d : DeviceView) (y : Pair) (phase : HostPhase) (n now : ℕ) (lines packet : List ℕ) (why : Option Why)
     → (wanted phase ≡ WantsReset)
     ⊎ ((sent : Sent) × (wanted phase ≡ WantsSent sent) × (now ≡ suc n)
-    × HasSeen now (fate_at fates n) (step_in phase) (transfer_in phase) (answered f d sent (fate_at fates n)) y.host.phase [] lines packet why)
+    × HasSeen brief now (fate_at fates n) (step_in phase) (transfer_in phase) (answered f d sent (fate_at fates n)) y.host.phase [] lines packet why)
     → done_lines f.device.packet (is_some (transfer_in phase)) lines packet why y.host y.device
-    ≡ lines_with f.device.packet now (fate_at fates (now - 1)) (step_in phase) (transfer_in phase) (answered_in f d (wanted phase) (fate_at fates (now - 1))) y
-lines_at f fates d y ResetDue n now lines packet why by = refl
-lines_at f fates d y (Ended place) n now lines packet why by = refl
-lines_at f fates d y (Reading place t k) n now lines packet why (inl reset) = absurd (no_reset (due t) reset)
-lines_at f fates d y (Reading place t k) n now lines packet why (inr (sent, wants, number, seen)) =
+    ≡ lines_with brief f.device.packet now (fate_at fates (now - 1)) (step_in phase) (transfer_in phase) (answered_in f d (wanted phase) (fate_at fates (now - 1))) y
+lines_at brief f fates d y ResetDue n now lines packet why by = refl
+lines_at brief f fates d y (Ended place) n now lines packet why by = refl
+lines_at brief f fates d y (Reading place t k) n now lines packet why (inl reset) = absurd (no_reset (due t) reset)
+lines_at brief f fates d y (Reading place t k) n now lines packet why (inr (sent, wants, number, seen)) =
     let before : now - 1 ≡ n = omega arith in
     let same : answered_in f d (wanted (Reading place t k)) (fate_at fates (now - 1)) ≡ answered f d sent (fate_at fates n) = rw (before, wants) refl in
     let at : fate_at fates (now - 1) ≡ fate_at fates n = ap (fate_at fates) before in
-    seen_lines f.device.packet now (fate_at fates n) (step_of place) t (answered f d sent (fate_at fates n)) y lines packet why seen
-    ∙ ap (λ a. lines_with f.device.packet now (fate_at fates n) (Some (step_of place)) (Some t) a y) (sym same)
-    ∙ ap (λ fate. lines_with f.device.packet now fate (Some (step_of place)) (Some t) (answered_in f d (wanted (Reading place t k)) (fate_at fates (now - 1))) y) (sym at)
+    seen_lines brief f.device.packet now (fate_at fates n) (step_of place) t (answered f d sent (fate_at fates n)) y lines packet why seen
+    ∙ ap (λ a. lines_with brief f.device.packet now (fate_at fates n) (Some (step_of place)) (Some t) a y) (sym same)
+    ∙ ap (λ fate. lines_with brief f.device.packet now fate (Some (step_of place)) (Some t) (answered_in f d (wanted (Reading place t k)) (fate_at fates (now - 1))) y) (sym at)
 
 -- by what is known of each part of it
-pub step_put : (f : DescriptorFile) (fates : List Fate) (x y : Pair) (n now number size : ℕ) (fate : Fate) (is : Bool) (step : Option Step) (transfer : Option TransferView)
+pub step_put : (brief : Bool) (f : DescriptorFile) (fates : List Fate) (x y : Pair) (n now number size : ℕ) (fate : Fate) (is : Bool) (step : Option Step) (transfer : Option TransferView)
     (old lines packet : List ℕ) (why : Option Why) (text : List ℕ) → Moves f fates x n y now
     → ((sent : Sent) → wanted x.host.phase ≡ WantsSent sent
-    → HasSeen number fate step transfer (answered f x.device sent (fate_at fates n)) y.host.phase old lines packet why)
+    → HasSeen brief number fate step transfer (answered f x.device sent (fate_at fates n)) y.host.phase old lines packet why)
     → text ≡ done_lines size is lines packet why y.host y.device → is ≡ is_some (transfer_in x.host.phase) → old ≡ [] → size ≡ f.device.packet → fate ≡ fate_at fates n
-    → (now ≡ suc n → number ≡ now) → step ≡ step_in x.host.phase → transfer ≡ transfer_in x.host.phase → text ≡ step_lines f fates now x y
-step_put f fates x y n now number size fate is step transfer old lines packet why text (inl (r, e)) seen put kind none of at count in_work before =
-    put ∙ rw (of, kind) (lines_at f fates x.device y x.host.phase n now lines packet why (inl r.due))
-step_put f fates x y n now number size fate is step transfer old lines packet why text (inr (t, e)) seen put kind none of at count in_work before =
+    → (now ≡ suc n → number ≡ now) → step ≡ step_in x.host.phase → transfer ≡ transfer_in x.host.phase → text ≡ step_lines brief f fates now x y
+step_put brief f fates x y n now number size fate is step transfer old lines packet why text (inl (r, e)) seen put kind none of at count in_work before =
+    put ∙ rw (of, kind) (lines_at brief f fates x.device y x.host.phase n now lines packet why (inl r.due))
+step_put brief f fates x y n now number size fate is step transfer old lines packet why text (inr (t, e)) seen put kind none of at count in_work before =
     let was = seen t.sent t.due in
     let counted = count e in
-    put ∙ rw (of, kind) (lines_at f fates x.device y x.host.phase n now lines packet why
+    put ∙ rw (of, kind) (lines_at brief f fates x.device y x.host.phase n now lines packet why
     (inr (
       t.sent,
       t.due,
       e,
       rw (sym counted, sym at, sym none, sym in_work, sym before)
-          (subst (λ u. HasSeen number fate step transfer (answered f x.device t.sent u) y.host.phase old lines packet why) (sym at) was),
+          (subst (λ u. HasSeen brief number fate step transfer (answered f x.device t.sent u) y.host.phase old lines packet why) (sym at) was),
     )))
 
 -- the count before a step
@@ -107,27 +111,27 @@ module _ {W : Type 0} (f : DescriptorFile) (speed : Speed) (limits : LimitView) 
   }
 
 -- the lines of all steps are the log
-pub log_written : {W : Type 0} (contents : W → Held) (f : DescriptorFile) (fates : List Fate) (earlier : List Pair) (n : ℕ) (last : Pair) (from to : W)
-    → AllWork (λ x y m a b. Appends (contents a) (contents b) (step_lines f fates m x y)) earlier n last from to
-    → Appends (contents from) (contents to) (log_text f fates earlier n last)
+pub log_written : {W : Type 0} (brief : Bool) (contents : W → Held) (f : DescriptorFile) (fates : List Fate) (earlier : List Pair) (n : ℕ) (last : Pair) (from to : W)
+    → AllWork (λ x y m a b. Appends (contents a) (contents b) (step_lines brief f fates m x y)) earlier n last from to
+    → Appends (contents from) (contents to) (log_text brief f fates earlier n last)
 unfolding log_text
-log_written contents f fates [] n last from to same =
+log_written brief contents f fates [] n last from to same =
     appends_nothing (contents from) (contents to) (subst (λ w. Keeps (contents from) (contents w)) (sym same) (keeps_refl (contents from)))
-log_written contents f fates (x ∷ earlier) n last from to (mid, before, step) =
+log_written brief contents f fates (x ∷ earlier) n last from to (mid, before, step) =
     appends_more (contents from) (contents mid) (contents to) _ _
-    (log_written contents f fates earlier (count_before (wanted x.host.phase) n) x from mid before) step
+    (log_written brief contents f fates earlier (count_before (wanted x.host.phase) n) x from mid before) step
 
 -- of a run that ended, and of one that was broken
-module _ {W : Type 0} (contents : W → Held) (f : DescriptorFile) (speed : Speed) (limits : LimitView) (fates : List Fate) (from to : W) where
+module _ {W : Type 0} (brief : Bool) (contents : W → Held) (f : DescriptorFile) (speed : Speed) (limits : LimitView) (fates : List Fate) (from to : W) where
   abbrev writes : StepWork W
-  writes x y n a b = Appends (contents a) (contents b) (step_lines f fates n x y)
+  writes x y n a b = Appends (contents a) (contents b) (step_lines brief f fates n x y)
 
   abbrev cuts : OutFault → StepWork W
-  cuts fault x y n a b = CutsOff fault (contents a) (contents b) (step_lines f fates n x y)
+  cuts fault x y n a b = CutsOff fault (contents a) (contents b) (step_lines brief f fates n x y)
 
   -- the log of a run that has ended
   abbrev ended : (run : Run) (w : Walks f speed limits fates writes from to run)
-      → IsLogOf f speed limits fates run (log_text f fates w.leads.earlier run.transactions w.last ++ tally_line (fates_used fates run.transactions))
+      → IsLogOf brief f speed limits fates run (log_text brief f fates w.leads.earlier run.transactions w.last ++ tally_line (fates_used fates run.transactions))
   ended run w = record {
     earlier = w.leads.earlier;
     last = w.last;
@@ -139,25 +143,25 @@ module _ {W : Type 0} (contents : W → Held) (f : DescriptorFile) (speed : Spee
   }
 
   pub log_of : (run : Run) (holds : Held) → Walks f speed limits fates writes from to run
-      → Appends (contents to) holds (tally_line (fates_used fates run.transactions)) → WritesLog f speed limits fates (contents from) holds run
+      → Appends (contents to) holds (tally_line (fates_used fates run.transactions)) → WritesLog brief f speed limits fates (contents from) holds run
   log_of run holds w last = record {
-    log = log_text f fates w.leads.earlier run.transactions w.last ++ tally_line (fates_used fates run.transactions);
+    log = log_text brief f fates w.leads.earlier run.transactions w.last ++ tally_line (fates_used fates run.transactions);
     of_run = ended run w;
-    written = appends_more (contents from) (contents to) holds _ _ (log_written contents f fates w.leads.earlier run.transactions w.last from to w.leads.work) last;
+    written = appends_more (contents from) (contents to) holds _ _ (log_written brief contents f fates w.leads.earlier run.transactions w.last from to w.leads.work) last;
   }
 
   pub log_unended : (fault : OutFault) (run : Run) (holds : Held) → Walks f speed limits fates writes from to run
-      → CutsOff fault (contents to) holds (tally_line (fates_used fates run.transactions)) → WritesLogLess f speed limits fates (contents from) holds fault
+      → CutsOff fault (contents to) holds (tally_line (fates_used fates run.transactions)) → WritesLogLess brief f speed limits fates (contents from) holds fault
   log_unended fault run holds w cut = inr (record {
     run = run;
-    log = log_text f fates w.leads.earlier run.transactions w.last ++ tally_line (fates_used fates run.transactions);
+    log = log_text brief f fates w.leads.earlier run.transactions w.last ++ tally_line (fates_used fates run.transactions);
     of_run = ended run w;
     between = contents to;
-    logged = log_written contents f fates w.leads.earlier run.transactions w.last from to w.leads.work;
+    logged = log_written brief contents f fates w.leads.earlier run.transactions w.last from to w.leads.work;
     written = cut;
   })
 
-  pub log_less : (fault : OutFault) → Breaks f speed limits fates writes (cuts fault) from to → WritesLogLess f speed limits fates (contents from) (contents to) fault
+  pub log_less : (fault : OutFault) → Breaks f speed limits fates writes (cuts fault) from to → WritesLogLess brief f speed limits fates (contents from) (contents to) fault
   log_less fault b = inl (record {
     earlier = b.leads.earlier;
     before = b.before;
@@ -167,6 +171,6 @@ module _ {W : Type 0} (contents : W → Held) (f : DescriptorFile) (speed : Spee
     now = b.now;
     moves = b.moves;
     between = contents b.mid;
-    logged = log_written contents f fates b.leads.earlier b.transactions b.before from b.mid b.leads.work;
+    logged = log_written brief contents f fates b.leads.earlier b.transactions b.before from b.mid b.leads.work;
     written = b.broken;
   })

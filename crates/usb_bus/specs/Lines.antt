@@ -1,5 +1,5 @@
 -- The lines of a log.
-use Rattle.std.specs.Prelude.{ℕ, List, [], ◌++◌, ◌-◌, ◌/◌, ◌%◌, ◌==◌, ◌&&◌, nat_lt, codes, if◌then◌else◌, suc, ◌∷◌, length, Bool, true, false, Option, Some, None}
+use Rattle.std.specs.Prelude.{not, ℕ, List, [], ◌++◌, ◌-◌, ◌/◌, ◌%◌, ◌==◌, ◌&&◌, nat_lt, codes, if◌then◌else◌, suc, ◌∷◌, length, Bool, true, false, Option, Some, None}
 use Rattle.std.specs.Fmt.{decimal}
 use Rattle.usb_fields.specs.declared.setup.Setup.{Setup as SetupPacket}
 use Rattle.usb_text.specs.Numbers.{byte_code, count, word_code}
@@ -215,10 +215,10 @@ rows_below room (byte ∷ bytes) =
     if room == 0 then codes "\n                       " ++ encode_lower (byte ∷ []) ++ rows_below 15 bytes
     else encode_lower (byte ∷ []) ++ rows_below (room - 1) bytes
 
--- the end of a transaction's line, and below it the data of more than 8 bytes
-abbrev pub data_below : Option (List ℕ) → List ℕ
-data_below None = codes "\n"
-data_below (Some bytes) = if nat_lt 8 (length bytes) then rows_below 0 bytes else codes "\n"
+-- the end of a transaction's line, and below it the data of more than 8 bytes, which a brief log leaves out
+abbrev pub data_below : Bool → Option (List ℕ) → List ℕ
+data_below brief None = codes "\n"
+data_below brief (Some bytes) = if not brief && nat_lt 8 (length bytes) then rows_below 0 bytes else codes "\n"
 
 -- an attempt is given up, for this reason
 unfoldable pub given_up_line : ℕ → Why → List ℕ

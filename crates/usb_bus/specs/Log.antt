@@ -1,5 +1,5 @@
 -- The log of a run: the lines of its steps, and one that counts losses.
-use Rattle.std.specs.Prelude.{◌≡◌, ℕ, ◌-◌, ◌⊎◌, List, [], ◌∷◌, ◌++◌, Option, Some, if◌then◌else◌}
+use Rattle.std.specs.Prelude.{◌≡◌, ℕ, ◌-◌, ◌⊎◌, List, [], ◌∷◌, ◌++◌, Bool, Option, Some, if◌then◌else◌}
 use Rattle.std.specs.Io.KnownBytes.{Appends, Keeps}
 use Rattle.usb_fields.specs.declared.packet.Speed.{Speed}
 use Rattle.usb_file_data.specs.declared.file.DescriptorFile.{DescriptorFile}
@@ -36,25 +36,26 @@ answered_part number fate t answer phase =
     packets_part number fate (due t) answer ++ host_part t (brought fate answer) (trouble_why (outcome_of phase))
 
 -- The line of a transaction: its packets, its data, what the host has then, and what the device has. Below it are data of
--- more than 8 bytes, and a line where the attempt is given up. This was the host's transfer before it, this the device's
+-- more than 8 bytes, unless the log is brief, and a line where the attempt is given up. This was the host's transfer before it, this the device's
 -- answer, and so both ends are after it; the device's packets have this size.
-unfoldable pub exchange_lines : ℕ → ℕ → Fate → TransferView → Reply → Pair → List ℕ
-exchange_lines packet number fate t answer after =
+unfoldable pub exchange_lines : Bool → ℕ → ℕ → Fate → TransferView → Reply → Pair → List ℕ
+exchange_lines brief packet number fate t answer after =
     answered_part number fate t answer after.host.phase
-    ++ device_words packet after.device ++ data_below (data_of (due t) answer)
+    ++ device_words packet after.device ++ data_below brief (data_of (due t) answer)
     ++ given_up_part after.host.resets (cause_of t (brought fate answer) after.host.phase)
 
 -- The lines of a step: a transaction where a transfer is under way, with this answer, and else a bus reset.
-abbrev pub lines_with : ℕ → ℕ → Fate → Option Step → Option TransferView → Reply → Pair → List ℕ
-lines_with packet number fate (Some step) (Some t) answer after = transfer_part step t ++ exchange_lines packet number fate t answer after
-lines_with packet number fate step transfer answer after = reset_line after.host.resets
+abbrev pub lines_with : Bool → ℕ → ℕ → Fate → Option Step → Option TransferView → Reply → Pair → List ℕ
+lines_with brief packet number fate (Some step) (Some t) answer after =
+    transfer_part step t ++ exchange_lines brief packet number fate t answer after
+lines_with brief packet number fate step transfer answer after = reset_line after.host.resets
 
 -- the same of a step from one pair to the next, after which there were so many transactions
-abbrev pub step_lines : DescriptorFile → List Fate → ℕ → Pair → Pair → List ℕ
-step_lines f fates n before after =
+abbrev pub step_lines : Bool → DescriptorFile → List Fate → ℕ → Pair → Pair → List ℕ
+step_lines brief f fates n before after =
     let fate = fate_at fates (n - 1) in
     let wants = wanted before.host.phase in
-    lines_with f.device.packet n fate (step_in before.host.phase) (transfer_in before.host.phase) (answered_in f before.device wants fate) after
+    lines_with brief f.device.packet n fate (step_in before.host.phase) (transfer_in before.host.phase) (answered_in f before.device wants fate) after
 
 -- how many transactions there were before a step that the host wanted, where there are n after it
 abbrev pub count_before : Wanted → ℕ → ℕ
@@ -65,25 +66,25 @@ count_before WantsNothing n = n
 -- The log of a run of n transactions over these pairs, the newest first, up to its last line: a line of headings, a line for each
 -- reset and each transaction, in their order, before the first transaction of a transfer a line of that, and after the last one of an attempt
 -- that is given up a line of that.
-unfoldable pub log_text : DescriptorFile → List Fate → List Pair → ℕ → Pair → List ℕ
-log_text f fates [] n last = []
-log_text f fates (x ∷ earlier) n last =
-    log_text f fates earlier (count_before (wanted x.host.phase) n) x ++ step_lines f fates n x last
+unfoldable pub log_text : Bool → DescriptorFile → List Fate → List Pair → ℕ → Pair → List ℕ
+log_text brief f fates [] n last = []
+log_text brief f fates (x ∷ earlier) n last =
+    log_text brief f fates earlier (count_before (wanted x.host.phase) n) x ++ step_lines brief f fates n x last
 
 -- this run has ended, with what `run` says, and this is its log
-pub record IsLogOf (f : DescriptorFile) (speed : Speed) (limits : LimitView) (fates : List Fate) (run : Run) (log : List ℕ) : Type 0 where
+pub record IsLogOf (brief : Bool) (f : DescriptorFile) (speed : Speed) (limits : LimitView) (fates : List Fate) (run : Run) (log : List ℕ) : Type 0 where
   pub earlier : List Pair
   pub last : Pair
   pub runs : Runs f fates (new_pair limits speed) earlier run.transactions last
   pub attempts : last.host.resets ≡ run.attempts
   pub outcome : outcome_of last.host.phase ≡ Some run.outcome
   pub state : last.device.state ≡ run.state
-  pub text : log ≡ log_text f fates earlier run.transactions last ++ tally_line (fates_used fates run.transactions)
+  pub text : log ≡ log_text brief f fates earlier run.transactions last ++ tally_line (fates_used fates run.transactions)
 
 -- the log of that run was written
-pub record WritesLog (f : DescriptorFile) (speed : Speed) (limits : LimitView) (fates : List Fate) (held holds : Held) (run : Run) : Type 0 where
+pub record WritesLog (brief : Bool) (f : DescriptorFile) (speed : Speed) (limits : LimitView) (fates : List Fate) (held holds : Held) (run : Run) : Type 0 where
   pub log : List ℕ
-  pub of_run : IsLogOf f speed limits fates run log
+  pub of_run : IsLogOf brief f speed limits fates run log
   pub written : Appends held holds log
 
 -- what was written of lines: they are cut off before their last byte, and if an allocation failed, nothing
@@ -92,7 +93,7 @@ CutsOff outs.Write held holds lines = AppendsLess held holds lines
 CutsOff outs.Memory held holds lines = Keeps held holds
 
 -- The log of a run so far was written. Then a step was made, which leads from `before` to `last`, and its lines were cut off.
-pub record WritesStepsLess (f : DescriptorFile) (speed : Speed) (limits : LimitView) (fates : List Fate) (held holds : Held) (fault : OutFault) : Type 0 where
+pub record WritesStepsLess (brief : Bool) (f : DescriptorFile) (speed : Speed) (limits : LimitView) (fates : List Fate) (held holds : Held) (fault : OutFault) : Type 0 where
   pub earlier : List Pair
   pub before : Pair
   pub transactions : ℕ
@@ -101,19 +102,19 @@ pub record WritesStepsLess (f : DescriptorFile) (speed : Speed) (limits : LimitV
   pub now : ℕ
   pub moves : Moves f fates before transactions last now
   pub between : Held
-  pub logged : Appends held between (log_text f fates earlier transactions before)
-  pub written : CutsOff fault between holds (step_lines f fates now before last)
+  pub logged : Appends held between (log_text brief f fates earlier transactions before)
+  pub written : CutsOff fault between holds (step_lines brief f fates now before last)
 
 -- The log of a run that has ended was written, but for its last line, which was cut off.
-pub record WritesTallyLess (f : DescriptorFile) (speed : Speed) (limits : LimitView) (fates : List Fate) (held holds : Held) (fault : OutFault) : Type 0 where
+pub record WritesTallyLess (brief : Bool) (f : DescriptorFile) (speed : Speed) (limits : LimitView) (fates : List Fate) (held holds : Held) (fault : OutFault) : Type 0 where
   pub run : Run
   pub log : List ℕ
-  pub of_run : IsLogOf f speed limits fates run log
+  pub of_run : IsLogOf brief f speed limits fates run log
   pub between : Held
-  pub logged : Appends held between (log_text f fates of_run.earlier run.transactions of_run.last)
+  pub logged : Appends held between (log_text brief f fates of_run.earlier run.transactions of_run.last)
   pub written : CutsOff fault between holds (tally_line (fates_used fates run.transactions))
 
 -- a log was cut off, in the lines of a step or in its last line
-abbrev pub WritesLogLess : DescriptorFile → Speed → LimitView → List Fate → Held → Held → OutFault → Type 0
-WritesLogLess f speed limits fates held holds fault =
-    WritesStepsLess f speed limits fates held holds fault ⊎ WritesTallyLess f speed limits fates held holds fault
+abbrev pub WritesLogLess : Bool → DescriptorFile → Speed → LimitView → List Fate → Held → Held → OutFault → Type 0
+WritesLogLess brief f speed limits fates held holds fault =
+    WritesStepsLess brief f speed limits fates held holds fault ⊎ WritesTallyLess brief f speed limits fates held holds fault

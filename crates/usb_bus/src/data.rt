@@ -48,12 +48,16 @@ fn fit_in_line(count: usize) -> bool
     count > 0 && count < 9
 }
 
-/// Puts the end of a transaction's line, and below it the data of more than 8 bytes.
-pub(crate) fn put_below(text: &mut Text, packet: Option<&[u8]>) -> Result<(), AllocError>
-    ensures { OnOk result (text.new ≡ text.old ++ data_below (option_map (λ b. b.now) packet.entry)) }
+/// Puts the end of a transaction's line, and below it the data of more than 8 bytes, unless the log is brief.
+pub(crate) fn put_below(
+    text: &mut Text,
+    brief: bool,
+    packet: Option<&[u8]>,
+) -> Result<(), AllocError>
+    ensures { OnOk result (text.new ≡ text.old ++ data_below brief (option_map (λ b. b.now) packet.entry)) }
 {
     match packet {
-        Some(bytes) if bytes.len() > 8 => put_rows(text, 0, bytes),
+        Some(bytes) if !brief && bytes.len() > 8 => put_rows(text, 0, bytes),
         _ => text.put("\n"),
     }
 }

@@ -18,9 +18,9 @@ use usb_fields::Answer;
 use usb_host::{Host, Limits, Why};
 use usb_text::{OutFault, Text, write_all};
 
-/// The lines of a step, while they are put.
+/// The lines of a step, while they are put; `BRIEF` leaves those of data out.
 #[derive(Drop)]
-struct Log {
+struct Log<const BRIEF: bool> {
     alloc: Global,
     before: Before,
     turn: Turn,
@@ -33,9 +33,9 @@ struct Log {
     is_whole: bool,
 }
 
-impl Log {
+impl<const BRIEF: bool> Log<BRIEF> {
     /// Before the first step.
-    fn new(alloc: Global) -> Log {
+    fn new(alloc: Global) -> Log<BRIEF> {
         Log {
             alloc,
             before: Before {
@@ -66,14 +66,14 @@ impl Log {
 
     /// Puts what is known of a transaction once the host has taken what came of this answer.
     fn put_answered(&mut self, answer: Answer<'_>, host: &Host) -> Result<(), AllocError>
-        ensures { OnOk result (HasSeen self.old.turn.number self.old.turn.fate self.old.before.step self.old.before.transfer (reply_of answer.entry) host.now.phase self.old.lines self.new.lines self.new.below self.new.cause) }
+        ensures { OnOk result (HasSeen BRIEF self.old.turn.number self.old.turn.fate self.old.before.step self.old.before.transfer (reply_of answer.entry) host.now.phase self.old.lines self.new.lines self.new.below self.new.cause) }
     {
         let (Some(step), Some(transfer)) = (self.before.step, self.before.transfer) else {
             return Ok(());
         };
         self.below.clear();
         let sent = transfer.next();
-        put_below(&mut self.below, data_of(&sent, answer))?;
+        put_below(&mut self.below, BRIEF, data_of(&sent, answer))?;
         self.cause = put_answered(
             self.alloc,
             &mut self.lines,
@@ -110,11 +110,11 @@ impl Log {
     }
 }
 
-impl Observer for Log {
+impl<const BRIEF: bool> Observer for Log<BRIEF> {
     ghost use Rattle.std.specs.Prelude.{◌≡◌, true};
     ghost use Rattle.usb_bus.specs.inside.Seeing.{HasSeen};
 
-    ghost sees = { λ old reply host new. new.is_whole ≡ true → HasSeen old.turn.number old.turn.fate old.before.step old.before.transfer reply host.phase old.lines new.lines new.below new.cause };
+    ghost sees = { λ old reply host new. new.is_whole ≡ true → HasSeen BRIEF old.turn.number old.turn.fate old.before.step old.before.transfer reply host.phase old.lines new.lines new.below new.cause };
 
     fn answered(&mut self, answer: Answer<'_>, host: &Host) {
         self.is_whole = self.put_answered(answer, host).is_ok();
@@ -122,15 +122,15 @@ impl Observer for Log {
 }
 
 /// The lines of each step are written.
-impl<W: Write> Steps<W> for Log {
+impl<W: Write, const BRIEF: bool> Steps<W> for Log<BRIEF> {
     ghost use Rattle.std.specs.Io.KnownBytes.{Appends};
     ghost use Rattle.usb_bus.specs.Log.{CutsOff, step_lines};
 
     type Fault = OutFault;
 
-    ghost does = { λ f fates x y n from to. Appends (W.contents from) (W.contents to) (step_lines f fates n x y) };
+    ghost does = { λ f fates x y n from to. Appends (W.contents from) (W.contents to) (step_lines BRIEF f fates n x y) };
 
-    ghost breaks = { λ f fates x y n from to fault. CutsOff fault (W.contents from) (W.contents to) (step_lines f fates n x y) };
+    ghost breaks = { λ f fates x y n from to fault. CutsOff fault (W.contents from) (W.contents to) (step_lines BRIEF f fates n x y) };
 
     fn step(
         &mut self,
@@ -162,7 +162,7 @@ impl<W: Write> Steps<W> for Log {
 /// Enumerates a device with this description as [`enumerate`](crate::enumerate) does, and writes a log of it: a line of
 /// headings, a line for each bus reset and each transaction, in their order, one for each transfer before its first transaction, and
 /// one for each attempt that is given up. The last line counts by their fates the transactions that have lost something, and those in
-/// which the device was not ready.
+/// which the device was not ready. A brief log has no lines of data below those of transactions.
 ///
 /// The lines of a step are written as soon as it is done, and none are kept. What the other promises say of the
 /// run is what `enumerate` says.
@@ -170,7 +170,7 @@ impl<W: Write> Steps<W> for Log {
 /// ```rust
 /// let mut log = Vec::new(alloc);
 /// let fates = [Fate::LostDown; 9];
-/// let run = enumerate_logged(alloc, &description, Limits::new(1, 16, 3)?, &fates, &mut log)?;
+/// let run = enumerate_logged(alloc, &description, Limits::new(1, 16, 3)?, &fates, false, &mut log)?;
 /// assert_eq!(rt; run.transactions, 9);
 /// assert!(rt; log.ends_with(b"fates: losses 9, busy 0\n"));
 /// assert!(rt; log.starts_with(b"no.   f packets (lost) data             host                device\nattempt 1: bus reset\n"));
@@ -186,15 +186,33 @@ pub fn enumerate_logged<W: Write>(
     d: &Description,
     limits: Limits,
     fates: &[Fate],
+    brief: bool,
     w: &mut W,
 ) -> Result<Run, OutFault>
-    ensures log { IfOk result (WritesLog d.now.file d.now.speed limits fates.now (W.contents w.old) (W.contents w.new)) }
-    ensures err { IfErr result (WritesLogLess d.now.file d.now.speed limits fates.now (W.contents w.old) (W.contents w.new)) }
+    ensures log { IfOk result (WritesLog brief d.now.file d.now.speed limits fates.now (W.contents w.old) (W.contents w.new)) }
+    ensures err { IfErr result (WritesLogLess brief d.now.file d.now.speed limits fates.now (W.contents w.old) (W.contents w.new)) }
 
     // What `enumerate` promises of the run.
     ensures ends_well { IfOk result (EndsWell d.now.file limits fates.now) }
 {
-    let mut log = Log::new(alloc);
+    match brief {
+        true => write_log::<true, W>(alloc, d, limits, fates, w),
+        false => write_log::<false, W>(alloc, d, limits, fates, w),
+    }
+}
+
+fn write_log<const BRIEF: bool, W: Write>(
+    alloc: Global,
+    d: &Description,
+    limits: Limits,
+    fates: &[Fate],
+    w: &mut W,
+) -> Result<Run, OutFault>
+    ensures log { IfOk result (WritesLog BRIEF d.now.file d.now.speed limits fates.now (W.contents w.old) (W.contents w.new)) }
+    ensures err { IfErr result (WritesLogLess BRIEF d.now.file d.now.speed limits fates.now (W.contents w.old) (W.contents w.new)) }
+    ensures ends_well { IfOk result (EndsWell d.now.file limits fates.now) }
+{
+    let mut log = Log::<BRIEF>::new(alloc);
     let run = run_with(alloc, d, limits, fates, &mut log, w)?;
     write_tally(alloc, fates, run.transactions, w)?;
     Ok(run)

@@ -1,13 +1,11 @@
 //! The lines of a step, part by part.
-ghost use Rattle.std.specs.Prelude.{◌≡◌, ◌++◌, OnOk};
-ghost use Rattle.usb_bus.specs.Lines.{descriptor_words, get_descriptor_words, kind_words, language_words, numbered, request_words};
 ghost use Rattle.std.specs.Prelude.{◌≡◌, ◌++◌, codes, IfOk, OnOk};
 ghost use Rattle.usb_fields.specs.Packets.{reply_of};
 ghost use Rattle.usb_host.specs.Transfer.{sent_by};
 ghost use Rattle.usb_host.specs.Steps.{step_in, transfer_in};
 ghost use Rattle.usb_bus.specs.Bus.{brought};
 ghost use Rattle.usb_bus.specs.Exchanges.{cause_of};
-ghost use Rattle.usb_bus.specs.Lines.{address_words, device_words, given_up_line, given_up_part, heading_part, reset_line, transfer_line};
+ghost use Rattle.usb_bus.specs.Lines.{address_words, descriptor_words, device_words, get_descriptor_words, given_up_line, given_up_part, heading_part, kind_words, language_words, numbered, request_words, reset_line, transfer_line};
 ghost use Rattle.usb_bus.specs.Log.{answered_part, transfer_part};
 
 use crate::ends::{cause, put_device, put_host, trouble_of};

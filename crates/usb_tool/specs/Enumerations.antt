@@ -54,7 +54,7 @@ refused_line (refusals.Finding finding) = codes "refused 1 " ++ finding_line fin
 refused_line fault = codes "refused " ++ decimal (fault_number fault) ++ 10 ∷ []
 
 -- what an enumeration is made under: the limits of the host, the speed of the device, the fates of the transactions, and
--- whether a log is asked for and a dump is taken
+-- whether a log is asked for, a brief one, and a dump is taken
 pub record Conditions : Type 0 where
   pub limits : LimitView
   pub speed : Speed
@@ -81,7 +81,7 @@ pub record TellsRefusal (c : Conditions) (f : DescriptorFile) (text : List ℕ) 
 -- a device with these descriptors was enumerated, and this is the log of that very run, or nothing where none is asked for
 abbrev pub IsRun : Bool → Conditions → DescriptorFile → Run → List ℕ → Type 0
 IsRun false c f run log = IsEnumeration f c.speed c.limits c.fates run × (log ≡ [])
-IsRun true c f run log = IsLogOf f c.speed c.limits c.fates run log
+IsRun true c f run log = IsLogOf c.flags.brief f c.speed c.limits c.fates run log
 
 -- a device was made of the file and enumerated, this is the log of that run, if it is asked for, and the text what is reported
 -- of it
@@ -131,7 +131,7 @@ pub record WritesLogFront (c : Conditions) (b : List ℕ) (held holds : Held) (f
   pub taken : IsTaken c.flags.with_strings file b
   pub accepted : Accepted file c.speed
   pub asked : c.flags.log ≡ true
-  pub written : WritesLogLess file c.speed c.limits c.fates held holds fault
+  pub written : WritesLogLess c.flags.brief file c.speed c.limits c.fates held holds fault
 
 -- the bytes show this fault of a file, and are no dump where strings are asked for
 abbrev pub IsNotTaken : Bool → List ℕ → FileFault → Type 0

@@ -29,6 +29,7 @@ settings_line faults.Fates = codes "usbdesc: bad fates"
 settings_line faults.Memory = codes "usbdesc: out of memory"
 settings_line faults.SpeedAlone = codes "usbdesc: --speed without --remarks"
 settings_line faults.ToTerminal = codes "usbdesc: bytes not written to a terminal"
+settings_line faults.BriefAlone = codes "usbdesc: --brief without --log"
 
 -- what it means, for people
 abbrev pub settings_meaning : SettingsFault → List ℕ
@@ -38,6 +39,7 @@ settings_meaning faults.Fates = codes "a letter that names no fate: they are . n
 settings_meaning faults.Memory = codes "there was not enough memory"
 settings_meaning faults.SpeedAlone = codes "a speed is for remarks: check --remarks --speed full"
 settings_meaning faults.ToTerminal = codes "usbdesc build < LISTING > FILE, or --force"
+settings_meaning faults.BriefAlone = codes "a log is brief: enumerate --log --brief"
 
 -- the exit status: 2 as for a line that is no command, and 3 where it is out of memory
 abbrev pub settings_status : SettingsFault → ℕ

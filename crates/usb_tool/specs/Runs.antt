@@ -28,7 +28,7 @@ use Rattle.usb_explain.specs.declared.manner.Manner.{Manner}
 use Rattle.usb_explain.specs.declared.speed.SetSpeed.{SetSpeed}
 use Rattle.usb_tool.specs.declared.checking.Checking.{Checking}
 use Rattle.usb_tool.specs.OptionFaults.{settings_line, settings_meaning, settings_status}
-use Rattle.usb_tool.specs.Settings.{IsSettled, RefusesOptions}
+use Rattle.usb_tool.specs.Settings.{IsSettledUnless, RefusesUnless, is_brief_alone}
 use Rattle.usb_tool.specs.declared.manner.Explaining.{Explaining}
 use Rattle.usb_tool.specs.declared.command_line.Line.{Line}
 use Rattle.usb_tool.specs.declared.command_line.Line.TheVariants as lines
@@ -166,8 +166,8 @@ EndsUnder person c from to held holds errors told status =
 -- how `enumerate` ends with these options and flags
 abbrev pub EndsEnumeration : Bool → Options → EnumerateFlags → Course
 EndsEnumeration person o flags from to held holds errors told status =
-    OptionsAreTaken Settings (IsSettled o) (λ s. EndsUnder person (under s.limits s.speed s.fates.items flags)) from to held holds errors told status
-    ⊎ OptionsAreRefused person (RefusesOptions o) from to held holds errors told status
+    OptionsAreTaken Settings (IsSettledUnless (is_brief_alone flags) o) (λ s. EndsUnder person (under s.limits s.speed s.fates.items flags)) from to held holds errors told status
+    ⊎ OptionsAreRefused person (RefusesUnless (is_brief_alone flags) o) from to held holds errors told status
 
 -- what to try where the input of `build` is at fault
 abbrev pub build_hint : Bool → Hint

@@ -1,5 +1,5 @@
 -- What the options of `enumerate` come to.
-use Rattle.std.specs.Prelude.{◌≡◌, ◌&&◌, ◌^◌, ℕ, List, [], IsSome, IsSomeAnd, length, Option, Some, None, is_some, nat_lt, if◌then◌else◌, option_and_then}
+use Rattle.std.specs.Prelude.{◌≡◌, ◌&&◌, ◌^◌, not, ℕ, Bool, true, false, List, [], IsSome, IsSomeAnd, length, Option, Some, None, is_some, nat_lt, if◌then◌else◌, option_and_then}
 use Rattle.std.specs.Borrow.{Bor}
 use Rattle.std.specs.Char.{digit_value}
 use Rattle.std.specs.List.{list_all}
@@ -11,6 +11,7 @@ use Rattle.usb_host.specs.Limits.{LimitView, limit_fault}
 use Rattle.usb_tool.specs.OptionValues.{RefusesFates, fates_of, speed_of}
 use Rattle.usb_tool.specs.declared.settings.FatesFault.{FatesFault}
 use Rattle.usb_tool.specs.declared.settings.FatesFault.TheVariants as letters
+use Rattle.usb_tool.specs.declared.settings.EnumerateFlags.{EnumerateFlags}
 use Rattle.usb_tool.specs.declared.settings.Options.{Options}
 use Rattle.usb_tool.specs.declared.settings.Settings.{Settings}
 use Rattle.usb_tool.specs.declared.settings.SettingsFault.{SettingsFault}
@@ -77,6 +78,21 @@ RefusesOptions o faults.Fates = IsSome (limits_said o) × (IsSome (speed_said o)
 RefusesOptions o faults.Memory = IsSome (limits_said o) × (IsSome (speed_said o) × IsSomeAnd o.fates (λ text. RefusesFates text.now letters.Memory))
 RefusesOptions o faults.SpeedAlone = ⊥
 RefusesOptions o faults.ToTerminal = ⊥
+RefusesOptions o faults.BriefAlone = ⊥
+
+-- lines of a log are left out, and none is asked for
+abbrev pub is_brief_alone : EnumerateFlags → Bool
+is_brief_alone flags = flags.brief && not flags.log
+
+-- there are no settings then, and else those that the options come to
+abbrev pub IsSettledUnless : Bool → Options → Settings → Type 0
+IsSettledUnless true o s = ⊥
+IsSettledUnless false o s = IsSettled o s
+
+-- why options and flags are refused: for that, and else by the options
+abbrev pub RefusesUnless : Bool → Options → SettingsFault → Type 0
+RefusesUnless true o fault = fault ≡ faults.BriefAlone
+RefusesUnless false o fault = RefusesOptions o fault
 
 -- a fault of the fates is one of the settings
 abbrev pub settings_fault_of : FatesFault → SettingsFault

@@ -5,12 +5,12 @@ ghost use Rattle.clap.specs.declared.builder.Command.TheViews.{out-Command};
 ghost use Rattle.usb_tool.specs.CommandLine.{address_rule, attempts_rule, build_app, check_app, chosen_rule, enumerate_app, explain_app, fates_rule, flag_rule, naks_rule, show_app, speed_rule, usbdesc_app, valued_rule};
 
 use crate::help::{
-    ABOUT, ADDRESS_HELP, ATTEMPTS_HELP, BRIEF_HELP, BUILD_ABOUT, BUILD_HELP, BUILD_USAGE,
-    CHECK_ABOUT, CHECK_ANY_HELP, CHECK_HELP, CHECK_USAGE, COMMENTS_HELP, ENUMERATE_ABOUT,
-    ENUMERATE_HELP, ENUMERATE_USAGE, EXPLAIN_ABOUT, EXPLAIN_HELP, EXPLAIN_USAGE, FATES, FATES_HELP,
-    FORCE_HELP, HEX_HELP, HEX_OUTPUT_HELP, LOG_HELP, LOOSE_HELP, NAKS_HELP, NO_PLACES_HELP,
-    RAN_AT_HELP, REMARKS_HELP, RUNNING_SPEEDS, SHOW_ABOUT, SHOW_ANY_HELP, SHOW_HELP, SHOW_USAGE,
-    SPEED_HELP, SPEEDS, UTF8_HELP, VERSION, WITH_STRINGS_HELP,
+    ABOUT, ADDRESS_HELP, ATTEMPTS_HELP, BRIEF_HELP, BRIEF_LOG_HELP, BUILD_ABOUT, BUILD_HELP,
+    BUILD_USAGE, CHECK_ABOUT, CHECK_ANY_HELP, CHECK_HELP, CHECK_USAGE, COMMENTS_HELP,
+    ENUMERATE_ABOUT, ENUMERATE_HELP, ENUMERATE_USAGE, EXPLAIN_ABOUT, EXPLAIN_HELP, EXPLAIN_USAGE,
+    FATES, FATES_HELP, FORCE_HELP, HEX_HELP, HEX_OUTPUT_HELP, LOG_HELP, LOOSE_HELP, NAKS_HELP,
+    NO_PLACES_HELP, RAN_AT_HELP, REMARKS_HELP, RUNNING_SPEEDS, SHOW_ABOUT, SHOW_ANY_HELP,
+    SHOW_HELP, SHOW_USAGE, SPEED_HELP, SPEEDS, UTF8_HELP, VERSION, WITH_STRINGS_HELP,
 };
 use clap::{Arg, ArgAction, Command, value_parser};
 use std::alloc::{AllocError, Global};
@@ -103,6 +103,7 @@ fn enumerate<'a>(alloc: Global) -> Result<Command<'a>, AllocError>
     let enumerate = add_option(enumerate, attempts(alloc))?;
     let enumerate = add_option(enumerate, fates(alloc))?;
     let enumerate = add_option(enumerate, flag(alloc, "log", LOG_HELP))?;
+    let enumerate = add_option(enumerate, flag(alloc, "brief", BRIEF_LOG_HELP))?;
     add_option(enumerate, flag(alloc, "with-strings", WITH_STRINGS_HELP))
 }
 

@@ -152,7 +152,7 @@ fn enumerate_of<'a>(matches: &ArgMatches<'a>) -> Line<'a>
 {
     let options = options_of(matches);
     let flags = flags_of(matches);
-    if flags.log || flags.with_strings {
+    if flags.log || flags.brief || flags.with_strings {
         Line::EnumerateWith(options, flags)
     } else {
         Line::Enumerate(options)
@@ -183,6 +183,7 @@ fn flags_of(matches: &ArgMatches<'_>) -> EnumerateFlags
 {
     EnumerateFlags {
         log: has_flag(matches, "log"),
+        brief: has_flag(matches, "brief"),
         with_strings: has_flag(matches, "with-strings"),
     }
 }

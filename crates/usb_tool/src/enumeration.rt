@@ -58,19 +58,20 @@ pub fn run_enumerate<R: Read, W: Write>(
 {
     let flags = EnumerateFlags {
         log: false,
+        brief: false,
         with_strings: false,
     };
     run_enumerate_with(alloc, r, w, l, s, fates, flags)
 }
 
 /// The same with these flags: where they say so a dump is taken too, and a log is written, of which a line for each bus
-/// reset, each transfer and each transaction comes before the result, as soon as it is done.
+/// reset, each transfer and each transaction comes before the result, as soon as it is done. A brief log has no lines of data.
 ///
 /// ```rust
 /// let mut dump: &[u8] = &[18, 1, 0, 2, 0, 0, 0, 64, 0x34, 0x12, 0x78, 0x56, 0, 1, 1, 0, 0, 0];
 /// let mut lines = Vec::new(alloc);
 /// let limits = Limits::new(1, 16, 3)?;
-/// let flags = EnumerateFlags { log: false, with_strings: true };
+/// let flags = EnumerateFlags { log: false, brief: false, with_strings: true };
 /// assert_eq!(rt; run_enumerate_with(alloc, &mut dump, &mut lines, limits, Speed::Full, &[], flags)?, 1);
 /// // A device has a configuration.
 /// assert_eq!(rt; lines.as_slice(), b"refused 1 V10 main 0 0 0\n");
@@ -171,7 +172,7 @@ fn run_over<W: Write>(
     ensures err { IfErr result (BreaksRun (under l d.now.speed fates.now flags) d.now.file (W.contents w.old) (W.contents w.new)) }
 {
     if flags.log {
-        let run = enumerate_logged(alloc, d, l, fates, w)?;
+        let run = enumerate_logged(alloc, d, l, fates, flags.brief, w)?;
         Ok(run)
     } else {
         Ok(enumerate(alloc, d, l, fates))

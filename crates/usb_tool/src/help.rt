@@ -178,7 +178,7 @@ Exit status:
   3  reading, the input or writing is at fault; standard error says how, and of text that is
      not hexadecimal the line and the column, from 1";
 
-/// What `--brief` says.
+/// What `--brief` of `explain` says.
 pub(crate) const BRIEF_HELP: &str = "Leaves the fields out";
 
 /// What `--no-places` says.
@@ -219,8 +219,9 @@ Input:
 Log:
   With --log a line for each transaction is written before the result: its number, its fate,
   its packets, in brackets where one was lost, its data, and what the host and what the device
-  have then. Data of more than 8 bytes are below it. A line begins each bus reset and each
-  transfer. The last line counts the fates that lose, and those of a device that is not ready.
+  have then. Data of more than 8 bytes are below it, but not with --brief. A line begins each
+  bus reset and each transfer. The last line counts the fates that lose, and those of a device
+  that is not ready.
 
 Fates:
   A letter for each transaction of the bus, in order. After the last one all packets arrive.
@@ -281,3 +282,6 @@ pub(crate) const WITH_STRINGS_HELP: &str =
 
 /// What `--log` says.
 pub(crate) const LOG_HELP: &str = "Writes a line for each transaction before the result";
+
+/// What `--brief` of `enumerate` says.
+pub(crate) const BRIEF_LOG_HELP: &str = "Leaves the lines of data out of the log";

@@ -25,7 +25,7 @@
 //! where one is given; of `explain` [`Explaining`]. Its contract is exact both ways: the line is that of `clap`'s
 //! function of the words, and each fault is `clap`'s own (`specs/CommandLine.antt`).
 //! [`settings_of`] makes the [`Settings`] of an enumeration of these texts, with what holds where an option is
-//! absent (`specs/Settings.antt`). It reads the numbers, and [`read_speed`] and [`read_fates`] the other two
+//! absent, and [`settings_with`] refuses flags too (`specs/Settings.antt`). It reads the numbers, and [`read_speed`] and [`read_fates`] the other two
 //! (`specs/OptionValues.antt`). [`manner_of`] says what the options of `explain` mean (`specs/Explains.antt`).
 //!
 //! [`converse`] makes control transfers between a host and a device over a bus that loses packets and handshakes.
@@ -74,7 +74,7 @@ pub use meaning::Hint;
 pub use program::{refuse_words, run, run_for};
 pub use settings::{
     EnumerateFlags, FatesFault, Options, Settings, SettingsFault, read_fates, read_speed,
-    settings_of,
+    settings_of, settings_with,
 };
 pub use show::{run_show, run_show_any};
 pub use terminals::Terminals;

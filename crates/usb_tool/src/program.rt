@@ -20,7 +20,7 @@ use crate::hex_input::{HexCommand, run_hex};
 use crate::hex_output::run_build_hex;
 use crate::manner::{Explaining, manner_of};
 use crate::meaning::{Hint, MeaningLine, fault_meaning};
-use crate::settings::{EnumerateFlags, Options, SettingsFault, settings_of};
+use crate::settings::{EnumerateFlags, Options, SettingsFault, settings_with};
 use crate::show::{run_show, run_show_any};
 use crate::terminals::Terminals;
 use clap::error::ErrorKind;
@@ -335,6 +335,7 @@ fn enumerate_plainly<R: Read, W: Write, E: Write>(
 {
     let flags = EnumerateFlags {
         log: false,
+        brief: false,
         with_strings: false,
     };
     enumerate_with(alloc, options, flags, person, r, w, e)
@@ -363,7 +364,7 @@ fn enumerate_with<R: Read, W: Write, E: Write>(
 ) -> u8
     ensures { EndsEnumeration person options.now flags (R.remaining r.old) (R.remaining r.new) (W.contents w.old) (W.contents w.new) (E.contents e.old) (E.contents e.new) result }
 {
-    match settings_of(alloc, options) {
+    match settings_with(alloc, options, flags) {
         Ok(settings) => {
             let (l, s) = (settings.limits, settings.speed);
             let outcome = run_enumeration(alloc, r, w, l, s, &settings.fates, flags);

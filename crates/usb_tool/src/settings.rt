@@ -2,7 +2,7 @@
 ghost use Rattle.std.specs.Prelude.{◌≡◌, IfErr, IfOk, Some, IsSomeAnd};
 ghost use Rattle.usb_tool.specs.OptionValues.{speed_of, RefusesFates, fate_of, fates_of};
 ghost use Rattle.usb_tool.specs.declared.settings.FatesFault.TheVariants.{Memory};
-ghost use Rattle.usb_tool.specs.Settings.{IsSettled, RefusesOptions, byte_said, fates_said, limits_said, settings_fault_of, speed_said, word_said};
+ghost use Rattle.usb_tool.specs.Settings.{IsSettled, IsSettledUnless, RefusesOptions, RefusesUnless, byte_said, fates_said, is_brief_alone, limits_said, settings_fault_of, speed_said, word_said};
 ghost use Rattle.usb_tool.specs.OptionFaults.{settings_fault_number, settings_line, settings_status};
 
 use std::alloc::{AllocFailed, Global};
@@ -138,6 +138,8 @@ pub struct Options<'a> {
 pub struct EnumerateFlags {
     /// Whether a log of the transactions is asked for.
     pub log: bool,
+    /// Whether its lines of data are left out.
+    pub brief: bool,
     /// Whether a dump is taken, with a text in each place that names a string.
     pub with_strings: bool,
 }
@@ -183,6 +185,39 @@ pub fn settings_of(alloc: Global, options: &Options<'_>) -> Result<Settings, Set
         speed,
         fates,
     })
+}
+
+/// The settings that the options give beside these flags.
+///
+/// ```rust
+/// let options = Options { speed: None, address: None, naks: None, attempts: None, fates: None };
+/// let flags = EnumerateFlags { log: false, brief: true, with_strings: false };
+/// assert_eq!(rt; settings_with(alloc, &options, flags).err(), Some(SettingsFault::BriefAlone));
+/// ```
+///
+/// # Errors
+///
+/// [`SettingsFault::BriefAlone`] where lines of a log are left out and none is asked for, and else those of [`settings_of`].
+pub fn settings_with(
+    alloc: Global,
+    options: &Options<'_>,
+    flags: EnumerateFlags,
+) -> Result<Settings, SettingsFault>
+    ensures ok { IfOk result (IsSettledUnless (is_brief_alone flags) options.now) }
+    ensures err { IfErr result (RefusesUnless (is_brief_alone flags) options.now) }
+{
+    if is_brief_alone(flags) {
+        Err(SettingsFault::BriefAlone)
+    } else {
+        settings_of(alloc, options)
+    }
+}
+
+/// Whether lines of a log are left out and none is asked for.
+fn is_brief_alone(flags: EnumerateFlags) -> bool
+    ensures { result ≡ is_brief_alone flags }
+{
+    flags.brief && !flags.log
 }
 
 /// The limits that the numbers say.
@@ -251,10 +286,12 @@ pub enum SettingsFault {
     SpeedAlone,
     /// Standard output is a terminal, and bytes would be written there.
     ToTerminal,
+    /// Lines of a log are left out, and no log is asked for.
+    BriefAlone,
 }
 
 impl SettingsFault {
-    /// The fault's number, 1 to 6: of the first three a lower one is tested first.
+    /// The fault's number, 1 to 7: of the first three a lower one is tested first.
     ///
     /// ```rust
     /// assert_eq!(rt; SettingsFault::Speed.number(), 2);
@@ -294,6 +331,7 @@ impl SettingsFault {
             SettingsFault::Memory => "there was not enough memory",
             SettingsFault::SpeedAlone => "a speed is for remarks: check --remarks --speed full",
             SettingsFault::ToTerminal => "usbdesc build < LISTING > FILE, or --force",
+            SettingsFault::BriefAlone => "a log is brief: enumerate --log --brief",
         }
     }
 }
@@ -310,6 +348,7 @@ impl fmt::Display for SettingsFault {
             SettingsFault::Memory => f.write_str("usbdesc: out of memory"),
             SettingsFault::SpeedAlone => f.write_str("usbdesc: --speed without --remarks"),
             SettingsFault::ToTerminal => f.write_str("usbdesc: bytes not written to a terminal"),
+            SettingsFault::BriefAlone => f.write_str("usbdesc: --brief without --log"),
         }
     }
 }

@@ -14,11 +14,11 @@ use Rattle.usb_bus.specs.Log.{answered_part, transfer_part}
 
 -- A transaction was answered so, and the host is so then, whose step and transfer these were: what that makes known is after
 -- the lines that were there, the end of its line stands apart with the data below it, and so does why the attempt is given up, if it is.
-abbrev pub HasSeen : ℕ → Fate → Option Step → Option TransferView → Reply → HostPhase → List ℕ → List ℕ → List ℕ → Option Why → Type 0
-HasSeen number fate (Some step) (Some t) answer phase old lines below why =
+abbrev pub HasSeen : Bool → ℕ → Fate → Option Step → Option TransferView → Reply → HostPhase → List ℕ → List ℕ → List ℕ → Option Why → Type 0
+HasSeen brief number fate (Some step) (Some t) answer phase old lines below why =
     (lines ≡ old ++ transfer_part step t ++ answered_part number fate t answer phase)
-    × (below ≡ data_below (data_of (due t) answer)) × (why ≡ cause_of t (brought fate answer) phase)
-HasSeen number fate step t answer phase old lines below why = Unit {0}
+    × (below ≡ data_below brief (data_of (due t) answer)) × (why ≡ cause_of t (brought fate answer) phase)
+HasSeen brief number fate step t answer phase old lines below why = Unit {0}
 
 -- The lines of a step that is done: to those that were seen of a transaction comes what both ends have, and else they are of
 -- a reset.

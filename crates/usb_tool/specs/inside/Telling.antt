@@ -48,6 +48,6 @@ pub record MakesRun (c : Conditions) (f : DescriptorFile) (held holds : Held) (r
 
 -- a log is asked for, and a step of the enumeration broke it
 abbrev pub BreaksRun : Conditions → DescriptorFile → Held → Held → ToolFault → Type 0
-BreaksRun c f held holds faults.Write = (c.flags.log ≡ true) × WritesLogLess f c.speed c.limits c.fates held holds outs.Write
-BreaksRun c f held holds faults.Memory = (c.flags.log ≡ true) × WritesLogLess f c.speed c.limits c.fates held holds outs.Memory
+BreaksRun c f held holds faults.Write = (c.flags.log ≡ true) × WritesLogLess c.flags.brief f c.speed c.limits c.fates held holds outs.Write
+BreaksRun c f held holds faults.Memory = (c.flags.log ≡ true) × WritesLogLess c.flags.brief f c.speed c.limits c.fates held holds outs.Memory
 BreaksRun c f held holds fault = ⊥
