@@ -187,7 +187,7 @@ struct nzg_answer nzg_device_answer_with(struct nzg_device *device, const uint8_
 struct nzg_answer nzg_device_accept(struct nzg_device *device);
 /* The write whose data have all come and that wasn't answered yet, and those data; open where there is none. */
 struct nzg_answer nzg_device_written(struct nzg_device *device, struct nzg_setup *setup, uint8_t *data, size_t room);
-/* STALL, where the status stage wasn't answered yet. */
+/* STALL until the next SETUP, where the device itself rejects the request, and its status stage wasn't answered yet. */
 bool nzg_device_refuse(struct nzg_device *device);
 bool nzg_device_carried_out(struct nzg_device *device, struct nzg_setup *setup);
 bool nzg_device_state(struct nzg_device *device, struct nzg_state *state);

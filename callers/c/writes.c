@@ -1,6 +1,6 @@
 /* writes: data to a device, packet by packet. Its owner takes them, is given just the bytes that were sent, and accepts or
- * refuses them. Ends in 0 where all comes as docs/control-transfers.md says, else in the number of what doesn't. The device
- * asks for no memory once it is open. */
+ * refuses them; he refuses a read too that he has begun to answer. Ends in 0 where all comes as docs/control-transfers.md
+ * says, else in the number of what doesn't. The device asks for no memory once it is open. */
 #define POOL (1 << 16)
 #include "pool.h"
 #include "hosted.h"
@@ -9,8 +9,9 @@
 static const uint8_t file[] = {
     18, 1, 0x10, 1, 0, 0, 0, 8, 0x34, 0x12, 0x78, 0x56, 0, 1, 0, 0, 0, 1,
     9, 2, 34, 0, 1, 1, 0, 0xa0, 50, 9, 4, 0, 0, 1, 3, 1, 2, 0, 9, 0x21, 0x10, 1, 0, 1, 0x22, 0x34, 0, 7, 5, 0x81, 3, 4, 0, 10};
-/* SET_REPORT of 9 and of 513 bytes */
+/* SET_REPORT of 9 and of 513 bytes, GET_REPORT of 9, and GET_DESCRIPTOR of the device, which is not the owner's */
 static const uint8_t report[8] = {0x21, 9, 0, 2, 0, 0, 9, 0}, longer[8] = {0x21, 9, 0, 2, 0, 0, 1, 2};
+static const uint8_t reading[8] = {0xa1, 1, 0, 1, 0, 0, 9, 0}, descriptor[8] = {0x80, 6, 0, 1, 0, 0, 18, 0};
 static const uint8_t sent[9] = {1, 2, 3, 4, 5, 6, 7, 8, 9};
 static struct nzg_device device;
 static struct nzg_packet packet;
@@ -54,7 +55,12 @@ int main(void) {
     if (serve(NZG_SETUP, 0, longer, sent, 0) != NZG_ACK) return 10;
     struct nzg_answer answer = nzg_device_accept(&device);
     if (answer.status != NZG_UNANSWERED || answer.number != 4) return 11;
-    if (pool_calls != before) return 12;
+    if (serve(NZG_SETUP, 0, reading, sent, 0) != NZG_ACK || nzg_device_answer_with(&device, sent, 9).status != NZG_DONE) return 12;
+    if (serve(NZG_IN, 0, reading, sent, 0) != NZG_DATA || !nzg_device_refuse(&device)) return 13;
+    if (serve(NZG_IN, 0, reading, sent, 0) != NZG_STALL || serve(NZG_OUT, 1, reading, sent, 0) != NZG_STALL) return 14;
+    if (serve(NZG_SETUP, 0, descriptor, sent, 0) != NZG_ACK || !nzg_device_refuse(&device)) return 15;
+    if (serve(NZG_IN, 0, descriptor, sent, 0) != NZG_DATA || packet.length != 8) return 16;
+    if (pool_calls != before) return 17;
     nzg_device_close(&device);
-    return pool_live ? 13 : 0;
+    return pool_live ? 18 : 0;
 }

@@ -152,7 +152,7 @@ class Device(Handle):
         return (bytes(it.bytes), data) if STATUSES[done(answer).status] == "done" else None
 
     def refuse(self) -> None:
-        """STALL, where the status stage wasn't answered yet."""
+        """STALL until the next SETUP, where the device itself rejects the request, and its status stage wasn't answered yet."""
         self._call("refuse")
 
     def state(self) -> State:

@@ -220,7 +220,7 @@ impl Device {
         let (answer, data) = into(|data, room| unsafe { sys::nzg_device_written(&mut self.0, &mut setup, data, room) });
         (answer.status == 0).then_some((setup.bytes, data))
     }
-    /// STALL, where the status stage wasn't answered yet.
+    /// STALL until the next SETUP, where the device itself rejects the request, and its status stage wasn't answered yet.
     pub fn refuse(&mut self) {
         unsafe { sys::nzg_device_refuse(&mut self.0) };
     }

@@ -7,7 +7,7 @@ that plays the scripts. Run it in this folder: it writes ../data/scripts/writes-
 
 import write_answers as answers
 from write_answers import pattern
-from write_scripts import request
+from write_scripts import REFUSED, answer, request
 
 LENGTHS = [1, 7, 8, 9, 16, 64, 65, 512]
 
@@ -18,6 +18,9 @@ def report(length):
 
 
 READ = request(0xA1, 1, 0x0100, 0, 9)
+# Three packets of the device descriptor, and two of a string of the file, whose request is open to an owner.
+TABLE = request(0x80, 6, 0x0100, 0, 18)
+TEXT = request(0x80, 6, 0x0301, 0x0409, 12)
 
 
 class Script(answers.Script):
@@ -27,15 +30,20 @@ class Script(answers.Script):
         super().__init__(name, title, packet)
         self.lines[1] = "# Written by reading/write_writes.py."
 
+    def setup(self, setup, busy=False):
+        if self.to == self.state.address:
+            self.request = setup
+        super().setup(setup, busy)
+
     def written(self):
         is_whole = self.stage[0] == "written"
         self.say("written", f"{self.stage[1].hex()} {self.stage[2].hex()}" if is_whole else "none")
 
     def refuse(self):
-        """STALL from then on, where the owner was to answer or has accepted, and the status stage wasn't answered."""
+        """STALL from then on, where the status stage of a request that the table refuses wasn't answered."""
         self.say("refuse", "done")
-        is_accepted = self.stage[0] == "status in" and not self.stage[2] and answers.is_open(self.stage[1])
-        if self.stage[0] in ("halted", "receiving", "written") or is_accepted:
+        is_answered = self.stage[0] in ("idle", "over") or self.stage[0] == "status in" and self.stage[2]
+        if self.stage[0] == "halted" or not is_answered and answer(self.state, self.request) is REFUSED:
             self.stage = ("halted", None)
 
     def packet_out(self, toggle, count, busy=False):
@@ -135,9 +143,19 @@ STAGES = {
     "the status stage of a write, answered": lambda s: (s.begin_write(9, 2), s.accept(), s.token_in()),
     "past the status stage of a write": lambda s: (s.begin_write(9, 2), s.accept(), s.token_in(), s.acked()),
     "a read that its owner answers": lambda s: (s.setup(READ), s.give(pattern(9))),
+    "its first packet, without its ACK": lambda s: (s.setup(READ), s.give(pattern(9)), s.token_in()),
     "its second packet": lambda s: (s.setup(READ), s.give(pattern(9)), s.token_in(), s.acked()),
     "its status stage": lambda s: (s.setup(READ), s.give(pattern(1)), s.token_in(), s.acked()),
     "past its status stage": lambda s: (s.setup(READ), s.give(pattern(1)), s.token_in(), s.acked(), s.out(1)),
+    "a descriptor": lambda s: s.setup(TABLE),
+    "the second packet of a descriptor": lambda s: (s.setup(TABLE), s.token_in(), s.acked()),
+    "the status stage of a descriptor": lambda s: (s.setup(TABLE), *[step() for _ in range(3) for step in (s.token_in, s.acked)]),
+    "a string": lambda s: s.setup(TEXT),
+    "the second packet of a string": lambda s: (s.setup(TEXT), s.token_in(), s.acked()),
+    "the status stage of a string": lambda s: (s.setup(TEXT), *[step() for _ in range(2) for step in (s.token_in, s.acked)]),
+    "a string of no bytes": lambda s: s.setup(request(0x80, 6, 0x0301, 0x0409)),
+    "a descriptor after a read": lambda s: (s.setup(READ), s.give(pattern(9)), s.token_in(), s.setup(TABLE)),
+    "a read after a descriptor": lambda s: (s.setup(TABLE), s.token_in(), s.setup(READ), s.give(pattern(9))),
     "the status stage of SET_CONFIGURATION": lambda s: s.setup(request(0, 9, 7)),
     "that, answered": lambda s: (s.setup(request(0, 9, 7)), s.token_in()),
 }
@@ -161,6 +179,8 @@ SENDS = {
 }
 BY_OWNER = {
     "refuse": lambda s: s.refuse(),
+    "refuse, and OUT": lambda s: (s.refuse(), s.out(1)),
+    "refuse, and an ACK": lambda s: (s.refuse(), s.acked()),
     "accept": lambda s: s.accept(),
     "an answer of one byte": lambda s: s.give(b"\x01"),
     "accept, and refuse": lambda s: (s.accept(), s.refuse()),

@@ -78,8 +78,8 @@ packet_awaits s at k (p ∷ ps) = λ e. e
 module _ (answer : State → SetupPacket → Outcome) (packet : ℕ) where
   out_awaits : (s : State) (at : DeviceStage) (t : Toggle) (b : List ℕ) → Awaits at (served_out answer packet s at t b)
   out_awaits s (device.Receiving q got) t b = λ e. refl
-  out_awaits s (device.Sending x m k) t b = status_awaits s (device.Sending x m k) t b
-  out_awaits s device.StatusOut t b = status_awaits s device.StatusOut t b
+  out_awaits s (device.Sending q x k) t b = status_awaits s (device.Sending q x k) t b
+  out_awaits s (device.StatusOut q) t b = status_awaits s (device.StatusOut q) t b
   out_awaits s device.Over t b = status_awaits s device.Over t b
   out_awaits s (device.StatusIn q c) t b =
       if_awaits (device.StatusIn q c) (q.length == 0) (stalls s) (replies AckReply s (device.StatusIn q c) false) (λ e. absurd (cc)) (λ e. e)
@@ -90,8 +90,8 @@ module _ (answer : State → SetupPacket → Outcome) (packet : ℕ) where
 
   in_awaits : (s : State) (at : DeviceStage) → Awaits at (served_in answer packet s at)
   in_awaits s (device.Receiving q got) = λ e. refl
-  in_awaits s (device.Sending x m k) = packet_awaits s (device.Sending x m k) k (drop k (packets x packet m))
-  in_awaits s device.StatusOut = λ e. absurd (cc)
+  in_awaits s (device.Sending q x k) = packet_awaits s (device.Sending q x k) k (drop k (packets x packet q.length))
+  in_awaits s (device.StatusOut q) = λ e. absurd (cc)
   in_awaits s device.Over = λ e. absurd (cc)
   in_awaits s (device.StatusIn q c) = λ e. absurd (cc)
   in_awaits s (device.Written q got) = λ e. absurd (cc)
@@ -110,15 +110,15 @@ module _ (answer : State → SetupPacket → Outcome) (packet : ℕ) where
       if_awaits d.stage (sent.address == d.state.address) (served_here answer packet d sent.token ready) (replies NoReply d.state d.stage false)
       (here_awaits d sent.token ready later) (λ e. e)
 
-  next_awaits : (x : List ℕ) (m k : ℕ) (ps : List (List ℕ)) → awaits_data (next_stage x m k ps) ≡ false
-  next_awaits x m k [] = refl
-  next_awaits x m k (p ∷ ps) = refl
+  next_awaits : (q : SetupPacket) (x : List ℕ) (k : ℕ) (ps : List (List ℕ)) → awaits_data (next_stage q x k ps) ≡ false
+  next_awaits q x k [] = refl
+  next_awaits q x k (p ∷ ps) = refl
 
   acked_awaits : (at : DeviceStage) → awaits_data (acked_stage answer packet at) ≡ true → awaits_data at ≡ true
-  acked_awaits (device.Sending x m k) e = absurd (let z = sym (next_awaits x m k (drop (suc k) (packets x packet m))) ∙ e in cc)
+  acked_awaits (device.Sending q x k) e = absurd (let z = sym (next_awaits q x k (drop (suc k) (packets x packet q.length))) ∙ e in cc)
   acked_awaits device.Idle e = e
   acked_awaits (device.Halted refused) e = e
-  acked_awaits device.StatusOut e = e
+  acked_awaits (device.StatusOut q) e = e
   acked_awaits device.Over e = e
   acked_awaits (device.StatusIn q c) e = absurd (cc)
   acked_awaits (device.Receiving q got) e = e

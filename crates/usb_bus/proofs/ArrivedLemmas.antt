@@ -202,8 +202,8 @@ module _ (answer : State → SetupPacket → Outcome) (packet : ℕ) where
     halts_doomed (Failed why) at h d = tt
     halts_doomed DataOut (device.Halted refused) h d = tt
     halts_doomed DataOut device.Idle h d = absurd (cc)
-    halts_doomed DataOut (device.Sending b m k) h d = absurd (cc)
-    halts_doomed DataOut device.StatusOut h d = absurd (cc)
+    halts_doomed DataOut (device.Sending q b k) h d = absurd (cc)
+    halts_doomed DataOut (device.StatusOut q) h d = absurd (cc)
     halts_doomed DataOut device.Over h d = absurd (cc)
     halts_doomed DataOut (device.StatusIn q c) h d = absurd (cc)
     halts_doomed DataOut (device.Receiving q c) h d = absurd (cc)
@@ -240,8 +240,8 @@ module _ (answer : State → SetupPacket → Outcome) (packet : ℕ) where
         let h = halts_on e.device refused here e.host.transfer.address e.host.transfer.awaited (packet_due e.host.transfer bytes) fate in
         subst (λ x. Dooms_of x) (sym (after_out fate e is)) (refusal_dooms e (carried answer packet e.device (out_of e) fate) is h.0 h.1)
     doomed_on fate e DataOut device.Idle is here d = absurd d
-    doomed_on fate e DataOut (device.Sending b m k) is here d = absurd d
-    doomed_on fate e DataOut device.StatusOut is here d = absurd d
+    doomed_on fate e DataOut (device.Sending q b k) is here d = absurd d
+    doomed_on fate e DataOut (device.StatusOut q) is here d = absurd d
     doomed_on fate e DataOut device.Over is here d = absurd d
     doomed_on fate e DataOut (device.StatusIn q c) is here d = absurd d
     doomed_on fate e DataOut (device.Receiving q c) is here d = absurd d
@@ -286,8 +286,8 @@ module _ (answer : State → SetupPacket → Outcome) (packet : ℕ) where
       needed_on l b a e StatusIn (device.Receiving r got) is here other more c = absurd (there l b a e StatusIn r got is here c)
       needed_on l b a e stage device.Idle is here other more c = absurd (cc)
       needed_on l b a e stage (device.Halted refused) is here other more c = absurd (cc)
-      needed_on l b a e stage (device.Sending x m k) is here other more c = absurd (cc)
-      needed_on l b a e stage device.StatusOut is here other more c = absurd (cc)
+      needed_on l b a e stage (device.Sending r x k) is here other more c = absurd (cc)
+      needed_on l b a e stage (device.StatusOut r) is here other more c = absurd (cc)
       needed_on l b a e stage device.Over is here other more c = absurd (cc)
       needed_on l b a e stage (device.StatusIn r x) is here other more c = absurd (cc)
       needed_on l b a e stage (device.Written r x) is here other more c = absurd (cc)
@@ -411,8 +411,8 @@ module _ (answer : State → SetupPacket → Outcome) (packet : ℕ) where
       steps l b a fate e DataOut (device.Receiving r got) is here c = in_data l b a fate e r got is here c
       steps l b a fate e DataOut device.Idle is here c = none_needed fate e DataOut device.Idle is here refl
       steps l b a fate e DataOut (device.Halted x) is here c = none_needed fate e DataOut (device.Halted x) is here refl
-      steps l b a fate e DataOut (device.Sending x m k) is here c = none_needed fate e DataOut (device.Sending x m k) is here refl
-      steps l b a fate e DataOut device.StatusOut is here c = none_needed fate e DataOut device.StatusOut is here refl
+      steps l b a fate e DataOut (device.Sending r x k) is here c = none_needed fate e DataOut (device.Sending r x k) is here refl
+      steps l b a fate e DataOut (device.StatusOut r) is here c = none_needed fate e DataOut (device.StatusOut r) is here refl
       steps l b a fate e DataOut device.Over is here c = none_needed fate e DataOut device.Over is here refl
       steps l b a fate e DataOut (device.StatusIn r x) is here c = none_needed fate e DataOut (device.StatusIn r x) is here refl
       steps l b a fate e DataOut (device.Written r x) is here c = none_needed fate e DataOut (device.Written r x) is here refl

@@ -273,7 +273,7 @@ module _ (f : DescriptorFile) (bytes : AreBytes (file_bytes f)) (s : State) (sta
 -- ---- transactions
 
 abbrev StageFits : DeviceStage → Type 0
-StageFits (Sending b m k) = AreBytes b
+StageFits (Sending q b k) = AreBytes b
 StageFits stage = Unit {0}
 
 record DeviceFits (d : DeviceView) : Type 0 where
@@ -341,8 +341,8 @@ stalls_fits s state = replied_fits _ s (Halted None) false tt state tt
 out_fits : (table : State → SetupPacket → Outcome) (n : ℕ) (s : State) (stage : DeviceStage) (t : Toggle) (b : List ℕ) → HasBytes s → StageFits stage → ServedFits (served_out table n s stage t b)
 out_fits table n s Idle t b state fits = stalls_fits s state
 out_fits table n s (Halted refused) t b state fits = stalls_fits s state
-out_fits table n s (Sending x m k) t b state fits = status_out_fits s (Sending x m k) t b state fits
-out_fits table n s StatusOut t b state fits = status_out_fits s StatusOut t b state fits
+out_fits table n s (Sending q x k) t b state fits = status_out_fits s (Sending q x k) t b state fits
+out_fits table n s (StatusOut q) t b state fits = status_out_fits s (StatusOut q) t b state fits
 out_fits table n s Over t b state fits = status_out_fits s Over t b state fits
 out_fits table n s (StatusIn q c) t b state fits =
     if_served (q.length == 0) _ _ (stalls_fits s state) (acknowledges_fits s (StatusIn q c) state tt)
@@ -372,9 +372,9 @@ module _ (f : DescriptorFile) (bytes : AreBytes (file_bytes f)) (table : State �
   in_stage_fits : (s : State) (stage : DeviceStage) → HasBytes s → StageFits stage → ServedFits (served_in table n s stage)
   in_stage_fits s Idle state fits = stalls_fits s state
   in_stage_fits s (Halted refused) state fits = stalls_fits s state
-  in_stage_fits s (Sending b m k) state fits =
-      next_fits s (Sending b m k) k (drop k (packets b n m)) state fits (drop_fit AreBytes k (packets b n m) (data_fits b m fits))
-  in_stage_fits s StatusOut state fits = stalls_fits s state
+  in_stage_fits s (Sending q b k) state fits =
+      next_fits s (Sending q b k) k (drop k (packets b n q.length)) state fits (drop_fit AreBytes k (packets b n q.length) (data_fits b q.length fits))
+  in_stage_fits s (StatusOut q) state fits = stalls_fits s state
   in_stage_fits s Over state fits = stalls_fits s state
   in_stage_fits s (Receiving q got) state fits = stalls_fits s state
   in_stage_fits s (Written q got) state fits = stalls_fits s state
@@ -398,15 +398,15 @@ module _ (f : DescriptorFile) (bytes : AreBytes (file_bytes f)) (table : State �
       by_address true = here_fits d sent.token ready h
       by_address false = replied_fits _ d.state d.stage false tt h.state h.stage
 
-  next_stage_fits : (b : List ℕ) (m k : ℕ) (ps : List (List ℕ)) → AreBytes b → StageFits (next_stage b m k ps)
-  next_stage_fits b m k [] h = tt
-  next_stage_fits b m k (p ∷ ps) h = h
+  next_stage_fits : (q : SetupPacket) (b : List ℕ) (k : ℕ) (ps : List (List ℕ)) → AreBytes b → StageFits (next_stage q b k ps)
+  next_stage_fits q b k [] h = tt
+  next_stage_fits q b k (p ∷ ps) h = h
 
   acked_stage_fits : (stage : DeviceStage) → StageFits stage → StageFits (acked_stage table n stage)
-  acked_stage_fits (Sending b m k) h = next_stage_fits b m k (drop (suc k) (packets b n m)) h
+  acked_stage_fits (Sending q b k) h = next_stage_fits q b k (drop (suc k) (packets b n q.length)) h
   acked_stage_fits Idle h = tt
   acked_stage_fits (Halted refused) h = tt
-  acked_stage_fits StatusOut h = tt
+  acked_stage_fits (StatusOut q) h = tt
   acked_stage_fits Over h = tt
   acked_stage_fits (StatusIn q c) h = tt
   acked_stage_fits (Receiving q got) h = tt
@@ -416,8 +416,8 @@ module _ (f : DescriptorFile) (bytes : AreBytes (file_bytes f)) (table : State �
   acked_state_fits s (StatusIn q c) h = if_state (is_set_address q) _ s (carried_fits s (table s q) h (table_fits s h q)) h
   acked_state_fits s Idle h = h
   acked_state_fits s (Halted refused) h = h
-  acked_state_fits s (Sending b m k) h = h
-  acked_state_fits s StatusOut h = h
+  acked_state_fits s (Sending q b k) h = h
+  acked_state_fits s (StatusOut q) h = h
   acked_state_fits s Over h = h
   acked_state_fits s (Receiving q got) h = h
   acked_state_fits s (Written q got) h = h

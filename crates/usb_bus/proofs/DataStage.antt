@@ -21,14 +21,14 @@ module _ (answer : State → SetupPacket → Outcome) (cut : ℕ) (s : State) (q
   -- what the ends keep in the data stage, the host so many packets and the device so many of them as acknowledged
   abbrev pub Reads : List ℕ → ℕ → ℕ → List ℕ → Type 0
   Reads bytes k kept got =
-      (l strikes : ℕ) → strikes + (kept - k) ≤ l → IsReading answer cut s q size naks data_out l bytes q.length k (toggle_of kept) got (length got) strikes s
+      (l strikes : ℕ) → strikes + (kept - k) ≤ l → IsReading answer cut s q size naks data_out l q bytes k (toggle_of kept) got (length got) strikes s
 
   pub reads : (bytes : List ℕ) (k kept : ℕ) (got : List ℕ) → answer s q ≡ Bytes bytes → (kept ≡ k) ⊎ (kept ≡ suc k) →
       got ≡ joined (take kept (packets bytes cut q.length)) → kept < length (packets bytes cut q.length) → Reads bytes k kept got
   reads bytes k kept got e counted brought more l strikes owed = record {
     same_state = refl;
     answered = e;
-    wants = refl;
+    asked_is = refl;
     count_is = refl;
     kept = kept;
     counted = counted;
@@ -44,7 +44,7 @@ module _ (answer : State → SetupPacket → Outcome) (cut : ℕ) (s : State) (q
       drop k (packets bytes cut q.length) ≡ p ∷ [] → drop (suc k) (packets bytes cut q.length) ≡ [] →
       length (packets bytes cut q.length) ≡ suc k → Due size q.length (length got) (p ∷ []) → Reads bytes k k got →
       length (got ++ p) ≡ length got + length p → got ++ p ≡ bytes → is_same_toggle (toggle_of k) (toggle_of k) ≡ true →
-      Goal answer cut s q size naks data_out l b a fate (both answer cut s q size naks data_out DataIn (Sending bytes q.length k) (toggle_of k) got (length got) strikes nak_count pending)
+      Goal answer cut s q size naks data_out l b a fate (both answer cut s q size naks data_out DataIn (Sending q bytes k) (toggle_of k) got (length got) strikes nak_count pending)
   last l b a Pass bytes k got strikes nak_count pending p e r o at after count due now len all sm = grind (arith, nat_tests)
   last l b a Busy bytes k got strikes nak_count pending p e r o at after count due now len all sm =
       let still = now (l + 0) strikes (omega arith) in grind (arith, nat_tests)
@@ -62,9 +62,9 @@ module _ (answer : State → SetupPacket → Outcome) (cut : ℕ) (s : State) (q
       Due size q.length (length got) (p ∷ (second ∷ rest)) →
       Reads bytes k k got → Reads bytes (suc k) (suc k) (got ++ p) → Reads bytes k (suc k) (got ++ p) →
       length (got ++ p) ≡ length got + length p → is_same_toggle (toggle_of k) (toggle_of k) ≡ true →
-      Goal answer cut s q size naks data_out l b a fate (both answer cut s q size naks data_out DataIn (Sending bytes q.length k) (toggle_of k) got (length got) strikes nak_count pending)
+      Goal answer cut s q size naks data_out l b a fate (both answer cut s q size naks data_out DataIn (Sending q bytes k) (toggle_of k) got (length got) strikes nak_count pending)
   inner l b a Pass bytes k got strikes nak_count pending p second rest e r o at after due now next ahead len sm =
-      let then : IsReading answer cut s q size naks data_out (l + 0) bytes q.length (suc k) (flipped (toggle_of k)) (got ++ p) (length (got ++ p)) 0 s =
+      let then : IsReading answer cut s q size naks data_out (l + 0) q bytes (suc k) (flipped (toggle_of k)) (got ++ p) (length (got ++ p)) 0 s =
       next (l + 0) 0 (omega arith) in grind (arith, nat_tests)
   inner l b a Busy bytes k got strikes nak_count pending p second rest e r o at after due now next ahead len sm =
       let still = now (l + 0) strikes (omega arith) in grind (arith, nat_tests)
@@ -73,7 +73,7 @@ module _ (answer : State → SetupPacket → Outcome) (cut : ℕ) (s : State) (q
   inner l b a LostUp bytes k got strikes nak_count pending p second rest e r o at after due now next ahead len sm =
       let struck = now (l + 1) (suc strikes) (omega arith) in grind (arith, nat_tests)
   inner l b a LostAck bytes k got strikes nak_count pending p second rest e r o at after due now next ahead len sm =
-      let then : IsReading answer cut s q size naks data_out (l + 1) bytes q.length k (flipped (toggle_of k)) (got ++ p) (length (got ++ p)) 0 s =
+      let then : IsReading answer cut s q size naks data_out (l + 1) q bytes k (flipped (toggle_of k)) (got ++ p) (length (got ++ p)) 0 s =
       ahead (l + 1) 0 (omega arith) in grind (arith, nat_tests)
 
   -- the device is one packet behind
@@ -82,19 +82,19 @@ module _ (answer : State → SetupPacket → Outcome) (cut : ℕ) (s : State) (q
       answer s q ≡ Bytes bytes → nak_count ≤ b → strikes + 1 ≤ l → length p ≤ size →
       drop k (packets bytes cut q.length) ≡ p ∷ (second ∷ rest) → drop (suc k) (packets bytes cut q.length) ≡ second ∷ rest →
       Reads bytes k (suc k) got → Reads bytes (suc k) (suc k) got → is_same_toggle (toggle_of k) (flipped (toggle_of k)) ≡ false →
-      Goal answer cut s q size naks data_out l b a fate (both answer cut s q size naks data_out DataIn (Sending bytes q.length k) (flipped (toggle_of k)) got (length got) strikes nak_count pending)
+      Goal answer cut s q size naks data_out l b a fate (both answer cut s q size naks data_out DataIn (Sending q bytes k) (flipped (toggle_of k)) got (length got) strikes nak_count pending)
   behind l b a Pass bytes k got strikes nak_count pending p second rest e r o small at after now next ns =
-      let then : IsReading answer cut s q size naks data_out (l + 0) bytes q.length (suc k) (flipped (toggle_of k)) got (length got) (suc strikes) s =
+      let then : IsReading answer cut s q size naks data_out (l + 0) q bytes (suc k) (flipped (toggle_of k)) got (length got) (suc strikes) s =
       next (l + 0) (suc strikes) (omega arith) in grind (arith, nat_tests)
   behind l b a Busy bytes k got strikes nak_count pending p second rest e r o small at after now next ns =
-      let still : IsReading answer cut s q size naks data_out (l + 0) bytes q.length k (flipped (toggle_of k)) got (length got) strikes s =
+      let still : IsReading answer cut s q size naks data_out (l + 0) q bytes k (flipped (toggle_of k)) got (length got) strikes s =
       now (l + 0) strikes (omega arith) in grind (arith, nat_tests)
   behind l b a LostDown bytes k got strikes nak_count pending p second rest e r o small at after now next ns =
-      let struck : IsReading answer cut s q size naks data_out (l + 1) bytes q.length k (flipped (toggle_of k)) got (length got) (suc strikes) s =
+      let struck : IsReading answer cut s q size naks data_out (l + 1) q bytes k (flipped (toggle_of k)) got (length got) (suc strikes) s =
       now (l + 1) (suc strikes) (omega arith) in grind (arith, nat_tests)
   behind l b a LostUp bytes k got strikes nak_count pending p second rest e r o small at after now next ns =
-      let struck : IsReading answer cut s q size naks data_out (l + 1) bytes q.length k (flipped (toggle_of k)) got (length got) (suc strikes) s =
+      let struck : IsReading answer cut s q size naks data_out (l + 1) q bytes k (flipped (toggle_of k)) got (length got) (suc strikes) s =
       now (l + 1) (suc strikes) (omega arith) in grind (arith, nat_tests)
   behind l b a LostAck bytes k got strikes nak_count pending p second rest e r o small at after now next ns =
-      let struck : IsReading answer cut s q size naks data_out (l + 1) bytes q.length k (flipped (toggle_of k)) got (length got) (suc strikes) s =
+      let struck : IsReading answer cut s q size naks data_out (l + 1) q bytes k (flipped (toggle_of k)) got (length got) (suc strikes) s =
       now (l + 1) (suc strikes) (omega arith) in grind (arith, nat_tests)

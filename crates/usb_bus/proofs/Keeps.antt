@@ -36,7 +36,7 @@ module _ (answer : State → SetupPacket → Outcome) (cut : ℕ) (s : State) (q
     -- the host has kept as many packets as the device counts acknowledged
     level : (l b a : ℕ) (fate : Fate) (k : ℕ) (got : List ℕ) (strikes nak_count : ℕ) (pending : Bool) (left : List (List ℕ)) →
         nak_count ≤ b → strikes ≤ l → got ≡ joined (take k all) → k < length all → drop k all ≡ left →
-        Goal answer cut s q size naks data_out l b a fate (both answer cut s q size naks data_out DataIn (Sending bytes q.length k) (toggle_of k) got (length got) strikes nak_count pending)
+        Goal answer cut s q size naks data_out l b a fate (both answer cut s q size naks data_out DataIn (Sending q bytes k) (toggle_of k) got (length got) strikes nak_count pending)
     level l b a fate k got strikes nak_count pending [] r o brought more at = absurd (none_left k all at more)
     level l b a fate k got strikes nak_count pending (p ∷ []) r o brought more at =
         last answer cut s q size naks data_out l b a fate bytes k got strikes nak_count pending p e r o at (drop_suc k all p [] at) (is_last k all p at)
@@ -55,7 +55,7 @@ module _ (answer : State → SetupPacket → Outcome) (cut : ℕ) (s : State) (q
     -- or one more
     one_more : (l b a : ℕ) (fate : Fate) (k : ℕ) (got : List ℕ) (strikes nak_count : ℕ) (pending : Bool) (left : List (List ℕ)) →
         nak_count ≤ b → strikes + 1 ≤ l → got ≡ joined (take (suc k) all) → suc k < length all → drop k all ≡ left →
-        Goal answer cut s q size naks data_out l b a fate (both answer cut s q size naks data_out DataIn (Sending bytes q.length k) (flipped (toggle_of k)) got (length got) strikes nak_count pending)
+        Goal answer cut s q size naks data_out l b a fate (both answer cut s q size naks data_out DataIn (Sending q bytes k) (flipped (toggle_of k)) got (length got) strikes nak_count pending)
     one_more l b a fate k got strikes nak_count pending [] r o brought more at = absurd (none_left k all at (omega arith))
     one_more l b a fate k got strikes nak_count pending (p ∷ []) r o brought more at = absurd (let count = is_last k all p at in omega arith)
     one_more l b a fate k got strikes nak_count pending (p ∷ (second ∷ rest)) r o brought more at =
@@ -67,13 +67,13 @@ module _ (answer : State → SetupPacket → Outcome) (cut : ℕ) (s : State) (q
     sending : (l b a : ℕ) (fate : Fate) (k kept : ℕ) (awaited : Toggle) (got : List ℕ) (strikes nak_count : ℕ) (pending : Bool) →
         (kept ≡ k) ⊎ (kept ≡ suc k) → nak_count ≤ b → strikes + (kept - k) ≤ l →
         got ≡ joined (take kept all) → awaited ≡ toggle_of kept → kept < length all →
-        Goal answer cut s q size naks data_out l b a fate (both answer cut s q size naks data_out DataIn (Sending bytes q.length k) awaited got (length got) strikes nak_count pending)
+        Goal answer cut s q size naks data_out l b a fate (both answer cut s q size naks data_out DataIn (Sending q bytes k) awaited got (length got) strikes nak_count pending)
     sending l b a fate k kept awaited got strikes nak_count pending (inl same) r o brought awaits more =
-        subst (λ w. Goal answer cut s q size naks data_out l b a fate (both answer cut s q size naks data_out DataIn (Sending bytes q.length k) w got (length got) strikes nak_count pending))
+        subst (λ w. Goal answer cut s q size naks data_out l b a fate (both answer cut s q size naks data_out DataIn (Sending q bytes k) w got (length got) strikes nak_count pending))
         (sym (awaits ∙ ap toggle_of same))
         (level l b a fate k got strikes nak_count pending (drop k all) r (omega arith) (brought ∙ ap (λ n. joined (take n all)) same) (omega arith) refl)
     sending l b a fate k kept awaited got strikes nak_count pending (inr same) r o brought awaits more =
-        subst (λ w. Goal answer cut s q size naks data_out l b a fate (both answer cut s q size naks data_out DataIn (Sending bytes q.length k) w got (length got) strikes nak_count pending))
+        subst (λ w. Goal answer cut s q size naks data_out l b a fate (both answer cut s q size naks data_out DataIn (Sending q bytes k) w got (length got) strikes nak_count pending))
         (sym (awaits ∙ ap toggle_of same))
         (one_more l b a fate k got strikes nak_count pending (drop k all) r (omega arith) (brought ∙ ap (λ n. joined (take n all)) same) (omega arith) refl)
 
@@ -107,12 +107,12 @@ module _ (answer : State → SetupPacket → Outcome) (cut : ℕ) (s : State) (q
         let h' = subst (λ x. Stages answer cut s q size naks data_out l b a DataIn (device.Halted refused) awaited got count strikes x) h.same_state h in
         subst (λ x. At l b a fate DataIn (device.Halted refused) awaited got count strikes nak_count pending x) (sym h.same_state)
         (data_in_halted answer cut s q size naks data_out l b a fate refused awaited got count strikes nak_count pending h' r)
-    by_stage l b a fate DataIn (device.Sending bytes m k) awaited got count strikes nak_count pending d r h =
-        let h' = subst (λ x. IsReading answer cut s q size naks data_out l bytes m k awaited got count strikes x) h.same_state h in
-        let h'' = subst (λ x. IsReading answer cut s q size naks data_out l bytes x k awaited got count strikes s) h.wants h' in
-        subst (λ x. At l b a fate DataIn (Sending bytes m k) awaited got count strikes nak_count pending x) (sym h.same_state)
-        (subst (λ x. At l b a fate DataIn (Sending bytes x k) awaited got count strikes nak_count pending s) (sym h.wants)
-        (subst (λ x. At l b a fate DataIn (Sending bytes q.length k) awaited got x strikes nak_count pending s) (sym h.count_is)
+    by_stage l b a fate DataIn (device.Sending asked bytes k) awaited got count strikes nak_count pending d r h =
+        let h' = subst (λ x. IsReading answer cut s q size naks data_out l asked bytes k awaited got count strikes x) h.same_state h in
+        let h'' = subst (λ x. IsReading answer cut s q size naks data_out l x bytes k awaited got count strikes s) h.asked_is h' in
+        subst (λ x. At l b a fate DataIn (Sending asked bytes k) awaited got count strikes nak_count pending x) (sym h.same_state)
+        (subst (λ x. At l b a fate DataIn (Sending x bytes k) awaited got count strikes nak_count pending s) (sym h.asked_is)
+        (subst (λ x. At l b a fate DataIn (Sending q bytes k) awaited got x strikes nak_count pending s) (sym h.count_is)
         (sending bytes h''.answered (c bytes h''.answered) l b a fate k h''.kept awaited got strikes nak_count pending h''.counted r h''.owed h''.brought h''.awaits h''.more)))
     by_stage l b a fate DataIn _ awaited got count strikes nak_count pending d r h = absurd h
     by_stage l b a fate DataOut (device.Halted refused) awaited got count strikes nak_count pending d r h =

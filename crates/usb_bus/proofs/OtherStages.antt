@@ -143,10 +143,10 @@ module _ (answer : State → SetupPacket → Outcome) (cut : ℕ) (s : State) (q
       strikes ≤ l → nak_count ≤ b →
       SetupGoal l b a fate q at strikes nak_count pending
   setup_by l b a fate at strikes nak_count pending (Bytes bytes) e w c o r =
-      let at_start : IsReading answer cut s q size naks data_out (l + lost fate) bytes q.length 0 Data1 [] 0 0 s = record {
+      let at_start : IsReading answer cut s q size naks data_out (l + lost fate) q bytes 0 Data1 [] 0 0 s = record {
         same_state = refl;
         answered = e;
-        wants = refl;
+        asked_is = refl;
         count_is = refl;
         kept = 0;
         counted = inl refl;

@@ -63,8 +63,8 @@ module _ (room : ℕ) (table : State → SetupPacket → Outcome) (packet : ℕ)
   judges_alike r r' (device.Receiving q got) d else_ = absurd else_
   judges_alike r r' device.Idle d else_ = refl
   judges_alike r r' (device.Halted refused) d else_ = refl
-  judges_alike r r' (device.Sending b m k) d else_ = refl
-  judges_alike r r' device.StatusOut d else_ = refl
+  judges_alike r r' (device.Sending q b k) d else_ = refl
+  judges_alike r r' (device.StatusOut q) d else_ = refl
   judges_alike r r' device.Over d else_ = refl
   judges_alike r r' (device.StatusIn q carried) d else_ = refl
   judges_alike r r' (device.Written q got) d else_ = refl

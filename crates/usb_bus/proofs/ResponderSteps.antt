@@ -60,8 +60,8 @@ module _ (room : ℕ) (table : State → Setup → Outcome) (respond : State →
   in_same : (s : State) (stage : DeviceStage) → served_in table packet s stage ≡ served_in both packet s stage
   in_same s Idle = refl
   in_same s (Halted refused) = refl
-  in_same s (Sending b m k) = refl
-  in_same s StatusOut = refl
+  in_same s (Sending q b k) = refl
+  in_same s (StatusOut q) = refl
   in_same s Over = refl
   in_same s (StatusIn q carried) = ap (λ t. replies (DataReply Data1 []) t (StatusIn q true) true) (status_same s q (carried || is_set_address q))
   in_same s (Receiving q got) = refl
@@ -100,8 +100,8 @@ module _ (room : ℕ) (table : State → Setup → Outcome) (respond : State →
       about stage (served_out table packet s stage toggle bytes) ≡ served_out both packet s stage toggle bytes
   out_same s Idle toggle bytes = refl
   out_same s (Halted refused) toggle bytes = refl
-  out_same s (Sending b m k) toggle bytes = refl
-  out_same s StatusOut toggle bytes = refl
+  out_same s (Sending q b k) toggle bytes = refl
+  out_same s (StatusOut q) toggle bytes = refl
   out_same s Over toggle bytes = refl
   out_same s (StatusIn q carried) toggle bytes = refl
   out_same s (Receiving q got) toggle bytes =
@@ -115,8 +115,8 @@ module _ (room : ℕ) (table : State → Setup → Outcome) (respond : State →
   waits_same : (s : State) (stage : DeviceStage) → about stage (replies NakReply s stage false) ≡ replies NakReply s stage false
   waits_same s Idle = refl
   waits_same s (Halted refused) = refl
-  waits_same s (Sending b m k) = refl
-  waits_same s StatusOut = refl
+  waits_same s (Sending q b k) = refl
+  waits_same s (StatusOut q) = refl
   waits_same s Over = refl
   waits_same s (StatusIn q carried) = refl
   waits_same s (Receiving q got) = refl
@@ -132,8 +132,8 @@ module _ (room : ℕ) (table : State → Setup → Outcome) (respond : State →
   nothing_same : (s : State) (stage : DeviceStage) → about stage (replies NoReply s stage false) ≡ replies NoReply s stage false
   nothing_same s Idle = refl
   nothing_same s (Halted refused) = refl
-  nothing_same s (Sending b m k) = refl
-  nothing_same s StatusOut = refl
+  nothing_same s (Sending q b k) = refl
+  nothing_same s (StatusOut q) = refl
   nothing_same s Over = refl
   nothing_same s (StatusIn q carried) = refl
   nothing_same s (Receiving q got) = refl
@@ -158,8 +158,8 @@ module _ (room : ℕ) (table : State → Setup → Outcome) (respond : State →
   acked_same : (s : State) (stage : DeviceStage) → view (acked_state table packet s stage) (acked_stage table packet stage) false ≡ view (acked_state both packet s stage) (acked_stage both packet stage) false
   acked_same s Idle = refl
   acked_same s (Halted refused) = refl
-  acked_same s (Sending b m k) = refl
-  acked_same s StatusOut = refl
+  acked_same s (Sending q b k) = refl
+  acked_same s (StatusOut q) = refl
   acked_same s Over = refl
   acked_same s (StatusIn q carried) = ap (λ t. view t Idle false) (moved_same s q (is_set_address q))
   acked_same s (Receiving q got) = refl

@@ -30,16 +30,16 @@ module _ (answer : State → SetupPacket → Outcome) (cut : ℕ) (s : State) (q
   -- In the data stage the host has kept the first so many packets of the answer, and awaits the next one. The device counts
   -- as many as acknowledged, or one fewer, where the ACK was lost. Each strike has a loss of its own, and so has that ACK: the
   -- packet comes again, which is a strike too.
-  pub record IsReading (lost : ℕ) (bytes : List ℕ) (limit acknowledged : ℕ) (awaited : Toggle) (got : List ℕ) (count strikes : ℕ) (d : State) : Type 0 where
+  pub record IsReading (lost : ℕ) (asked : SetupPacket) (bytes : List ℕ) (acknowledged : ℕ) (awaited : Toggle) (got : List ℕ) (count strikes : ℕ) (d : State) : Type 0 where
     pub same_state : d ≡ s
     pub answered : answer s q ≡ Bytes bytes
-    pub wants : limit ≡ q.length
+    pub asked_is : asked ≡ q
     pub count_is : count ≡ length got
     pub kept : ℕ
     pub counted : (kept ≡ acknowledged) ⊎ (kept ≡ suc acknowledged)
-    pub brought : got ≡ joined (take kept (packets bytes cut limit))
+    pub brought : got ≡ joined (take kept (packets bytes cut q.length))
     pub awaits : awaited ≡ toggle_of kept
-    pub more : kept < length (packets bytes cut limit)
+    pub more : kept < length (packets bytes cut q.length)
     pub owed : strikes + (kept - acknowledged) ≤ lost
 
   -- In the data stage of a write the device has the first so many packets of the data, which are whole, and more are to come.
@@ -97,8 +97,8 @@ module _ (answer : State → SetupPacket → Outcome) (cut : ℕ) (s : State) (q
   -- the host waits for the ACK of its SETUP, wherever the device is
   Stages l b a Setup stage awaited got count strikes d = (d ≡ s) × (got ≡ []) × (count ≡ 0) × (awaited ≡ Data1) × (strikes ≤ l)
   Stages l b a DataIn (device.Halted refused) awaited got count strikes d = IsRefused l strikes d
-  Stages l b a DataIn (device.Sending bytes limit acknowledged) awaited got count strikes d =
-      IsReading l bytes limit acknowledged awaited got count strikes d
+  Stages l b a DataIn (device.Sending asked bytes acknowledged) awaited got count strikes d =
+      IsReading l asked bytes acknowledged awaited got count strikes d
   Stages l b a DataIn _ awaited got count strikes d = ⊥
   Stages l b a DataOut (device.Halted refused) awaited got count strikes d = IsRefused l strikes d
   Stages l b a DataOut (device.Receiving asked came) awaited got count strikes d = IsWriting l asked came awaited count strikes d
@@ -108,9 +108,9 @@ module _ (answer : State → SetupPacket → Outcome) (cut : ℕ) (s : State) (q
   Stages l b a DataOut (device.Written asked came) awaited got count strikes d = IsRefused l strikes d
   Stages l b a DataOut _ awaited got count strikes d = ⊥
   -- the device is one handshake behind: it counts all packets but the last one as acknowledged
-  Stages l b a StatusOut (device.Sending bytes limit acknowledged) awaited got count strikes d =
-      HasAll l got strikes d × (length (packets bytes cut limit) ≡ suc acknowledged)
-  Stages l b a StatusOut device.StatusOut awaited got count strikes d = HasAll l got strikes d
+  Stages l b a StatusOut (device.Sending asked bytes acknowledged) awaited got count strikes d =
+      HasAll l got strikes d × (length (packets bytes cut asked.length) ≡ suc acknowledged)
+  Stages l b a StatusOut (device.StatusOut asked) awaited got count strikes d = HasAll l got strikes d
   -- the host is one handshake behind: the device has acknowledged the status
   Stages l b a StatusOut device.Over awaited got count strikes d = HasAll l got strikes d
   Stages l b a StatusOut _ awaited got count strikes d = ⊥

@@ -11,6 +11,7 @@ use Rattle.usb_file_data.specs.FileFaults.{FileFaulty}
 use Rattle.usb_device.specs.Accepted.{Accepted}
 use Rattle.usb_device.specs.Beside.{Response, accepted, answered, refused_in, rejected, room_size, unaccepted, unanswered, written_in}
 use Rattle.usb_device.specs.Step.{new_device}
+use Rattle.usb_device.specs.Requests.{answer}
 use Rattle.usb_device.specs.View.{View, served_by, after}
 use Rattle.usb_device.specs.declared.state.State.{State}
 use Rattle.usb_device.specs.declared.beside.Unanswered.{Unanswered}
@@ -88,7 +89,7 @@ accepted_for v = after v (accepted room_size v.device)
 
 -- the device once its owner has refused
 abbrev pub rejected_for : View → View
-rejected_for v = after v (rejected v.device)
+rejected_for v = after v (rejected (answer v.description.file) v.device)
 
 -- A write whose data have all come, and that is not answered yet: its request is told, and the data are put into the buffer.
 abbrev pub TellsWrite : Option (Setup × List ℕ) → NzgSetup → NzgSetup → List ℕ → List ℕ → Verdict → Type 0

@@ -245,8 +245,8 @@ fn tell_write(device: &OwnedDevice, setup: &mut NzgSetup, buffer: &mut [u8]) -> 
     }
 }
 
-/// Refuses the request that the device's owner was to answer, or has accepted, until the status stage was answered. False
-/// where none is held.
+/// Refuses the request that the device's owner was to answer, or has answered or accepted, until the status stage was
+/// answered. False where none is held.
 #[unsafe(no_mangle)]
 pub extern "C" fn nzg_device_refuse(alloc: Global, device: &mut NzgDevice) -> bool
     ensures held { device.new.held ≡ option_map rejected_for device.old.held }
@@ -256,7 +256,7 @@ pub extern "C" fn nzg_device_refuse(alloc: Global, device: &mut NzgDevice) -> bo
         return false;
     };
     let owned: &mut OwnedDevice = &mut held;
-    owned.endpoint_zero.refuse();
+    owned.endpoint_zero.refuse(&owned.description);
     *device = NzgDevice::of(held);
     true
 }

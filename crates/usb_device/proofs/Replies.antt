@@ -72,8 +72,8 @@ module _ (table : State → Setup → Outcome) (n : ℕ) (small : n ≤ 64) wher
   out_fits : (s : State) (stage : DeviceStage) (toggle : Toggle) (bytes : List ℕ) → HasRoom (served_out table n s stage toggle bytes).reply
   out_fits s Idle toggle bytes = tt
   out_fits s (Halted refused) toggle bytes = tt
-  out_fits s (Sending b m k) toggle bytes = status_fits s (Sending b m k) toggle bytes
-  out_fits s StatusOut toggle bytes = status_fits s StatusOut toggle bytes
+  out_fits s (Sending q b k) toggle bytes = status_fits s (Sending q b k) toggle bytes
+  out_fits s (StatusOut q) toggle bytes = status_fits s (StatusOut q) toggle bytes
   out_fits s Over toggle bytes = status_fits s Over toggle bytes
   out_fits s (StatusIn q carried) toggle bytes = if_fits (q.length == 0) (stalls s) (replies AckReply s (StatusIn q carried) false) tt tt
   out_fits s (Receiving q got) toggle bytes =
@@ -85,8 +85,9 @@ module _ (table : State → Setup → Outcome) (n : ℕ) (small : n ≤ 64) wher
   in_fits : (s : State) (stage : DeviceStage) → HasRoom (served_in table n s stage).reply
   in_fits s Idle = tt
   in_fits s (Halted refused) = tt
-  in_fits s (Sending b m k) = next_fits s (Sending b m k) k n (drop k (packets b n m)) small (drop_short k n (packets b n m) (packets_short b n m))
-  in_fits s StatusOut = tt
+  in_fits s (Sending q b k) =
+      next_fits s (Sending q b k) k n (drop k (packets b n q.length)) small (drop_short k n (packets b n q.length) (packets_short b n q.length))
+  in_fits s (StatusOut q) = tt
   in_fits s Over = tt
   in_fits s (StatusIn q carried) = omega arith
   in_fits s (Receiving q got) = tt

@@ -2,6 +2,7 @@
 use Rattle.std.proofs.Common.{◌≡◌, ℕ, zero, suc, ◌+◌, ◌*◌, ◌/◌, ◌<◌, ◌≤◌, ◌⊎◌, List, [], ◌∷◌, length, take, drop, Some, None, slice_get, refl, arith}
 use Rattle.std.proofs.Math.Nat.{mul-div_cancel}
 use Rattle.std.proofs.lemmas.List.{length-take-le}
+use Rattle.usb_fields.specs.declared.setup.Setup.{Setup}
 use Rattle.usb_fields.specs.Packets.{packets, flipped}
 use Rattle.usb_fields.proofs.PacketLemmas.{packets-at, packets-past}
 use Rattle.usb_file_data.specs.declared.file.DescriptorFile.{DescriptorFile}
@@ -35,53 +36,54 @@ next_place o n pos whole =
     rw on (mul-div_cancel (suc k) pos)
 
 -- after a whole packet before the end another one is due
-pub stage_goes_on : (b : List ℕ) (n m o : ℕ) → 0 < n → o ≡ o / n * n → o + n ≤ length b → o + n < m → next_stage b m (o / n) (drop (suc (o / n)) (packets b n m)) ≡ Sending b m (suc (o / n))
-stage_goes_on b n m o pos whole inside asked =
+pub stage_goes_on : (q : Setup) (b : List ℕ) (n o : ℕ) → 0 < n → o ≡ o / n * n → o + n ≤ length b → o + n < q.length → next_stage q b (o / n) (drop (suc (o / n)) (packets b n q.length)) ≡ Sending q b (suc (o / n))
+stage_goes_on q b n o pos whole inside asked =
     let on : suc (o / n) * n ≡ o + n = grind arith in
-    let at = packets-at b n m (suc (o / n)) pos (rw on inside) (rw on asked) in
-    rw (drop_there (packets b n m) (suc (o / n)) (take n (drop (suc (o / n) * n) b)) at) refl
+    let at = packets-at b n q.length (suc (o / n)) pos (rw on inside) (rw on asked) in
+    rw (drop_there (packets b n q.length) (suc (o / n)) (take n (drop (suc (o / n) * n) b)) at) refl
 
 -- after a short packet, or once all is sent that was asked for, the data stage is over
-pub stage_ends : (b : List ℕ) (n m o : ℕ) → 0 < n → o ≡ o / n * n → length b ≤ m → (length b < o + n) ⊎ (m ≤ o + n) → next_stage b m (o / n) (drop (suc (o / n)) (packets b n m)) ≡ StatusOut
-stage_ends b n m o pos whole fits past =
+pub stage_ends : (q : Setup) (b : List ℕ) (n o : ℕ) → 0 < n → o ≡ o / n * n → length b ≤ q.length → (length b < o + n) ⊎ (q.length ≤ o + n) → next_stage q b (o / n) (drop (suc (o / n)) (packets b n q.length)) ≡ StatusOut q
+stage_ends q b n o pos whole fits past =
     let on : suc (o / n) * n ≡ o + n = grind arith in
-    let at = packets-past b n m (suc (o / n)) pos fits (rw on past) in
-    rw (drop_past (packets b n m) (suc (o / n)) at) refl
+    let at = packets-past b n q.length (suc (o / n)) pos fits (rw on past) in
+    rw (drop_past (packets b n q.length) (suc (o / n)) at) refl
 
--- the bytes of a data stage are as many as the code counts
-pub data_length : (f : DescriptorFile) (d : DataStage) → IsData f d → length (data_bytes f d) ≡ d.count
-data_length f d h = length-take-le d.count (source_bytes f d.source d.kept) h.count
+module _ (f : DescriptorFile) (d : DataStage) (q : Setup) where
+  -- the bytes of a data stage are as many as the code counts
+  pub data_length : IsData f d q → length (data_bytes f d) ≡ d.count
+  data_length h = length-take-le d.count (source_bytes f d.source d.kept) h.count
 
--- the packet that is due stands at the offset
-pub packets_left : (f : DescriptorFile) (d : DataStage) → 0 < f.device.packet → IsData f d → drop (d.offset / f.device.packet) (packets (data_bytes f d) f.device.packet d.limit) ≡ take f.device.packet (drop d.offset (data_bytes f d)) ∷ drop (suc (d.offset / f.device.packet)) (packets (data_bytes f d) f.device.packet d.limit)
-packets_left f d pos h =
-    let within : d.offset ≤ length (data_bytes f d) = omega (arith, h.inside, data_length f d h) in
-    packet_here (data_bytes f d) f.device.packet d.limit d.offset pos h.whole within h.asked
+  -- the packet that is due stands at the offset
+  pub packets_left : 0 < f.device.packet → IsData f d q → drop (d.offset / f.device.packet) (packets (data_bytes f d) f.device.packet q.length) ≡ take f.device.packet (drop d.offset (data_bytes f d)) ∷ drop (suc (d.offset / f.device.packet)) (packets (data_bytes f d) f.device.packet q.length)
+  packets_left pos h =
+      let within : d.offset ≤ length (data_bytes f d) = omega (arith, h.inside, data_length h) in
+      packet_here (data_bytes f d) f.device.packet q.length d.offset pos h.whole within h.asked
 
--- after a whole packet before the end the code is at the next one
-pub data_goes_on : (f : DescriptorFile) (d : DataStage) → 0 < f.device.packet → IsData f d → d.offset + f.device.packet ≤ d.count → d.offset + f.device.packet < d.limit → IsData f (record d { offset = d.offset + f.device.packet; toggle = flipped d.toggle })
-data_goes_on f d pos h inside asked =
-    let next = next_place d.offset f.device.packet pos h.whole in
-    record {
-      source = h.source;
-      count = h.count;
-      fits = h.fits;
-      whole = rw next (grind (arith, h.whole));
-      inside = inside;
-      asked = asked;
-      toggle = rw (next, h.toggle) refl;
-    }
+  -- after a whole packet before the end the code is at the next one
+  pub data_goes_on : 0 < f.device.packet → IsData f d q → d.offset + f.device.packet ≤ d.count → d.offset + f.device.packet < q.length → IsData f (record d { offset = d.offset + f.device.packet; toggle = flipped d.toggle }) q
+  data_goes_on pos h inside asked =
+      let next = next_place d.offset f.device.packet pos h.whole in
+      record {
+        source = h.source;
+        count = h.count;
+        fits = h.fits;
+        whole = rw next (grind (arith, h.whole));
+        inside = inside;
+        asked = asked;
+        toggle = rw (next, h.toggle) refl;
+      }
 
--- and the stage is the next one
-pub stage_data_goes_on : (f : DescriptorFile) (d : DataStage) → 0 < f.device.packet → IsData f d → d.offset + f.device.packet ≤ d.count → d.offset + f.device.packet < d.limit → next_stage (data_bytes f d) d.limit (d.offset / f.device.packet) (drop (suc (d.offset / f.device.packet)) (packets (data_bytes f d) f.device.packet d.limit)) ≡ Sending (data_bytes f d) d.limit ((d.offset + f.device.packet) / f.device.packet)
-stage_data_goes_on f d pos h inside asked =
-    let within : d.offset + f.device.packet ≤ length (data_bytes f d) = omega (arith, data_length f d h) in
-    rw (next_place d.offset f.device.packet pos h.whole)
-    (stage_goes_on (data_bytes f d) f.device.packet d.limit d.offset pos h.whole within asked)
+  -- and the stage is the next one
+  pub stage_data_goes_on : 0 < f.device.packet → IsData f d q → d.offset + f.device.packet ≤ d.count → d.offset + f.device.packet < q.length → next_stage q (data_bytes f d) (d.offset / f.device.packet) (drop (suc (d.offset / f.device.packet)) (packets (data_bytes f d) f.device.packet q.length)) ≡ Sending q (data_bytes f d) ((d.offset + f.device.packet) / f.device.packet)
+  stage_data_goes_on pos h inside asked =
+      let within : d.offset + f.device.packet ≤ length (data_bytes f d) = omega (arith, data_length h) in
+      rw (next_place d.offset f.device.packet pos h.whole)
+      (stage_goes_on q (data_bytes f d) f.device.packet d.offset pos h.whole within asked)
 
-pub stage_data_ends : (f : DescriptorFile) (d : DataStage) → 0 < f.device.packet → IsData f d → (d.count < d.offset + f.device.packet) ⊎ (d.limit ≤ d.offset + f.device.packet) → next_stage (data_bytes f d) d.limit (d.offset / f.device.packet) (drop (suc (d.offset / f.device.packet)) (packets (data_bytes f d) f.device.packet d.limit)) ≡ StatusOut
-stage_data_ends f d pos h past =
-    let long = data_length f d h in
-    stage_ends (data_bytes f d) f.device.packet d.limit d.offset pos h.whole (omega (arith, long, h.fits)) (rw long past)
+  pub stage_data_ends : 0 < f.device.packet → IsData f d q → (d.count < d.offset + f.device.packet) ⊎ (q.length ≤ d.offset + f.device.packet) → next_stage q (data_bytes f d) (d.offset / f.device.packet) (drop (suc (d.offset / f.device.packet)) (packets (data_bytes f d) f.device.packet q.length)) ≡ StatusOut q
+  stage_data_ends pos h past =
+      let long = data_length h in
+      stage_ends q (data_bytes f d) f.device.packet d.offset pos h.whole (omega (arith, long, h.fits)) (rw long past)
 
 pub ruleset stages = (packets_left, data_goes_on, stage_data_goes_on, stage_data_ends)

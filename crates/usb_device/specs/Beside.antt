@@ -14,7 +14,7 @@ use Rattle.usb_device.specs.declared.beside.Unanswered.TheVariants.{Nothing, Clo
 use Rattle.usb_device.specs.declared.state.State.{State}
 use Rattle.usb_device.specs.Requests.{Outcome, Bytes, Done, Refused, when}
 use Rattle.usb_device.specs.Requests as outcomes
-use Rattle.usb_device.specs.Step.{DeviceStage, Halted, StatusIn, Receiving, Written, DeviceView, begun, completed}
+use Rattle.usb_device.specs.Step.{DeviceStage, Halted, Sending, StatusOut, StatusIn, Receiving, Written, DeviceView, begun, completed}
 
 -- what an owner answers: these bytes, that the request is done, that its data are taken and how they are judged, or nothing
 pub data Response : Type 0 where
@@ -143,17 +143,26 @@ accepted room d = record d { stage = accepted_from room d.state d.stage }
 
 -- The owner refuses, until the status stage was answered: STALL is the answer then, whatever comes before the next SETUP.
 
--- the stage then: that of a request which is not the owner's stays
-abbrev pub rejected_from : DeviceStage → DeviceStage
-rejected_from (Halted refused) = Halted None
-rejected_from (Receiving q got) = Halted None
-rejected_from (Written q got) = Halted None
-rejected_from (StatusIn q false) = if is_open q then Halted None else StatusIn q false
-rejected_from stage = stage
+-- whether a request is left to the owner: the table refuses it
+abbrev pub is_left : Outcome → Bool
+is_left (Bytes bytes) = false
+is_left (Done next) = false
+is_left Refused = true
+is_left (outcomes.Takes judge) = false
+
+-- the stage then, by the table's answer to the request of the transfer: where that is not left to the owner, it stays
+abbrev pub rejected_from : (Setup → Outcome) → DeviceStage → DeviceStage
+rejected_from table (Halted refused) = Halted None
+rejected_from table (Sending q bytes acked) = if is_left (table q) then Halted None else Sending q bytes acked
+rejected_from table (StatusOut q) = if is_left (table q) then Halted None else StatusOut q
+rejected_from table (Receiving q got) = Halted None
+rejected_from table (Written q got) = Halted None
+rejected_from table (StatusIn q false) = if is_left (table q) then Halted None else StatusIn q false
+rejected_from table stage = stage
 
 -- the device then
-abbrev pub rejected : DeviceView → DeviceView
-rejected d = record d { stage = rejected_from d.stage }
+abbrev pub rejected : (State → Setup → Outcome) → DeviceView → DeviceView
+rejected table d = record d { stage = rejected_from (table d.state) d.stage }
 
 -- why these bytes are no answer to an open request, if they are none
 abbrev pub unfit_bytes : ℕ → List ℕ → Setup → Option Unanswered

@@ -29,8 +29,8 @@ written_bytes d = take d.offset d.kept
 abbrev pub stage_of : DescriptorFile → Stage → DataStage → Setup → Bool → DeviceStage
 stage_of f stages.Idle d request settled = Idle
 stage_of f stages.Halted d request settled = Halted (if settled then None else Some request)
-stage_of f stages.Sending d request settled = Sending (data_bytes f d) d.limit (d.offset / f.device.packet)
-stage_of f stages.StatusOut d request settled = StatusOut
+stage_of f stages.Sending d request settled = Sending request (data_bytes f d) (d.offset / f.device.packet)
+stage_of f stages.StatusOut d request settled = StatusOut request
 stage_of f stages.Over d request settled = Over
 stage_of f stages.StatusIn d request settled = StatusIn request settled
 stage_of f stages.Receiving d request settled = Receiving request (written_bytes d)
@@ -40,8 +40,8 @@ stage_of f stages.Written d request settled = Written request (written_bytes d)
 abbrev pub stage_kind : DeviceStage → Stage
 stage_kind Idle = stages.Idle
 stage_kind (Halted refused) = stages.Halted
-stage_kind (Sending bytes limit acked) = stages.Sending
-stage_kind StatusOut = stages.StatusOut
+stage_kind (Sending request bytes acked) = stages.Sending
+stage_kind (StatusOut request) = stages.StatusOut
 stage_kind Over = stages.Over
 stage_kind (StatusIn request carried_out) = stages.StatusIn
 stage_kind (Receiving request got) = stages.Receiving
@@ -52,14 +52,14 @@ abbrev pub IsSource : DescriptorFile → Source → Type 0
 IsSource f (Descriptor place) = place < length (descriptors f)
 IsSource f Kept = Unit {0}
 
--- a place in a data stage is a whole number of packets, before its end
-pub record IsData (f : DescriptorFile) (d : DataStage) : Type 0 where
+-- a place in the data stage of this request is a whole number of packets, before its end
+pub record IsData (f : DescriptorFile) (d : DataStage) (q : Setup) : Type 0 where
   pub source : IsSource f d.source
   pub count : d.count ≤ length (source_bytes f d.source d.kept)
-  pub fits : d.count ≤ d.limit
+  pub fits : d.count ≤ q.length
   pub whole : d.offset ≡ d.offset / f.device.packet * f.device.packet
   pub inside : d.offset ≤ d.count
-  pub asked : d.offset < d.limit
+  pub asked : d.offset < q.length
   pub toggle : d.toggle ≡ toggle_of (d.offset / f.device.packet)
 
 -- the data of this write have room, and some or all of them have come
@@ -76,7 +76,7 @@ pub record IsReceiving (f : DescriptorFile) (d : DataStage) (q : Setup) : Type 0
 
 -- the stage, with this data stage and of this request, is one of a device with these descriptors
 abbrev pub IsStage : DescriptorFile → Stage → DataStage → Setup → Type 0
-IsStage f stages.Sending d q = IsData f d
+IsStage f stages.Sending d q = IsData f d q
 IsStage f stages.Receiving d q = IsReceiving f d q
 IsStage f stages.Written d q = IsWrite f d q × (d.offset ≡ q.length)
 IsStage f stage d q = Unit {0}

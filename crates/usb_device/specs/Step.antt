@@ -12,14 +12,14 @@ use Rattle.usb_device.specs.Requests.{Outcome, Bytes, Done, Refused, Takes}
 
 -- Where a device stands in a transfer: in none, in one that it refuses, in a data stage, in the status stage that follows
 -- it, past that, or in the status stage of this request. A refused request is named until the host is informed. A data stage
--- answers with these bytes to a request for `limit` bytes, and `acked` of its packets were acknowledged. A request in its
--- status stage was carried out, or not yet. Of a write these bytes have come, and more are to come; or all have come, and
--- its owner has not judged them.
+-- answers this request with these bytes, and `acked` of its packets were acknowledged. A request in its status stage was
+-- carried out, or not yet. Of a write these bytes have come, and more are to come; or all have come, and its owner has not
+-- judged them.
 pub data DeviceStage : Type 0 where
   Idle : DeviceStage
   Halted : (refused : Option Setup) → DeviceStage
-  Sending : (bytes : List ℕ) (limit acked : ℕ) → DeviceStage
-  StatusOut : DeviceStage
+  Sending : (request : Setup) (bytes : List ℕ) (acked : ℕ) → DeviceStage
+  StatusOut : (request : Setup) → DeviceStage
   Over : DeviceStage
   StatusIn : (request : Setup) (carried_out : Bool) → DeviceStage
   Receiving : (request : Setup) (got : List ℕ) → DeviceStage
@@ -50,7 +50,7 @@ new_device = record { state = zero; stage = Idle; pending = false }
 
 -- a SETUP begins a transfer by its answer, and ends the one before it (5.5.5)
 abbrev pub begun : Setup → Outcome → DeviceStage
-begun q (Bytes bytes) = Sending bytes q.length 0
+begun q (Bytes bytes) = Sending q bytes 0
 begun q (Done next) = StatusIn q false
 begun q Refused = Halted (Some q)
 begun q (Takes judge) = Receiving q []
@@ -113,9 +113,9 @@ surplus_out packet s q got toggle =
     if is_same_toggle toggle (awaited packet (length got)) then stalls s else replies AckReply s (Written q got) false
 
 -- the stage after the ACK of packet k, by the packets that are left after it
-abbrev pub next_stage : List ℕ → ℕ → ℕ → List (List ℕ) → DeviceStage
-next_stage bytes limit k [] = StatusOut
-next_stage bytes limit k (p ∷ rest) = Sending bytes limit (suc k)
+abbrev pub next_stage : Setup → List ℕ → ℕ → List (List ℕ) → DeviceStage
+next_stage q bytes k [] = StatusOut q
+next_stage q bytes k (p ∷ rest) = Sending q bytes (suc k)
 
 module _ (answer : State → Setup → Outcome) (packet : ℕ) where
   -- the state in the status stage: the request is carried out at the first empty packet, SET_ADDRESS excepted
@@ -124,14 +124,14 @@ module _ (answer : State → Setup → Outcome) (packet : ℕ) where
 
   -- IN, by the stage
   abbrev pub served_in : State → DeviceStage → Served
-  served_in s (Sending b m k) = next_packet s (Sending b m k) k (drop k (packets b packet m))
+  served_in s (Sending q b k) = next_packet s (Sending q b k) k (drop k (packets b packet q.length))
   served_in s (StatusIn q carried) = replies (DataReply Data1 []) (status_state s q carried) (StatusIn q true) true
   served_in s stage = stalls s
 
   -- OUT, by the stage
   abbrev pub served_out : State → DeviceStage → Toggle → List ℕ → Served
-  served_out s (Sending b m k) toggle bytes = status_out s (Sending b m k) toggle bytes
-  served_out s StatusOut toggle bytes = status_out s StatusOut toggle bytes
+  served_out s (Sending q b k) toggle bytes = status_out s (Sending q b k) toggle bytes
+  served_out s (StatusOut q) toggle bytes = status_out s (StatusOut q) toggle bytes
   served_out s Over toggle bytes = status_out s Over toggle bytes
   served_out s (StatusIn q carried) toggle bytes = late_out s q carried
   served_out s (Receiving q got) toggle bytes = received packet s q (answer s q) got toggle bytes
@@ -154,7 +154,7 @@ module _ (answer : State → Setup → Outcome) (packet : ℕ) where
 
   -- the stage after the ACK of what was sent
   abbrev pub acked_stage : DeviceStage → DeviceStage
-  acked_stage (Sending b m k) = next_stage b m k (drop (suc k) (packets b packet m))
+  acked_stage (Sending q b k) = next_stage q b k (drop (suc k) (packets b packet q.length))
   acked_stage (StatusIn q carried) = Idle
   acked_stage stage = stage
 

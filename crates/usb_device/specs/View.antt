@@ -27,7 +27,7 @@ acked_by f d = acked (answer f) f.device.packet d
 
 -- the bytes of a data stage to the host that were acknowledged, in packets of this size
 abbrev pub acknowledged : ℕ → DeviceStage → ℕ
-acknowledged packet (Sending bytes limit acked) = acked * packet
+acknowledged packet (Sending request bytes acked) = acked * packet
 acknowledged packet stage = 0
 
 -- What changes in a device, apart from its description. It borrows nothing, and each of its calls is given the

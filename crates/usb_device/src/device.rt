@@ -11,7 +11,7 @@ use crate::endpoint_zero::EndpointZero;
 use crate::stage::{Reaction, Stage};
 use crate::state::State;
 use std::marker::Model;
-use usb_fields::{Answer, Setup, Transaction};
+use usb_fields::{Answer, Setup, Toggle, Transaction};
 
 /// A device on the bus: it answers each transaction as USB 2.0 says, by its description. It never
 /// allocates: the bytes of an [`Answer::Data`] are lent from the description, or from a room in the device, which
@@ -29,8 +29,8 @@ use usb_fields::{Answer, Setup, Transaction};
 /// ```
 #[derive(Debug, Drop)]
 pub struct Device<'d> {
-    description: &'d Description,
     endpoint_zero: EndpointZero,
+    description: &'d Description,
 }
 
 impl<'d> Model for Device<'d> {
@@ -47,6 +47,7 @@ impl<'d> Model for Device<'d> {
 
 impl<'d> Device<'d> {
     ghost use Rattle.usb_fields.specs.Packets.{reply_of, sent_of};
+    ghost use Rattle.usb_device.specs.Requests.{answer};
     ghost use Rattle.usb_device.specs.Step.{new_device};
     ghost use Rattle.usb_device.specs.Stages.{stage_kind};
     ghost use Rattle.usb_device.specs.View.{acked_by, acknowledged, served_by};
@@ -59,8 +60,8 @@ impl<'d> Device<'d> {
         ensures { result ≡ record { description = d.now; device = new_device } }
     {
         Device {
-            description: d,
             endpoint_zero: EndpointZero::new(d),
+            description: d,
         }
     }
 
@@ -83,6 +84,7 @@ impl<'d> Device<'d> {
             Reaction::Nak => Answer::Nak,
             Reaction::Stall => Answer::Stall,
             Reaction::Packet(toggle) => Answer::Data(toggle, self.packet()),
+            Reaction::Empty => Answer::Data(Toggle::Data1, &[]),
             Reaction::Silence => Answer::Silence,
         }
     }
@@ -197,13 +199,13 @@ impl<'d> Device<'d> {
         self.endpoint_zero.written()
     }
 
-    /// Refuses the request that the owner was to answer, or has accepted: the answer is STALL until the next SETUP. It
-    /// changes nothing once the status stage was answered, nor in a data stage to the host, nor for a request that isn't
-    /// [open](crate::is_open).
+    /// Refuses the request that the owner was to answer, or has answered or accepted: each IN and OUT is answered by STALL
+    /// until the next SETUP. It changes nothing once the status stage was answered, nor where the device itself has
+    /// answered the request.
     pub fn refuse(&mut self)
-        ensures { self.new ≡ record self.old { device = rejected self.old.device } }
+        ensures { self.new ≡ record self.old { device = rejected (answer self.old.description.file) self.old.device } }
     {
-        self.endpoint_zero.refuse();
+        self.endpoint_zero.refuse(self.description);
     }
 
     /// The request that was carried out, one of the table's own too: from the first empty packet of its status stage to

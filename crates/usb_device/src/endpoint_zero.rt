@@ -1,18 +1,20 @@
 //! The device's end of the control transfers of endpoint zero.
 ghost use Rattle.std.specs.Borrow.{sem};
-ghost use Rattle.std.specs.Prelude.{◌≡◌, ◌<◌, ◌≤◌, ◌/◌, suc, true, false, take, drop, length, None, Some, OnOk, OnErr, IfErr, MatchOption};
-ghost use Rattle.usb_fields.specs.Packets.{reply_of, sent_of, packets};
+ghost use Rattle.std.specs.Prelude.{◌≡◌, ◌<◌, ◌≤◌, ◌/◌, suc, true, false, if◌then◌else◌, [], take, drop, length};
+ghost use Rattle.usb_fields.specs.Packets.{reply_of, sent_of, packets, StallReply, DataReply};
+ghost use Rattle.usb_fields.specs.declared.packet.Toggle.TheVariants.{Data1};
 ghost use Rattle.usb_device.specs.Descriptors.{descriptor_at};
 ghost use Rattle.usb_device.specs.Requests.{answer};
-ghost use Rattle.usb_device.specs.Step.{begun, carried_out, is_set_address, next_stage, Sending};
+ghost use Rattle.usb_device.specs.Step.{begun, carried_out, next_stage, Sending};
 ghost use Rattle.usb_device.specs.Stages.{data_bytes, stage_kind, IsData, IsSource};
 
-use crate::beside::{ROOM, Unanswered, is_open};
+mod owner;
+
 use crate::description::Description;
-use crate::request::Request;
+use crate::request::{Request, is_set_address};
 use crate::stage::{DataStage, Decision, Reaction, Source, Stage};
 use crate::state::State;
-use usb_fields::{Answer, Direction, Setup, Stage as Token, Toggle, Transaction, request};
+use usb_fields::{Answer, Setup, Stage as Token, Toggle, Transaction};
 
 /// What changes in a device: its state, its stage in a transfer, and whether its last answer waits for an ACK. It borrows
 /// nothing, so it can be kept beside its description where a [`Device`](crate::Device) can't: its calls are given the
@@ -34,7 +36,7 @@ pub struct EndpointZero {
     stage: Stage,
     /// In the stages `Sending`, `Receiving` and `Written`: the data stage, beside the stage so that a step writes only what it changes.
     data_stage: DataStage,
-    /// In the stages `Halted`, `StatusIn`, `Receiving` and `Written`: the request.
+    /// In the stages other than `Idle` and `Over`: the request.
     request: Setup,
     /// In `Halted`: the host knows of the rejection. In `StatusIn`: the request was carried out, SET_ADDRESS excepted.
     settled: bool,
@@ -46,8 +48,8 @@ impl EndpointZero {
     ghost use Rattle.usb_device.specs.View.{acked_by, acknowledged, served_by, device_of, IsOf};
     ghost use Rattle.usb_device.specs.Lending.{PartEndsAs};
     ghost use Rattle.usb_file_data.specs.declared.file.DescriptorFile.{DescriptorFile};
-    ghost use Rattle.usb_device.specs.Beside.{accepted, answered, carried_out_in, refused_in, rejected, room_size, unaccepted, unanswered, unfit_bytes, written_in, Gives};
-    ghost use Rattle.usb_device.specs.inside.Reactions.{has_status_out, received_by, replied, sent_by, packet_due};
+    ghost use Rattle.usb_device.specs.Beside.{room_size};
+    ghost use Rattle.usb_device.specs.inside.Reactions.{is_sending, received_by, replied, sent_by, packet_due};
 
     /// That of a new device with this description, and of one after a bus reset.
     pub fn new(d: &Description) -> EndpointZero
@@ -119,6 +121,7 @@ impl EndpointZero {
             Reaction::Nak => Answer::Nak,
             Reaction::Stall => Answer::Stall,
             Reaction::Packet(toggle) => Answer::Data(toggle, self.packet(d)),
+            Reaction::Empty => Answer::Data(Toggle::Data1, &[]),
             Reaction::Silence => Answer::Silence,
         }
     }
@@ -163,9 +166,9 @@ impl EndpointZero {
             setup: q,
         };
         match request.decide() {
-            Decision::Descriptor(place) => self.send_descriptor(d, place, q.length),
-            Decision::Byte(byte) => self.send_kept(d, &[byte], 1),
-            Decision::Status(first) => self.send_kept(d, &[first, 0], 2),
+            Decision::Descriptor(place) => self.send_descriptor(d, place, q),
+            Decision::Byte(byte) => self.send_kept(d, &[byte], q),
+            Decision::Status(first) => self.send_kept(d, &[first, 0], q),
             Decision::Done(_) => self.wait(Stage::StatusIn, q),
             Decision::Refused => self.wait(Stage::Halted, q),
         }
@@ -181,160 +184,35 @@ impl EndpointZero {
         self.settled = false;
     }
 
-    /// Begins a data stage with a descriptor, of which so many bytes are asked for.
-    fn send_descriptor(&mut self, d: &Description, place: usize, limit: u16)
+    /// Begins the data stage of a request with a descriptor, cut to wLength.
+    fn send_descriptor(&mut self, d: &Description, place: usize, q: Setup)
         requires source { IsSource d.now.file (Source.Descriptor place) }
-        requires asked { 0 < limit }
-        ensures device { device_of d.now.file self.new ≡ record (device_of d.now.file self.old) { stage = Sending (take limit (descriptor_at d.now.file place)) limit 0 } }
+        requires asked { 0 < q.length }
+        ensures device { device_of d.now.file self.new ≡ record (device_of d.now.file self.old) { stage = Sending q (take q.length (descriptor_at d.now.file place)) 0 } }
         ensures of { IsOf d.now.file self.new }
     {
-        let limit = usize::from(limit);
         self.stage = Stage::Sending;
+        self.request = q;
         self.data_stage.source = Source::Descriptor(place);
-        self.data_stage
-            .begin(d.bytes(place).len().min(limit), limit);
+        let limit = usize::from(q.length);
+        self.data_stage.begin(d.bytes(place).len().min(limit));
     }
 
-    /// Begins a data stage with these bytes, which are kept, where up to `limit` are asked for.
+    /// Begins the data stage of a request with these bytes, which are kept.
     // Inlined, so that one or two bytes are written with no call.
     #[inline(always)]
-    fn send_kept(&mut self, d: &Description, bytes: &[u8], limit: usize)
-        requires some { 0 < limit }
-        requires asked { length bytes.now ≤ limit }
+    fn send_kept(&mut self, d: &Description, bytes: &[u8], q: Setup)
+        requires some { 0 < q.length }
+        requires asked { length bytes.now ≤ q.length }
         requires kept { length bytes.now ≤ room_size }
-        ensures device { device_of d.now.file self.new ≡ record (device_of d.now.file self.old) { stage = Sending bytes.now limit 0 } }
+        ensures device { device_of d.now.file self.new ≡ record (device_of d.now.file self.old) { stage = Sending q bytes.now 0 } }
         ensures of { IsOf d.now.file self.new }
     {
         self.stage = Stage::Sending;
+        self.request = q;
         self.data_stage.source = Source::Kept;
         self.data_stage.kept[..bytes.len()].copy_from_slice(bytes);
-        self.data_stage.begin(bytes.len(), limit);
-    }
-
-    /// The request that is rejected, and of whose rejection the host doesn't know yet: as
-    /// [`Device::refused`](crate::Device::refused).
-    #[inline]
-    pub fn refused(&self) -> Option<Setup>
-        ensures { (f : DescriptorFile) → result ≡ refused_in (device_of f self.now).stage }
-    {
-        match self.stage {
-            Stage::Halted if !self.settled => Some(self.request),
-            _ => None,
-        }
-    }
-
-    /// Answers that request by these bytes, cut to wLength, as
-    /// [`Device::answer_with`](crate::Device::answer_with).
-    ///
-    /// # Requires
-    ///
-    /// The description is the one that it was made for.
-    pub fn answer_with(&mut self, d: &Description, bytes: &[u8]) -> Result<(), Unanswered>
-        requires { IsOf d.now.file self.old }
-        ensures device { device_of d.now.file self.new ≡ answered room_size (Gives bytes.now) (device_of d.now.file self.old) }
-        ensures ok { OnOk result (unanswered (unfit_bytes room_size bytes.now) (refused_in (device_of d.now.file self.old).stage) ≡ None) }
-        ensures err { IfErr result (λ why. unanswered (unfit_bytes room_size bytes.now) (refused_in (device_of d.now.file self.old).stage) ≡ Some why) }
-        ensures same { OnErr result (self.new ≡ self.old) }
-        ensures of { IsOf d.now.file self.new }
-    {
-        let Some(q) = self.refused() else {
-            return Err(Unanswered::Nothing);
-        };
-        if !is_open(q) {
-            return Err(Unanswered::Closed);
-        }
-        let limit = usize::from(q.length);
-        if limit == 0 || q.direction() == Direction::Out {
-            return Err(Unanswered::Shape);
-        }
-        let count = bytes.len().min(limit);
-        if count > ROOM {
-            return Err(Unanswered::Room);
-        }
-        self.send_kept(d, &bytes[..count], limit);
-        Ok(())
-    }
-
-    /// Accepts that request, or the data of a write: as [`Device::accept`](crate::Device::accept).
-    ///
-    /// # Requires
-    ///
-    /// The description is the one that it was made for.
-    pub fn accept(&mut self, d: &Description) -> Result<(), Unanswered>
-        requires { IsOf d.now.file self.old }
-        ensures device { device_of d.now.file self.new ≡ accepted room_size (device_of d.now.file self.old) }
-        ensures ok { OnOk result (unaccepted room_size (device_of d.now.file self.old).stage ≡ None) }
-        ensures err { IfErr result (λ why. unaccepted room_size (device_of d.now.file self.old).stage ≡ Some why) }
-        ensures same { OnErr result (self.new ≡ self.old) }
-        ensures of { IsOf d.now.file self.new }
-    {
-        if self.stage == Stage::Written {
-            self.wait(Stage::StatusIn, self.request);
-            return Ok(());
-        }
-        let Some(q) = self.refused() else {
-            return Err(Unanswered::Nothing);
-        };
-        if !is_open(q) {
-            return Err(Unanswered::Closed);
-        }
-        let limit = usize::from(q.length);
-        if limit == 0 {
-            self.wait(Stage::StatusIn, q);
-            return Ok(());
-        }
-        if q.direction() == Direction::In {
-            return Err(Unanswered::Shape);
-        }
-        if limit > ROOM {
-            return Err(Unanswered::Room);
-        }
-        self.wait(Stage::Receiving, q);
-        self.data_stage.begin(0, limit);
-        Ok(())
-    }
-
-    /// The write whose data have all come, and that isn't answered yet, with them: as
-    /// [`Device::written`](crate::Device::written).
-    #[inline]
-    pub fn written(&self) -> Option<(Setup, &[u8])>
-        ensures { (f : DescriptorFile) → IsOf f self.now → MatchOption result (written_in (device_of f self.now).stage ≡ None) (λ w. written_in (device_of f self.now).stage ≡ Some (w.0, w.1.now)) }
-    {
-        match self.stage {
-            Stage::Written => Some((
-                self.request,
-                self.data_stage.kept.get(..self.data_stage.offset)?,
-            )),
-            _ => None,
-        }
-    }
-
-    /// Refuses the request that the owner was to answer, or has accepted: as [`Device::refuse`](crate::Device::refuse).
-    pub fn refuse(&mut self)
-        ensures device { (f : DescriptorFile) → device_of f self.new ≡ rejected (device_of f self.old) }
-        ensures of { (f : DescriptorFile) → IsOf f self.old → IsOf f self.new }
-    {
-        let is_owners = match self.stage {
-            Stage::Halted | Stage::Receiving | Stage::Written => true,
-            Stage::StatusIn => !self.settled && is_open(self.request),
-            _ => false,
-        };
-        if is_owners {
-            self.stage = Stage::Halted;
-            self.settled = true;
-        }
-    }
-
-    /// The request that was carried out, in its status stage: as
-    /// [`Device::carried_out`](crate::Device::carried_out).
-    #[inline]
-    pub fn carried_out(&self) -> Option<Setup>
-        ensures { (f : DescriptorFile) → result ≡ carried_out_in (device_of f self.now).stage }
-    {
-        match self.stage {
-            Stage::StatusIn if self.settled => Some(self.request),
-            _ => None,
-        }
+        self.data_stage.begin(bytes.len());
     }
 
     /// An IN transaction.
@@ -353,15 +231,39 @@ impl EndpointZero {
                 self.pending = true;
                 Reaction::Packet(self.data_stage.toggle)
             }
+            _ => {
+                if self.sends_status(d) {
+                    Reaction::Empty
+                } else {
+                    Reaction::Stall
+                }
+            }
+        }
+    }
+
+    /// IN where no data stage is: whether it is answered by the empty packet of the status stage, and else by STALL.
+    // No call with a packet, so that the stage is tested once where one is sent.
+    #[inline(never)]
+    fn sends_status(&mut self, d: &Description) -> bool
+        requires of { IsOf d.now.file self.old }
+        requires other { is_sending self.old.stage ≡ false }
+        ensures reply { (if result then DataReply Data1 [] else StallReply) ≡ (sent_by d.now.file self.old).reply }
+        ensures device { device_of d.now.file self.new ≡ (sent_by d.now.file self.old).device }
+        ensures of { IsOf d.now.file self.new }
+    {
+        match self.stage {
             Stage::StatusIn => {
                 if !self.settled && !is_set_address(self.request) {
                     self.carry_out(d, self.request);
                 }
                 self.settled = true;
                 self.pending = true;
-                Reaction::Packet(Toggle::Data1)
+                true
             }
-            _ => self.stall(d),
+            _ => {
+                self.stall(d);
+                false
+            }
         }
     }
 
@@ -386,52 +288,14 @@ impl EndpointZero {
                     }
                 }
             },
-            _ => self.receive_data(d, toggle, bytes),
+            _ => {
+                if self.takes(d, toggle, bytes) {
+                    Reaction::Ack
+                } else {
+                    Reaction::Stall
+                }
+            }
         }
-    }
-
-    /// OUT where no status stage to the device can be: in a write, or in a transfer that has no OUT.
-    #[inline(never)]
-    fn receive_data(&mut self, d: &Description, toggle: Toggle, bytes: &[u8]) -> Reaction
-        requires of { IsOf d.now.file self.old }
-        requires other { has_status_out self.old.stage ≡ false }
-        requires heard { self.old.pending ≡ false }
-        ensures reply { replied d.now.file self.new result ≡ (received_by d.now.file self.old toggle bytes.now).reply }
-        ensures device { device_of d.now.file self.new ≡ (received_by d.now.file self.old toggle bytes.now).device }
-        ensures of { IsOf d.now.file self.new }
-    {
-        match self.stage {
-            Stage::Receiving => self.gather(d, toggle, bytes),
-            // The last packet came again.
-            Stage::Written if toggle != self.data_stage.toggle => Reaction::Ack,
-            Stage::StatusIn if self.request.length != 0 => Reaction::Ack,
-            _ => self.stall(d),
-        }
-    }
-
-    /// A packet of a write: kept, discarded where it came again, or stalled where it is no whole packet and not all that is
-    /// left.
-    #[tactic(auto, using(crate::proofs::WriteLemmas::writes))]
-    fn gather(&mut self, d: &Description, toggle: Toggle, bytes: &[u8]) -> Reaction
-        requires of { IsOf d.now.file self.old }
-        requires at { self.old.stage ≡ Stage.Receiving }
-        requires heard { self.old.pending ≡ false }
-        ensures reply { replied d.now.file self.new result ≡ (received_by d.now.file self.old toggle bytes.now).reply }
-        ensures device { device_of d.now.file self.new ≡ (received_by d.now.file self.old toggle bytes.now).device }
-        ensures of { IsOf d.now.file self.new }
-    {
-        if toggle != self.data_stage.toggle {
-            return Reaction::Ack;
-        }
-        let left = usize::from(self.request.length) - self.data_stage.offset;
-        if bytes.len() != d.packet().min(left) {
-            return self.stall(d);
-        }
-        self.data_stage.keep(bytes);
-        if bytes.len() == left {
-            self.stage = Stage::Written;
-        }
-        Reaction::Ack
     }
 
     /// STALL, until the next SETUP.
@@ -495,13 +359,14 @@ impl EndpointZero {
     #[inline(always)]
     fn go_on(&mut self, d: &Description)
         requires sending { self.old.stage ≡ Stage.Sending }
-        requires due { IsData d.now.file self.old.data_stage }
-        ensures device { device_of d.now.file self.new ≡ record (device_of d.now.file self.old) { stage = next_stage (data_bytes d.now.file self.old.data_stage) self.old.data_stage.limit (self.old.data_stage.offset / d.now.file.device.packet) (drop (suc (self.old.data_stage.offset / d.now.file.device.packet)) (packets (data_bytes d.now.file self.old.data_stage) d.now.file.device.packet self.old.data_stage.limit)) } }
+        requires due { IsData d.now.file self.old.data_stage self.old.request }
+        ensures device { device_of d.now.file self.new ≡ record (device_of d.now.file self.old) { stage = next_stage self.old.request (data_bytes d.now.file self.old.data_stage) (self.old.data_stage.offset / d.now.file.device.packet) (drop (suc (self.old.data_stage.offset / d.now.file.device.packet)) (packets (data_bytes d.now.file self.old.data_stage) d.now.file.device.packet self.old.request.length)) } }
         ensures of { IsOf d.now.file self.new }
     {
         let packet = d.packet();
+        let limit = usize::from(self.request.length);
         let left = self.data_stage.count - self.data_stage.offset;
-        if left < packet || self.data_stage.limit - self.data_stage.offset <= packet {
+        if left < packet || limit - self.data_stage.offset <= packet {
             self.stage = Stage::StatusOut;
         } else {
             self.data_stage.offset += packet;
@@ -522,19 +387,4 @@ impl EndpointZero {
             _ => &[],
         }
     }
-}
-
-/// Whether the request is SET_ADDRESS, the standard request 5 to the device: bits 6 to 0 of bmRequestType are zero
-/// (USB 2.0, tables 9-2 and 9-4). Bit 7, the direction, is not looked at. A device carries it out after the status
-/// stage and not before (9.4.6).
-///
-/// ```rust
-/// assert!(rt; is_set_address(Setup::from_bytes(&[0, 5, 9, 0, 0, 0, 0, 0])));
-/// // A vendor request with the same bRequest.
-/// assert!(rt; !is_set_address(Setup::from_bytes(&[0x40, 5, 9, 0, 0, 0, 0, 0])));
-/// ```
-pub fn is_set_address(q: Setup) -> bool
-    ensures { result ≡ is_set_address q }
-{
-    q.request_type % 128 == 0 && q.request == request::SET_ADDRESS
 }

@@ -2,6 +2,7 @@
 //!
 //! The functions are inlined, so that a response, which is of several shapes, needs no room in memory.
 ghost use Rattle.std.specs.Prelude.{◌≡◌, ◌∷◌, [], if◌then◌else◌};
+ghost use Rattle.usb_device.specs.Step.{is_set_address};
 
 use crate::description::Description;
 use crate::stage::{Change, Decision};
@@ -372,4 +373,19 @@ impl<'r> Request<'r> {
             None
         }
     }
+}
+
+/// Whether the request is SET_ADDRESS, the standard request 5 to the device: bits 6 to 0 of bmRequestType are zero
+/// (USB 2.0, tables 9-2 and 9-4). Bit 7, the direction, is not looked at. A device carries it out after the status
+/// stage and not before (9.4.6).
+///
+/// ```rust
+/// assert!(rt; is_set_address(Setup::from_bytes(&[0, 5, 9, 0, 0, 0, 0, 0])));
+/// // A vendor request with the same bRequest.
+/// assert!(rt; !is_set_address(Setup::from_bytes(&[0x40, 5, 9, 0, 0, 0, 0, 0])));
+/// ```
+pub fn is_set_address(q: Setup) -> bool
+    ensures { result ≡ is_set_address q }
+{
+    q.request_type % 128 == 0 && q.request == request::SET_ADDRESS
 }

@@ -2,7 +2,7 @@
 ghost use Rattle.std.specs.Prelude.{◌≡◌, ◌+◌, ◌≤◌, ◌++◌, length, take, drop};
 ghost use Rattle.usb_fields.specs.Packets.{flipped};
 ghost use Rattle.usb_device.specs.Beside.{room_size};
-ghost use Rattle.usb_device.specs.Stages.{data_bytes, source_bytes, written_bytes, IsData, IsSource};
+ghost use Rattle.usb_device.specs.Stages.{data_bytes, source_bytes, written_bytes, IsSource};
 
 use crate::beside::ROOM;
 use crate::description::Description;
@@ -16,6 +16,8 @@ pub(crate) enum Reaction {
     Stall,
     /// The packet that is due, with this toggle.
     Packet(Toggle),
+    /// The empty packet of the status stage.
+    Empty,
     Silence,
 }
 
@@ -50,18 +52,19 @@ pub(crate) enum Decision {
 }
 
 /// The stage of a device in a transfer.
+// Those of a read come first, so that an OUT there is told by one comparison.
 #[derive(Clone, Copy, Debug, PartialEq, Eq, Hash)]
 pub enum Stage {
-    /// In none.
-    Idle,
-    /// In one that it rejects.
-    Halted,
     /// In a data stage.
     Sending,
     /// In the status stage after a data stage.
     StatusOut,
     /// Past that status stage.
     Over,
+    /// In no transfer.
+    Idle,
+    /// In one that it rejects.
+    Halted,
     /// In the status stage of a request without a data stage, or of a write.
     StatusIn,
     /// In the data stage of a write.
@@ -88,8 +91,6 @@ pub(crate) struct DataStage {
     pub(crate) kept: [u8; ROOM],
     /// How many bytes there are to send.
     pub(crate) count: usize,
-    /// wLength, above 0.
-    pub(crate) limit: usize,
     /// How many bytes were sent and acknowledged, or have come.
     pub(crate) offset: usize,
     /// The toggle of the packet that is due, or awaited.
@@ -105,18 +106,16 @@ impl DataStage {
             source: Source::Kept,
             kept: [0; ROOM],
             count: 0,
-            limit: 0,
             offset: 0,
             toggle: Toggle::Data1,
         }
     }
 
-    /// Begins to send so many bytes of the source, where up to `limit` are asked for.
-    pub(crate) fn begin(&mut self, count: usize, limit: usize)
-        ensures { self.new ≡ record self.old { count = count; limit = limit; offset = 0; toggle = Data1 } }
+    /// Begins to send so many bytes of the source, or to take those of a write.
+    pub(crate) fn begin(&mut self, count: usize)
+        ensures { self.new ≡ record self.old { count = count; offset = 0; toggle = Data1 } }
     {
         self.count = count;
-        self.limit = limit;
         self.offset = 0;
         self.toggle = Toggle::Data1;
     }
@@ -136,7 +135,9 @@ impl DataStage {
     /// The packet that is due.
     #[inline(always)]
     pub(crate) fn packet<'a>(&'a self, d: &'a Description) -> &'a [u8]
-        requires { IsData d.now.file self.now }
+        requires source { IsSource d.now.file self.now.source }
+        requires count { self.now.count ≤ length (source_bytes d.now.file self.now.source self.now.kept) }
+        requires inside { self.now.offset ≤ self.now.count }
         ensures { result.now ≡ take d.now.file.device.packet (drop self.now.offset (data_bytes d.now.file self.now)) }
     {
         packet_at(&self.source_bytes(d)[..self.count], self.offset, d.packet())

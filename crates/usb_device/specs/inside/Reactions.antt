@@ -15,9 +15,10 @@ use Rattle.usb_device.specs.States.{first_alternates}
 use Rattle.usb_device.specs.Requests.{Outcome, Bytes, Done, Refused, answer}
 use Rattle.usb_fields.specs.Packets.{Reply, AckReply, NakReply, StallReply, DataReply, NoReply, packets}
 use Rattle.usb_device.specs.declared.stage.Reaction.{Reaction}
-use Rattle.usb_device.specs.declared.stage.Reaction.TheVariants.{Ack, Nak, Stall, Packet, Silence}
+use Rattle.usb_device.specs.declared.stage.Reaction.TheVariants.{Ack, Nak, Stall, Packet, Empty, Silence}
 use Rattle.usb_device.specs.Step.{DeviceStage, Sending, Served, served_in, served_out}
 use Rattle.usb_fields.specs.declared.packet.Toggle.{Toggle}
+use Rattle.usb_fields.specs.declared.packet.Toggle.TheVariants.{Data1}
 use Rattle.usb_device.specs.declared.device.Device.TheInside.{Inside}
 use Rattle.usb_device.specs.declared.endpoint_zero.EndpointZero.{EndpointZero}
 use Rattle.usb_device.specs.View.{stage_in, device_of, IsOf, View}
@@ -65,7 +66,7 @@ first_packet (p ∷ rest) = p
 
 -- the bytes of the packet that is due, which in the status stage are none
 abbrev pub packet_due : ℕ → DeviceStage → List ℕ
-packet_due size (Sending b m k) = first_packet (drop k (packets b size m))
+packet_due size (Sending q b k) = first_packet (drop k (packets b size q.length))
 packet_due size stage = []
 
 -- the reply, where these are the bytes of the packet that is due
@@ -74,9 +75,15 @@ reply_with bytes Ack = AckReply
 reply_with bytes Nak = NakReply
 reply_with bytes Stall = StallReply
 reply_with bytes (Packet toggle) = DataReply toggle bytes
+reply_with bytes Empty = DataReply Data1 []
 reply_with bytes Silence = NoReply
 
 -- Endpoint zero and a device, as callers see them.
+
+-- whether an IN at this stage is one of a data stage
+abbrev pub is_sending : Stage → Bool
+is_sending stages.Sending = true
+is_sending stage = false
 
 -- whether an OUT at this stage is, or repeats, the status stage of a request for bytes
 abbrev pub has_status_out : Stage → Bool

@@ -1,0 +1,208 @@
+//! What the owner of a device has a say in: requests that the device itself rejects, and the data of writes.
+ghost use Rattle.std.specs.Prelude.{◌≡◌, false, if◌then◌else◌, None, Some, OnOk, OnErr, IfErr, MatchOption};
+ghost use Rattle.usb_fields.specs.Packets.{AckReply, StallReply};
+ghost use Rattle.usb_device.specs.Requests.{answer};
+
+use super::EndpointZero;
+use crate::beside::{ROOM, Unanswered, is_open};
+use crate::description::Description;
+use crate::request::Request;
+use crate::stage::{Decision, Stage};
+use usb_fields::{Direction, Setup, Toggle};
+
+impl EndpointZero {
+    ghost use Rattle.usb_device.specs.View.{device_of, IsOf};
+    ghost use Rattle.usb_file_data.specs.declared.file.DescriptorFile.{DescriptorFile};
+    ghost use Rattle.usb_device.specs.Beside.{accepted, answered, carried_out_in, is_left, refused_in, rejected, room_size, unaccepted, unanswered, unfit_bytes, written_in, Gives};
+    ghost use Rattle.usb_device.specs.inside.Reactions.{has_status_out, received_by};
+
+    /// The request that is rejected, and of whose rejection the host doesn't know yet: as
+    /// [`Device::refused`](crate::Device::refused).
+    #[inline]
+    pub fn refused(&self) -> Option<Setup>
+        ensures { (f : DescriptorFile) → result ≡ refused_in (device_of f self.now).stage }
+    {
+        match self.stage {
+            Stage::Halted if !self.settled => Some(self.request),
+            _ => None,
+        }
+    }
+
+    /// Answers that request by these bytes, cut to wLength, as
+    /// [`Device::answer_with`](crate::Device::answer_with).
+    ///
+    /// # Requires
+    ///
+    /// The description is the one that it was made for.
+    pub fn answer_with(&mut self, d: &Description, bytes: &[u8]) -> Result<(), Unanswered>
+        requires { IsOf d.now.file self.old }
+        ensures device { device_of d.now.file self.new ≡ answered room_size (Gives bytes.now) (device_of d.now.file self.old) }
+        ensures ok { OnOk result (unanswered (unfit_bytes room_size bytes.now) (refused_in (device_of d.now.file self.old).stage) ≡ None) }
+        ensures err { IfErr result (λ why. unanswered (unfit_bytes room_size bytes.now) (refused_in (device_of d.now.file self.old).stage) ≡ Some why) }
+        ensures same { OnErr result (self.new ≡ self.old) }
+        ensures of { IsOf d.now.file self.new }
+    {
+        let Some(q) = self.refused() else {
+            return Err(Unanswered::Nothing);
+        };
+        if !is_open(q) {
+            return Err(Unanswered::Closed);
+        }
+        let limit = usize::from(q.length);
+        if limit == 0 || q.direction() == Direction::Out {
+            return Err(Unanswered::Shape);
+        }
+        let count = bytes.len().min(limit);
+        if count > ROOM {
+            return Err(Unanswered::Room);
+        }
+        self.send_kept(d, &bytes[..count], q);
+        Ok(())
+    }
+
+    /// Accepts that request, or the data of a write: as [`Device::accept`](crate::Device::accept).
+    ///
+    /// # Requires
+    ///
+    /// The description is the one that it was made for.
+    pub fn accept(&mut self, d: &Description) -> Result<(), Unanswered>
+        requires { IsOf d.now.file self.old }
+        ensures device { device_of d.now.file self.new ≡ accepted room_size (device_of d.now.file self.old) }
+        ensures ok { OnOk result (unaccepted room_size (device_of d.now.file self.old).stage ≡ None) }
+        ensures err { IfErr result (λ why. unaccepted room_size (device_of d.now.file self.old).stage ≡ Some why) }
+        ensures same { OnErr result (self.new ≡ self.old) }
+        ensures of { IsOf d.now.file self.new }
+    {
+        if self.stage == Stage::Written {
+            self.wait(Stage::StatusIn, self.request);
+            return Ok(());
+        }
+        let Some(q) = self.refused() else {
+            return Err(Unanswered::Nothing);
+        };
+        if !is_open(q) {
+            return Err(Unanswered::Closed);
+        }
+        let limit = usize::from(q.length);
+        if limit == 0 {
+            self.wait(Stage::StatusIn, q);
+            return Ok(());
+        }
+        if q.direction() == Direction::In {
+            return Err(Unanswered::Shape);
+        }
+        if limit > ROOM {
+            return Err(Unanswered::Room);
+        }
+        self.wait(Stage::Receiving, q);
+        self.data_stage.begin(0);
+        Ok(())
+    }
+
+    /// The write whose data have all come, and that isn't answered yet, with them: as
+    /// [`Device::written`](crate::Device::written).
+    #[inline]
+    pub fn written(&self) -> Option<(Setup, &[u8])>
+        ensures { (f : DescriptorFile) → IsOf f self.now → MatchOption result (written_in (device_of f self.now).stage ≡ None) (λ w. written_in (device_of f self.now).stage ≡ Some (w.0, w.1.now)) }
+    {
+        match self.stage {
+            Stage::Written => Some((
+                self.request,
+                self.data_stage.kept.get(..self.data_stage.offset)?,
+            )),
+            _ => None,
+        }
+    }
+
+    /// Refuses the request that the owner was to answer, or has answered or accepted: as
+    /// [`Device::refuse`](crate::Device::refuse).
+    pub fn refuse(&mut self, d: &Description)
+        ensures device { device_of d.now.file self.new ≡ rejected (answer d.now.file) (device_of d.now.file self.old) }
+        ensures of { IsOf d.now.file self.old → IsOf d.now.file self.new }
+    {
+        let is_owners = match self.stage {
+            Stage::Halted | Stage::Receiving | Stage::Written => true,
+            Stage::Sending | Stage::StatusOut => self.is_left(d),
+            Stage::StatusIn => !self.settled && self.is_left(d),
+            Stage::Idle | Stage::Over => false,
+        };
+        if is_owners {
+            self.stage = Stage::Halted;
+            self.settled = true;
+        }
+    }
+
+    /// Whether the request is left to the owner: the device itself rejects it.
+    #[inline(never)]
+    fn is_left(&self, d: &Description) -> bool
+        ensures { result ≡ is_left (answer d.now.file self.now.state self.now.request) }
+    {
+        let request = Request {
+            description: d,
+            state: &self.state,
+            setup: self.request,
+        };
+        matches!(request.decide(), Decision::Refused)
+    }
+
+    /// The request that was carried out, in its status stage: as
+    /// [`Device::carried_out`](crate::Device::carried_out).
+    #[inline]
+    pub fn carried_out(&self) -> Option<Setup>
+        ensures { (f : DescriptorFile) → result ≡ carried_out_in (device_of f self.now).stage }
+    {
+        match self.stage {
+            Stage::StatusIn if self.settled => Some(self.request),
+            _ => None,
+        }
+    }
+
+    /// OUT where no status stage to the device can be: in a write, or in a transfer that has no OUT. Whether it is
+    /// acknowledged, and else answered by STALL.
+    #[inline(never)]
+    pub(super) fn takes(&mut self, d: &Description, toggle: Toggle, bytes: &[u8]) -> bool
+        requires of { IsOf d.now.file self.old }
+        requires other { has_status_out self.old.stage ≡ false }
+        requires heard { self.old.pending ≡ false }
+        ensures reply { (if result then AckReply else StallReply) ≡ (received_by d.now.file self.old toggle bytes.now).reply }
+        ensures device { device_of d.now.file self.new ≡ (received_by d.now.file self.old toggle bytes.now).device }
+        ensures of { IsOf d.now.file self.new }
+    {
+        match self.stage {
+            Stage::Receiving => self.gathers(d, toggle, bytes),
+            // The last packet came again.
+            Stage::Written if toggle != self.data_stage.toggle => true,
+            Stage::StatusIn if self.request.length != 0 => true,
+            _ => {
+                self.stall(d);
+                false
+            }
+        }
+    }
+
+    /// A packet of a write, whether it is acknowledged: kept, or discarded where it came again. A STALL answers one that is
+    /// no whole packet and not all that is left.
+    #[tactic(auto, using(crate::proofs::WriteLemmas::writes))]
+    fn gathers(&mut self, d: &Description, toggle: Toggle, bytes: &[u8]) -> bool
+        requires of { IsOf d.now.file self.old }
+        requires at { self.old.stage ≡ Stage.Receiving }
+        requires heard { self.old.pending ≡ false }
+        ensures reply { (if result then AckReply else StallReply) ≡ (received_by d.now.file self.old toggle bytes.now).reply }
+        ensures device { device_of d.now.file self.new ≡ (received_by d.now.file self.old toggle bytes.now).device }
+        ensures of { IsOf d.now.file self.new }
+    {
+        if toggle != self.data_stage.toggle {
+            return true;
+        }
+        let left = usize::from(self.request.length) - self.data_stage.offset;
+        if bytes.len() != d.packet().min(left) {
+            self.stall(d);
+            return false;
+        }
+        self.data_stage.keep(bytes);
+        if bytes.len() == left {
+            self.stage = Stage::Written;
+        }
+        true
+    }
+}
