@@ -1,5 +1,7 @@
 -- Laws of the bytes of a list of units.
-use Rattle.std.proofs.Common.{◌≡◌, ℕ, ◌+◌, ◌*◌, ◌/◌, ◌%◌, ◌<◌, ◌≤◌, List, [], ◌∷◌, length, get_or, None, refl, arith}
+use Rattle.std.proofs.Common.{◌≡◌, ℕ, ◌+◌, ◌*◌, ◌/◌, ◌%◌, ◌<◌, ◌≤◌, List, [], ◌∷◌, ◌++◌, length, take, slice_index, slice_set, get_or, None, refl, ap, sym, ◌∙◌, append_assoc, arith}
+use Rattle.std.proofs.lemmas.List.{length-set, take_more, take_more_set}
+use Rattle.std.proofs.lemmas.List.Concat.{flat_map-append}
 use Rattle.std.proofs.lemmas.Bool.Decides.{nat_tests}
 use Rattle.std.proofs.lemmas.Grind.{common_steps}
 use Rattle.std.specs.List.{flat_map}
@@ -82,3 +84,18 @@ legal_units b bytes none = legal b bytes (is_units b none)
         let counted : size ≡ 2 + 2 * length (units_in b) = omega (arith, is.size_byte) in
         let kinded : kind ≡ 3 = is.kind_byte in
         (units_in b, omega arith, cc)
+
+-- one unit more is written
+pub unit_written : (u bytes : List ℕ) (i low high : ℕ) → i < length u → 2 * i + 1 < length bytes → low ∷ high ∷ [] ≡ little_endian (slice_index u i)
+    → take (2 * i) bytes ≡ flat_map little_endian (take i u)
+    → take (2 * (i + 1)) (slice_set (slice_set bytes (2 * i) low) (2 * i + 1) high) ≡ flat_map little_endian (take (i + 1) u)
+unit_written u bytes i low high lt fits is inv =
+    let two : 2 * (i + 1) ≡ 2 * i + 1 + 1 = omega arith in
+    let n = length-set bytes (2 * i) low in
+    let second = take_more_set (slice_set bytes (2 * i) low) (2 * i + 1) high (omega (arith, n, fits)) in
+    let first = take_more_set bytes (2 * i) low (omega (arith, fits)) in
+    let more = take_more u i 0 lt in
+    rw (two, second, first, inv, more)
+    (append_assoc (flat_map little_endian (take i u)) (low ∷ []) (high ∷ [])
+    ∙ ap (λ (xs : List ℕ). flat_map little_endian (take i u) ++ xs) is
+    ∙ sym (flat_map-append little_endian (take i u) (slice_index u i ∷ [])))

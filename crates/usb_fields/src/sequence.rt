@@ -97,12 +97,18 @@ impl<T> Sequence<T> {
 
     /// Adds an element at the end. When out of memory the list stays, and the value comes back
     /// in the error.
+    #[inline(always)]
     pub fn push(&mut self, value: T) -> Result<(), AllocFailed<T>>
         ensures ok { OnOk result (self.new ≡ self.old ++ value ∷ []) }
         ensures err { OnErr result (self.new ≡ self.old) }
         ensures value_returned { IfErr result (λ e. e.value ≡ value) }
     {
-        self.items.push(value)
+        // Apart from the growth, so that a value is moved to its place alone.
+        let Ok(()) = self.items.reserve(1) else {
+            return Err(AllocFailed { value });
+        };
+        self.items.push_reserved(value);
+        Ok(())
     }
 
     /// Takes the last element off, if there is one. Nothing is promised of the room that is left.

@@ -11,13 +11,12 @@ use crate::bytes::word_bytes;
 use crate::descriptor_type;
 use crate::fault::UnitFault;
 use std::alloc::{AllocError, Global};
-use std::mem;
 
 /// The most units that a string can have, and the most languages that a language list can: bLength counts no more (USB
 /// 2.0, 9.6.7).
 pub const MOST_UNITS: usize = 126;
 
-/// From so many units on the list that they are added to is moved to a local, and back.
+/// So many units are put together before they are added to a list.
 const MANY_UNITS: usize = 8;
 
 /// The units of a string or a language list, exactly where the bytes are bLength, type 3 and these units, the low byte
@@ -95,6 +94,7 @@ pub fn write_units(alloc: Global, u: &[u16]) -> Result<Vec<u8>, UnitFault>
 /// # Errors
 ///
 /// Those of [`write_units`]. The list then has the elements that it had.
+#[inline(always)]
 pub fn write_units_onto(u: &[u16], out: &mut Vec<u8>) -> Result<(), UnitFault>
     ensures ok { OnOk result (out.new.items ≡ out.old.items ++ units_bytes u.now) }
     ensures few { OnOk result (length u.now ≤ 126) }
@@ -129,15 +129,22 @@ fn put_units(u: &[u16], out: &mut Vec<u8>)
     }
 }
 
-/// The same, with the list in a local meanwhile: so its length is stored once, and many units are written at a time.
+/// The same, with the bytes put together first: so they are copied at once. It is apart, so that few units cost no call.
+#[inline(never)]
+#[tactic(auto, using(crate::proofs::UnitLemmas::unit_written))]
 fn put_many_units(u: &[u16], out: &mut Vec<u8>)
-    requires { vec_len out.old + 2 * length u.now ≤ vec_capacity out.old }
+    requires few { length u.now ≤ 126 }
+    requires room { vec_len out.old + 2 * length u.now ≤ vec_capacity out.old }
     ensures { out.new.items ≡ out.old.items ++ flat_map little_endian u.now }
 {
-    let none = Vec::new(*out.allocator());
-    let mut bytes = mem::replace(out, none);
-    put_units(u, &mut bytes);
-    *out = bytes;
+    let mut bytes = [0; 2 * MOST_UNITS];
+    'units: for i in 0..u.len() {
+        let [low, high] = word_bytes(u[i]);
+        bytes[2 * i] = low;
+        bytes[2 * i + 1] = high;
+    }
+    // There is room for them.
+    let _ = out.extend_from_slice(&bytes[..2 * u.len()]);
 }
 
 /// The text of a string's UTF-16 code units, with U+FFFD for each surrogate that has no partner: a device can send any

@@ -1,8 +1,8 @@
 -- On the first word of a line.
-use Rattle.std.proofs.Common.{◌≡◌, ◌≢◌, ℕ, zero, suc, ◌+◌, ◌<◌, ◌==◌, Bool, true, false, cond, List, [], ◌∷◌, ◌++◌, Option, Some, None, unwrap_or, length, take, drop, slice_index, refl, ap, sym, subst, ◌∙◌, arith}
+use Rattle.std.proofs.Common.{◌≡◌, ◌≢◌, ℕ, zero, suc, ◌+◌, ◌<◌, ◌==◌, Bool, not, true, false, cond, List, [], ◌∷◌, ◌++◌, Option, Some, None, unwrap_or, length, take, drop, slice_index, refl, ap, sym, subst, ◌∙◌, arith}
 use Rattle.std.specs.Str.{bytes_eq}
 use Rattle.std.proofs.Math.Seq.{take-append_seam}
-use Rattle.std.proofs.lemmas.List.{take-append-drop}
+use Rattle.std.proofs.lemmas.List.{length-append, take-append-drop}
 use Rattle.std.proofs.lemmas.Bool.{true≢false, eqb-true, eq-eqb}
 use Rattle.std.proofs.lemmas.Slice.Eq.{bytes_eq-Decides}
 use Rattle.memchr.specs.Find.{IsFirstByte, is_byte}
@@ -171,3 +171,24 @@ more_word (x ∷ rest) more e =
 
 pub not_ended : (line word rest : List ℕ) → rest ≡ drop (length word) line → ends_word rest ≡ false → first_word line ≢ word
 not_ended line word rest is more e = more_word rest more (ap first_word is ∙ subst (λ (xs : List ℕ). first_word (drop (length xs) line) ≡ []) e (word_end line))
+
+-- ---- a line whose first bytes, as many as a word has, are looked at
+
+not_false : (b : Bool) → not b ≡ false → b ≡ true
+not_false true e = refl
+not_false false e = absurd (true≢false e)
+
+pub chunk_split : (line word first rest : List ℕ) (n : ℕ) → length word ≡ n → first ≡ take n line → rest ≡ drop n line → not (bytes_eq first word) ≡ false
+    → ends_word rest ≡ true → IsSplit line word rest
+chunk_split line word first rest n len front behind same ends =
+    let begins = subst (λ (xs : List ℕ). bytes_eq xs word ≡ true) (front ∙ ap (λ (k : ℕ). take k line) (sym len)) (not_false (bytes_eq first word) same) in
+    is_split line word rest begins (behind ∙ ap (λ (k : ℕ). drop k line) (sym len)) ends
+
+pub chunk_not_ended : (line word rest : List ℕ) (n : ℕ) → length word ≡ n → rest ≡ drop n line → ends_word rest ≡ false → first_word line ≢ word
+chunk_not_ended line word rest n len behind more = not_ended line word rest (behind ∙ ap (λ (k : ℕ). drop k line) (sym len)) more
+
+pub line_short : (line word : List ℕ) → length line < length word → first_word line ≢ word
+line_short line word short e =
+    let whole = ap length (word_first line) ∙ length-append (first_word line) (drop (length (first_word line)) line) in
+    let same = ap length e in
+    absurd (omega (arith, whole, same, short))

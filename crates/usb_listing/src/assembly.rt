@@ -107,6 +107,7 @@ fn read_next<'a>(
     alloc: Global,
     form: Form,
     draft: &mut Option<Draft>,
+    buffer: &mut [u8; 255],
     text: &'a [u8],
     line: usize,
 ) -> Result<&'a [u8], ListFault>
@@ -117,6 +118,7 @@ fn read_next<'a>(
     ensures err { IfErr result (λ fault. Told (so_far draft.old) (text_read form text.now) fault.why) }
     ensures read { IfErr result (λ fault. count_before form text.now 0 ≡ 0) }
     ensures place { IfErr result (λ fault. fault.line ≡ line) }
+    ensures room { length buffer.new ≡ 255 }
 {
     let Some((first, more)) = cut_line(text) else {
         return Err(ListFault {
@@ -127,7 +129,7 @@ fn read_next<'a>(
     let Some(first) = line_read(form, first) else {
         return Ok(more);
     };
-    match step(alloc, draft, first) {
+    match step(alloc, draft, first, buffer) {
         Ok(()) => Ok(more),
         Err(why) => Err(ListFault {
             line,
@@ -142,10 +144,11 @@ fn read_lines(alloc: Global, form: Form, text: &[u8]) -> Result<(Option<Draft>, 
     ensures err { IfErr result (λ fault. Refused form text.now fault.line fault.why) }
 {
     let mut draft = None;
+    let mut buffer = [0; 255];
     let mut line = 1;
     let mut rest = text;
     'lines: while !rest.is_empty() {
-        rest = read_next(alloc, form, &mut draft, rest, line)?;
+        rest = read_next(alloc, form, &mut draft, &mut buffer, rest, line)?;
         line += 1;
     }
     Ok((draft, line))

@@ -1,5 +1,5 @@
 //! A file so far, and the next line.
-ghost use Rattle.std.specs.Prelude.{◌≡◌, ◌++◌, IfErr, IfOk, None, OnOk, Some, true};
+ghost use Rattle.std.specs.Prelude.{◌≡◌, ◌++◌, IfErr, IfOk, None, OnOk, Some, length, true};
 ghost use Rattle.usb_listing.specs.Says.{IsItem, fields, is_typed_raw};
 ghost use Rattle.usb_listing.specs.inside.Drafts.{AreHeld, Drafted, IsJudged, IsMisplaced, Stops, so_far};
 ghost use Rattle.usb_listing.specs.Words.{first_word};
@@ -51,22 +51,23 @@ fn add_next(
     }
 }
 
-/// Reads a line whose word may come next, and says fields.
+/// Reads a line whose word may come next, and says fields. The buffer is room for the bytes of its descriptor.
 #[inline(always)]
 fn read_described(
     alloc: Global,
     draft: &mut Option<Draft>,
     word: Word,
     text: &[u8],
+    buffer: &mut [u8; 255],
 ) -> Result<(), ListWhy>
     requires holds { AreHeld draft.old }
     requires may { may_stand (so_far draft.old) word ≡ true }
     requires word { says_fields word ≡ true }
     ensures ok { OnOk result (Drafted (add_item (so_far draft.old) (item_in word text.now)) draft.new) }
     ensures err { IfErr result (λ why. Stops (add_item (so_far draft.old) (item_in word text.now)) why) }
+    ensures room { length buffer.new ≡ 255 }
 {
-    let mut buffer = [0; 255];
-    let Some(end) = read_fields(word, text, &mut buffer) else {
+    let Some(end) = read_fields(word, text, buffer) else {
         return Err(ListWhy::Field);
     };
     let bytes = &buffer[..end];
@@ -118,16 +119,18 @@ fn read_behind(
     draft: &mut Option<Draft>,
     word: Word,
     text: &[u8],
+    buffer: &mut [u8; 255],
 ) -> Result<(), ListWhy>
     requires holds { AreHeld draft.old }
     requires may { may_stand (so_far draft.old) word ≡ true }
     ensures ok { OnOk result (Drafted (add_item (so_far draft.old) (item_in word text.now)) draft.new) }
     ensures err { IfErr result (λ why. Stops (add_item (so_far draft.old) (item_in word text.now)) why) }
+    ensures room { length buffer.new ≡ 255 }
 {
     match word {
         Word::Languages => read_languages_into(alloc, draft, text),
         Word::String => read_string_into(alloc, draft, text),
-        _ => read_described(alloc, draft, word, text),
+        _ => read_described(alloc, draft, word, text, buffer),
     }
 }
 
@@ -149,15 +152,22 @@ fn placed_word<'l>(draft: &Option<Draft>, line: &'l [u8]) -> Result<(Word, &'l [
     }
 }
 
-/// Reads the next line into the draft. Memory is wanting only of a line whose word may stand there.
-pub(crate) fn step(alloc: Global, draft: &mut Option<Draft>, line: &[u8]) -> Result<(), ListWhy>
+/// Reads the next line into the draft. Memory is wanting only of a line whose word may stand there. The buffer is room for
+/// the bytes of a descriptor, handed on from line to line so that it is filled with zeros once.
+pub(crate) fn step(
+    alloc: Global,
+    draft: &mut Option<Draft>,
+    line: &[u8],
+    buffer: &mut [u8; 255],
+) -> Result<(), ListWhy>
     requires { AreHeld draft.old }
     ensures ok { OnOk result (Drafted (add_line (so_far draft.old) line.now) draft.new) }
     ensures err { IfErr result (λ why. Stops (add_line (so_far draft.old) line.now) why) }
     ensures judged { IfErr result (λ why. IsJudged (so_far draft.old) line.now why) }
+    ensures room { length buffer.new ≡ 255 }
 {
     match placed_word(draft, line) {
-        Ok((word, text)) => read_behind(alloc, draft, word, text),
+        Ok((word, text)) => read_behind(alloc, draft, word, text, buffer),
         Err(why) => Err(why),
     }
 }

@@ -47,6 +47,9 @@ impl Listed for Sequence<u16> {
 fn put_string(page: &mut Text, units: &[u16]) -> Result<(), AllocError>
     ensures { OnOk result (page.new ≡ page.old ++ string_line units.now) }
 {
+    if units.is_empty() {
+        return page.put("string \"\"\n");
+    }
     page.put("string \"")?;
     put_units(page, false, units)?;
     page.put("\"\n")

@@ -55,8 +55,8 @@ impl Word {
         }
     }
 
-    /// What is after the word, where it is the line's first. Each text is compared apart, so that its length is known
-    /// and it is compared as integers.
+    /// What is after the word, where it is the line's first. The length of each text is known, so that it is compared as
+    /// integers.
     #[inline(always)]
     fn behind(self, line: &[u8]) -> Option<&[u8]>
         ensures { MatchOption result (first_word line.now ≢ word_text self) (λ rest. IsSplit line.now (word_text self) rest.now) }
@@ -90,10 +90,13 @@ fn ends_word(rest: &[u8]) -> bool
 /// What is after a word, where it is the line's first.
 #[inline(always)]
 #[tactic(auto, using(crate::proofs::WordLemmas::not_split))]
-fn behind<'l>(word: &[u8], line: &'l [u8]) -> Option<&'l [u8]>
+fn behind<'l, const N: usize>(word: &[u8; N], line: &'l [u8]) -> Option<&'l [u8]>
     ensures { MatchOption result (first_word line.now ≢ word.now) (λ rest. IsSplit line.now word.now rest.now) }
 {
-    let rest = line.strip_prefix(word)?;
+    let (first, rest) = line.split_first_chunk::<N>()?;
+    if first != word {
+        return None;
+    }
     if ends_word(rest) { Some(rest) } else { None }
 }
 

@@ -1,4 +1,5 @@
 pub mod Columns
+pub mod DigitPairs
 pub mod Decimals
 pub mod Printables
 pub mod LineWords

@@ -17,6 +17,7 @@ mod bracket;
 mod characters;
 mod column;
 mod comment;
+mod digits;
 mod hex_text;
 mod hexadecimal;
 mod label;
@@ -33,6 +34,7 @@ mod tests;
 mod text;
 
 pub use characters::{is_plain, put_units, put_units_in};
+pub use digits::digits_of;
 pub use hex_text::HexFault;
 pub use hexadecimal::parse;
 pub use laws::{

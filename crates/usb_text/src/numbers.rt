@@ -3,8 +3,11 @@ ghost use Rattle.std.specs.Prelude.{◌≡◌};
 ghost use Rattle.hex.specs.Hex.{hex_digit_value};
 ghost use Rattle.usb_text.specs.HexDigits.{byte_of};
 ghost use Rattle.std.specs.Prelude.{◌≡◌, ◌++◌, codes, OnOk};
+ghost use Rattle.hex.specs.Hex.{encode_lower};
+ghost use Rattle.usb_text.specs.Characters.{two_bytes};
 ghost use Rattle.usb_text.specs.Numbers.{byte_code, count, release, short_byte, word_code};
 
+use crate::digits::digits_of;
 use crate::text::Text;
 use std::alloc::AllocError;
 
@@ -46,10 +49,8 @@ pub fn put_count(text: &mut Text, number: u64, noun: &str) -> Result<(), AllocEr
 pub fn put_byte_code(text: &mut Text, code: u8) -> Result<(), AllocError>
     ensures { OnOk result (text.new ≡ text.old ++ byte_code code) }
 {
-    let mut digits = *b"0x00";
-    // Two digits are room for one byte.
-    let _ = hex::encode_to_slice([code], &mut digits[2..]);
-    text.put_bytes(&digits)
+    let [high, low] = digits_of(code);
+    text.put_bytes(&[b'0', b'x', high, low])
 }
 
 /// Puts a code of one byte, after which its meaning begins: `0x81 (`.
@@ -57,10 +58,20 @@ pub fn put_byte_code(text: &mut Text, code: u8) -> Result<(), AllocError>
 pub fn begin_byte_meaning(text: &mut Text, code: u8) -> Result<(), AllocError>
     ensures { OnOk result (text.new ≡ text.old ++ byte_code code ++ codes " (") }
 {
-    let mut digits = *b"0x00 (";
-    // Two digits are room for one byte.
-    let _ = hex::encode_to_slice([code], &mut digits[2..4]);
-    text.put_bytes(&digits)
+    let [high, low] = digits_of(code);
+    text.put_bytes(&[b'0', b'x', high, low, b' ', b'('])
+}
+
+/// The four digits of a number of two bytes.
+#[inline(always)]
+#[tactic(auto, unfolding(hex::specs::Hex::encode_with))]
+fn word_digits(number: u16) -> [u8; 4]
+    ensures { result ≡ encode_lower (two_bytes number) }
+{
+    let [high, low] = number.to_be_bytes();
+    let [a, b] = digits_of(high);
+    let [c, d] = digits_of(low);
+    [a, b, c, d]
 }
 
 /// Puts a code of two bytes: `0x0409`.
@@ -68,10 +79,8 @@ pub fn begin_byte_meaning(text: &mut Text, code: u8) -> Result<(), AllocError>
 pub fn put_word_code(text: &mut Text, code: u16) -> Result<(), AllocError>
     ensures { OnOk result (text.new ≡ text.old ++ word_code code) }
 {
-    let mut digits = *b"0x0000";
-    // Four digits are room for two bytes.
-    let _ = hex::encode_to_slice(code.to_be_bytes(), &mut digits[2..]);
-    text.put_bytes(&digits)
+    let [a, b, c, d] = word_digits(code);
+    text.put_bytes(&[b'0', b'x', a, b, c, d])
 }
 
 /// Puts a code of two bytes, after which its meaning begins: `0x0040 (`.
@@ -79,10 +88,8 @@ pub fn put_word_code(text: &mut Text, code: u16) -> Result<(), AllocError>
 pub fn begin_word_meaning(text: &mut Text, code: u16) -> Result<(), AllocError>
     ensures { OnOk result (text.new ≡ text.old ++ word_code code ++ codes " (") }
 {
-    let mut digits = *b"0x0000 (";
-    // Four digits are room for two bytes.
-    let _ = hex::encode_to_slice(code.to_be_bytes(), &mut digits[2..6]);
-    text.put_bytes(&digits)
+    let [a, b, c, d] = word_digits(code);
+    text.put_bytes(&[b'0', b'x', a, b, c, d, b' ', b'('])
 }
 
 /// Puts a release in binary coded decimal: `2.00` of 0200.
@@ -100,9 +107,7 @@ pub fn put_release(text: &mut Text, number: u16) -> Result<(), AllocError>
 fn put_short_byte(text: &mut Text, byte: u8) -> Result<(), AllocError>
     ensures { OnOk result (text.new ≡ text.old ++ short_byte byte) }
 {
-    let mut digits = [0; 2];
-    // Two digits are room for one byte.
-    let _ = hex::encode_to_slice([byte], &mut digits);
+    let digits = digits_of(byte);
     if byte < 16 {
         text.put_bytes(&digits[1..])
     } else {

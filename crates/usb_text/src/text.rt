@@ -4,6 +4,7 @@ ghost use Rattle.std.specs.Fmt.{decimal};
 ghost use Rattle.usb_text.specs.Lines.{column, filling};
 ghost use Rattle.hex.specs.Hex.{encode_lower};
 
+use crate::digits::{digits_of, write_digits};
 use itoa::Buffer;
 use std::alloc::{AllocError, Global};
 use std::marker::Model;
@@ -181,7 +182,7 @@ impl Text {
             return Err(AllocError);
         };
         self.bytes.resize(end, 0)?;
-        let _ = hex::encode_to_slice(bytes, &mut self.bytes.as_mut_slice()[start..]);
+        write_digits(bytes, &mut self.bytes.as_mut_slice()[start..]);
         Ok(())
     }
 
@@ -190,10 +191,7 @@ impl Text {
     pub fn put_pair(&mut self, byte: u8) -> Result<(), AllocError>
         ensures { OnOk result (self.new ≡ self.old ++ encode_lower (byte ∷ [])) }
     {
-        let mut digits = [0; 2];
-        // Two digits are room for one byte.
-        let _ = hex::encode_to_slice([byte], &mut digits);
-        self.put_bytes(&digits)
+        self.put_bytes(&digits_of(byte))
     }
 
     /// Puts words in a column of this width.
