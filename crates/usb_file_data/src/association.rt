@@ -17,7 +17,7 @@ use usb_set::{Association, Extra, Sequence};
 
 /// Of the associations among these extras, of which the first has this number in its set. Answers the number of the next.
 ///
-/// Most descriptors own none, and for them nothing is called.
+/// Most descriptors own no extras, and most extras are no associations: for them nothing is called.
 #[inline(always)]
 #[tactic(auto, using(crate::proofs::Reporting::reported_again, crate::proofs::Reporting::reported_none, std::proofs::lemmas::Grind::common_steps))]
 pub(crate) fn check_extras(
@@ -30,6 +30,9 @@ pub(crate) fn check_extras(
     ensures reported { OnOk result (found.new ≡ reported found.old (in_extras place.now (kept interfaces.now).numbers number extras.now)) }
     ensures next { IfOk result (λ next. next ≡ number + association_count extras.now) }
 {
+    if extras.is_empty() {
+        return Ok(number);
+    }
     if !has_association(extras) {
         return Ok(number);
     }

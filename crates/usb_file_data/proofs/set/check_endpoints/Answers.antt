@@ -1,9 +1,9 @@
-use Rattle.std.proofs.Common.{◌≡◌, ◌<◌, ◌+◌, ◌++◌, ◌∙◌, length, map, get_or, take, ap, sym, arith, refl}
+use Rattle.std.proofs.Common.{◌≡◌, ◌<◌, ◌+◌, ◌∙◌, length, map, get_or, take, ap, sym, arith, refl}
 use Rattle.usb_fields.specs.Marks.{marked}
 use Rattle.usb_fields.proofs.Cells.{funext}
-use Rattle.usb_file_data.specs.Places.{at_each_counted, is_among}
+use Rattle.usb_file_data.specs.Places.{is_among}
 use Rattle.usb_file_data.specs.Rules.{address_of}
-use Rattle.usb_file_data.specs.Findings.{association_count, endpoint_associations}
+use Rattle.usb_file_data.specs.Findings.{endpoint_associations}
 use Rattle.usb_file_data.specs.inside.Addresses.{owned, owned_at, kept as claims}
 use Rattle.usb_file_data.specs.inside.Interfaces.{kept as entries}
 use Rattle.usb_file_data.specs.inside.Reports.{reported}

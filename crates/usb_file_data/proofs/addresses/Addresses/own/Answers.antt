@@ -1,4 +1,4 @@
-use Rattle.std.proofs.Common.{◌≡◌, ◌&&◌, ◌||◌, ◌==◌, ◌∙◌, ℕ, not, true, false, Bool, List, ap, sym, arith, length, ◌<◌}
+use Rattle.std.proofs.Common.{◌≡◌, ◌&&◌, ◌∙◌, ℕ, true, false, Bool, ap, sym, arith}
 use Rattle.std.specs.Prelude.{slice_index_or, slice_set}
 use Rattle.usb_fields.specs.Marks.{is_marked, marked}
 use Rattle.usb_file_data.specs.declared.addresses.Owner.TheVariants as owners
