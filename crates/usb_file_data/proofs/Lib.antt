@@ -9,6 +9,7 @@ pub mod Longest
 pub mod Copies
 pub mod Entering
 pub mod Owning
+pub mod Reporting
 pub mod Walking
 pub mod RuleNumbers
 pub mod PacketFaults

@@ -53,3 +53,38 @@ pub owners_more : (stands : ℕ → Bool) (cells : List Owner) (n a : ℕ) (o : 
     → by_cells (marked stands a) (slice_set cells a o) ≡ owned_at n (by_cells stands cells) a
 unfolding owned_at
 owners_more stands cells n a o small is = funext _ _ (λ b. funext _ _ (λ m. owner_more stands cells n a o small is b m))
+
+-- an address that stands, once more
+same_mark : (stands : ℕ → Bool) (a b : ℕ) → b ≡ a → stands b ≡ true → marked stands a b ≡ stands b
+unfolding marked
+same_mark stands a b same is = grind (arith, nat_tests)
+
+other_mark : (stands : ℕ → Bool) (a b : ℕ) → (b ≡ a → ⊥) → marked stands a b ≡ stands b
+unfolding marked
+other_mark stands a b other = grind (arith, nat_tests)
+
+pub marked_again : (stands : ℕ → Bool) (a : ℕ) → stands a ≡ true → marked stands a ≡ stands
+marked_again stands a is = funext _ _ (λ b. elim (cases_eq b a) [
+  | inl same ↦ same_mark stands a b same (ap stands same ∙ is)
+  | inr other ↦ other_mark stands a b other
+])
+
+-- an address of one number, under the same number once more
+again_here : (stands : Bool) (old : Owner) (n m : ℕ) (same : Bool) → stands ≡ true → is_other old n ≡ false → (stands && is_other old m) ≡ ((not (n == m) && same) || (stands && is_other old m))
+again_here true (owners.One k) n m true s h = grind (arith, nat_tests)
+again_here true (owners.One k) n m false s h = grind (arith, nat_tests)
+again_here true owners.Several n m same s h = grind arith
+again_here false old n m same s h = grind arith
+
+not_here : (n m a b : ℕ) (there : Bool) → (b ≡ a → ⊥) → there ≡ ((not (n == m) && (a == b)) || there)
+not_here n m a b there other = grind (arith, nat_tests)
+
+pub owned_again : (stands : ℕ → Bool) (cells : List Owner) (n a : ℕ) → stands a ≡ true → is_other (slice_index_or cells a (owners.One 0)) n ≡ false
+    → by_cells stands cells ≡ owned_at n (by_cells stands cells) a
+unfolding owned_at
+owned_again stands cells n a there alone = funext _ _ (λ b. funext _ _ (λ m. elim (cases_eq b a) [
+  | inl same ↦
+      again_here (stands b) (slice_index_or cells b (owners.One 0)) n m (a == b) (ap stands same ∙ there)
+      (ap (λ k. is_other (slice_index_or cells k (owners.One 0)) n) same ∙ alone)
+  | inr other ↦ not_here n m a b (by_cells stands cells b m) other
+]))

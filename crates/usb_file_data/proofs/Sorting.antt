@@ -2,7 +2,7 @@
 use Rattle.std.proofs.Common.{◌≡◌, ℕ, suc, ◌+◌, ◌<◌, ◌≤◌, ◌==◌, Bool, true, false, List, [], ◌∷◌, ◌++◌, refl, ap, sym, subst, ◌∙◌, length, map, take, get_or, drop, arith, append_assoc, length-append, nat_lt, not}
 use Rattle.std.specs.Prelude.{◌||◌, is_some, filter, fold, if◌then◌else◌}
 use Rattle.std.specs.List.{AllByRecursion, list_all}
-use Rattle.std.proofs.lemmas.List.{append-nil, get_or-map, get_or_default, length-map, map-append, take-map}
+use Rattle.std.proofs.lemmas.List.{append-nil, get_or_default, map-append}
 use Rattle.std.proofs.lemmas.Bool.Decides.{nat_tests}
 use Rattle.std.proofs.lemmas.List.Elements.{filter-append}
 use Rattle.std.proofs.lemmas.Grind.{common_steps}
@@ -40,11 +40,6 @@ none_left false later x rest h none = none h
 pub none_of : {A : Type 0} (key : A → ℕ) (n : ℕ) (xs : List A) → is_among (map key xs) n ≡ false → filter (λ x. key x == n) xs ≡ []
 none_of key n [] h = refl
 none_of key n (x ∷ xs) h = none_left (key x == n) (is_among (map key xs) n) x (filter (λ x. key x == n) xs) h (none_of key n xs)
-
--- the same of what is found
-pub none_found : (n : ℕ) (xs : List Found) → is_among (map (λ f. f.finding.rule) xs) n ≡ false → filter (λ f. f.rule == n) (map (λ f. f.finding) xs) ≡ []
-none_found n [] h = refl
-none_found n (x ∷ xs) h = none_left (x.finding.rule == n) (is_among (map (λ f. f.finding.rule) xs) n) x.finding (filter (λ f. f.rule == n) (map (λ f. f.finding) xs)) h (none_found n xs)
 
 -- ---- as many
 
@@ -158,13 +153,13 @@ unfolding marked
 above marks n m h none = grind (arith, nat_tests)
 
 -- one finding more, of no earlier rule: k is its number
-ends_next : (xs : List Finding) (i n k : ℕ) (x : Finding) → i < length xs → k ≡ (get_or xs i x).rule → n ≤ k → EndsAt n (take i xs) → EndsAt k (take (i + 1) xs)
+pub ends_next : (xs : List Finding) (i n k : ℕ) (x : Finding) → i < length xs → k ≡ (get_or xs i x).rule → n ≤ k → EndsAt n (take i xs) → EndsAt k (take (i + 1) xs)
 ends_next xs i n k x below is up ends m h =
     ap (λ marks. marks m) (stands_more (λ f. f.rule) xs i (get_or xs i x) below (get_or_default xs i _ _ below))
     ∙ ap (λ l. marked (is_among (map (λ f. f.rule) (take i xs))) l m) (sym is)
     ∙ above (is_among (map (λ f. f.rule) (take i xs))) k m h (ends m (omega (arith, up, h)))
 
-in_order_next : (xs : List Finding) (i n k : ℕ) (x : Finding) → i < length xs → k ≡ (get_or xs i x).rule → 1 ≤ n → n ≤ k → k ≤ 13 → EndsAt n (take i xs)
+pub in_order_next : (xs : List Finding) (i n k : ℕ) (x : Finding) → i < length xs → k ≡ (get_or xs i x).rule → 1 ≤ n → n ≤ k → k ≤ 13 → EndsAt n (take i xs)
     → by_rule (take i xs) ≡ take i xs → by_rule (take (i + 1) xs) ≡ take (i + 1) xs
 in_order_next xs i n k x below is some up last ends same =
     let f = get_or xs i x in
@@ -174,27 +169,6 @@ in_order_next xs i n k x below is some up last ends same =
     ∙ number_after k f (take i xs) (omega (arith, some, up)) last is (λ m h. ends m (omega (arith, up, h)))
     (λ m h. ap (λ ys. is_among (map (λ g. g.rule) ys) m) (sym more) ∙ new m h)
     ∙ ap (λ ys. ys ++ f ∷ []) same ∙ sym more
-
--- the same of what is found
-short : (xs : List Found) (i : ℕ) → i < length xs → i < length (map (λ f. f.finding) xs)
-short xs i below = omega (arith, length-map xs (λ f. f.finding), below)
-
-number_is : (xs : List Found) (i : ℕ) (x : Found) → i < length xs → (get_or xs i x).finding.rule ≡ (get_or (map (λ f. f.finding) xs) i x.finding).rule
-number_is xs i x below = ap (λ f. f.rule) (sym (get_or-map (λ f. f.finding) xs i x x.finding below))
-
-pub found_next : (xs : List Found) (i n : ℕ) (x : Found) → i < length xs → n ≤ (get_or xs i x).finding.rule → EndsAt n (map (λ f. f.finding) (take i xs))
-    → EndsAt (get_or xs i x).finding.rule (map (λ f. f.finding) (take (i + 1) xs))
-found_next xs i n x below up ends =
-    subst (EndsAt (get_or xs i x).finding.rule) (take-map (λ f. f.finding) (i + 1) xs)
-    (ends_next (map (λ f. f.finding) xs) i n _ x.finding (short xs i below) (number_is xs i x below) up (subst (EndsAt n) (sym (take-map (λ f. f.finding) i xs)) ends))
-
-pub found_in_order_next : (xs : List Found) (i n : ℕ) (x : Found) → i < length xs → 1 ≤ n → n ≤ (get_or xs i x).finding.rule → (get_or xs i x).finding.rule ≤ 13
-    → EndsAt n (map (λ f. f.finding) (take i xs)) → by_rule (map (λ f. f.finding) (take i xs)) ≡ map (λ f. f.finding) (take i xs)
-    → by_rule (map (λ f. f.finding) (take (i + 1) xs)) ≡ map (λ f. f.finding) (take (i + 1) xs)
-found_in_order_next xs i n x below some up last ends same =
-    let before = sym (take-map (λ f. f.finding) i xs) in
-    subst (λ ys. by_rule ys ≡ ys) (take-map (λ f. f.finding) (i + 1) xs)
-    (in_order_next (map (λ f. f.finding) xs) i n _ x.finding (short xs i below) (number_is xs i x below) some up last (subst (EndsAt n) before ends) (subst (λ ys. by_rule ys ≡ ys) before same))
 
 -- ---- where nothing is found
 

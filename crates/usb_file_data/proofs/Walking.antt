@@ -12,7 +12,7 @@ use Rattle.usb_set.specs.declared.extra.Association.{Association}
 use Rattle.usb_set.specs.declared.tree.Endpoint.{Endpoint}
 use Rattle.usb_set.specs.declared.tree.Setting.{Setting}
 use Rattle.usb_file_data.specs.declared.cause.Cause.TheVariants as causes
-use Rattle.usb_file_data.specs.Places.{at_each, at_each_counted, is_among, when}
+use Rattle.usb_file_data.specs.Places.{at_each, is_among, when}
 use Rattle.usb_file_data.specs.Findings.{association_count, endpoint_associations, setting_associations}
 use Rattle.usb_set.specs.declared.extra.Extra.{Extra}
 use Rattle.usb_set.specs.Owners.{association_in}
@@ -23,15 +23,6 @@ use Rattle.usb_file_data.specs.inside.Interfaces.{NoneBreaksV3OrV4, AreEntered, 
 use Rattle.usb_file_data.specs.declared.interfaces.Interface.{Interface}
 use Rattle.usb_file_data.specs.inside.Walk.{broken, in_interface, shared_with}
 
-pub append_again : {A : Type 0} (out xs ys : List A) → (out ++ xs) ++ ys ≡ out ++ (xs ++ ys)
-append_again out xs ys = append_assoc out xs ys
-
-pub joined_twice : {A : Type 0} (old middle new xs ys rest : List A) → middle ≡ old ++ xs → new ≡ middle ++ ys → new ++ rest ≡ old ++ (xs ++ ys ++ rest)
-joined_twice old middle new xs ys rest first second =
-    let one = append_assoc old xs ys in
-    let two = append_assoc old (xs ++ ys) rest in
-    cc
-
 -- a loop's next place
 pub at_each_next : {A B : Type 0} (f : ℕ → A → List B) (xs : List A) (i : ℕ) (x : A) (old new whole : List B)
     → i < length xs → x ≡ get_or xs i x → old ++ at_each f i (drop i xs) ≡ whole → new ≡ old ++ f i x
@@ -41,18 +32,6 @@ at_each_next f xs i x old new whole below is whole_is new_is =
     let step : at_each f i (drop i xs) ≡ f i x ++ at_each f (i + 1) (drop (i + 1) xs) = ap (at_each f i) here in
     let joined = append_assoc old (f i x) (at_each f (i + 1) (drop (i + 1) xs)) in
     cc
-
--- the same with a count
-pub counted_next : {A B : Type 0} (size : A → ℕ) (f : ℕ → ℕ → A → List B) (xs : List A) (i n m : ℕ) (x : A) (old new whole : List B)
-    → i < length xs → x ≡ get_or xs i x → old ++ at_each_counted size f i n (drop i xs) ≡ whole → new ≡ old ++ f i n x → m ≡ n + size x
-    → new ++ at_each_counted size f (i + 1) m (drop (i + 1) xs) ≡ whole
-counted_next size f xs i n m x old new whole below is whole_is new_is m_is =
-    let here : drop i xs ≡ x ∷ drop (i + 1) xs = grind (arith, common_steps) in
-    let step : at_each_counted size f i n (drop i xs) ≡ f i n x ++ at_each_counted size f (i + 1) (n + size x) (drop (i + 1) xs) = ap (at_each_counted size f i n) here in
-    let joined = append_assoc old (f i n x) (at_each_counted size f (i + 1) (n + size x) (drop (i + 1) xs)) in
-    ap (λ k. new ++ at_each_counted size f (i + 1) k (drop (i + 1) xs)) m_is
-    ∙ ap (λ l. l ++ at_each_counted size f (i + 1) (n + size x) (drop (i + 1) xs)) new_is
-    ∙ joined ∙ ap (λ l. old ++ l) (sym step) ∙ whole_is
 
 -- of two lists one after the other
 pub each_append : {A B : Type 0} (f : ℕ → A → List B) (n : ℕ) (xs ys : List A) → at_each f n (xs ++ ys) ≡ at_each f n xs ++ at_each f (n + length xs) ys

@@ -2,3 +2,4 @@
 pub mod Walk
 pub mod Interfaces
 pub mod Addresses
+pub mod Reports

@@ -1,6 +1,7 @@
 //! The endpoint addresses of a set.
 ghost use Rattle.std.specs.Prelude.{◌≡◌};
-ghost use Rattle.usb_file_data.specs.inside.Addresses.{claimed, cleared, is_other, kept, begun};
+ghost use Rattle.usb_fields.specs.Marks.{marked};
+ghost use Rattle.usb_file_data.specs.inside.Addresses.{begun, claimed, cleared, is_other, kept, owned_at};
 
 use std::marker::Model;
 use usb_fields::Marks;
@@ -82,43 +83,44 @@ impl Addresses {
     }
 
     /// The setting in work claims the address. Answers who claimed it before.
+    #[inline(always)]
     pub(crate) fn claim(&mut self, address: u8) -> Claimed
         ensures here { result.here ≡ (kept self.old).here address }
         ensures elsewhere { result.elsewhere ≡ (kept self.old).elsewhere address (kept self.old).number }
         ensures claimed { kept self.new ≡ claimed address (kept self.old) }
     {
-        let here = self.is_repeated(address);
-        let elsewhere = self.is_shared(address);
-        self.add(address);
+        let here = self.repeat(address);
+        let elsewhere = self.own(address);
         Claimed { here, elsewhere }
     }
 
-    /// Whether the setting in work has the address.
-    fn is_repeated(&self, address: u8) -> bool
-        ensures { result ≡ (kept self.now).here address }
+    /// The setting in work has the address. Answers whether it had it before.
+    #[inline(always)]
+    fn repeat(&mut self, address: u8) -> bool
+        ensures here { result ≡ (kept self.old).here address }
+        ensures marked { kept self.new ≡ record (kept self.old) { here = marked (kept self.old).here address } }
     {
-        self.in_setting.has(address)
-    }
-
-    /// Whether another interface number than that of the setting in work has the address.
-    #[tactic(auto, unfolding(crate::specs::inside::Addresses::kept))]
-    fn is_shared(&self, address: u8) -> bool
-        ensures { result ≡ (kept self.now).elsewhere address (kept self.now).number }
-    {
-        self.in_set.has(address) && self.owners[usize::from(address)].is_other(self.number)
-    }
-
-    /// The setting in work claims the address.
-    fn add(&mut self, address: u8)
-        ensures { kept self.new ≡ claimed address (kept self.old) }
-    {
-        let owner = if self.is_shared(address) {
-            Owner::Several
-        } else {
-            Owner::One(self.number)
-        };
-        self.owners[usize::from(address)] = owner;
-        self.in_set.add(address);
+        let here = self.in_setting.has(address);
         self.in_setting.add(address);
+        here
+    }
+
+    /// The interface number of the setting in work has the address. Answers whether another number has it too.
+    #[inline(always)]
+    fn own(&mut self, address: u8) -> bool
+        ensures elsewhere { result ≡ (kept self.old).elsewhere address (kept self.old).number }
+        ensures owned { kept self.new ≡ record (kept self.old) { elsewhere = owned_at (kept self.old).number (kept self.old).elsewhere address } }
+    {
+        let place = usize::from(address);
+        if !self.in_set.has(address) {
+            self.in_set.add(address);
+            self.owners[place] = Owner::One(self.number);
+            return false;
+        }
+        if self.owners[place].is_other(self.number) {
+            self.owners[place] = Owner::Several;
+            return true;
+        }
+        false
     }
 }

@@ -1,6 +1,7 @@
 //! All findings of a file, of a dump, and of a set alone.
-ghost use Rattle.std.specs.Prelude.{◌≡◌, ◌++◌, ◌∷◌, [], IfOk, OnOk};
+ghost use Rattle.std.specs.Prelude.{◌≡◌, ◌∷◌, [], IfOk, OnOk};
 ghost use Rattle.usb_file_data.specs.Findings.{dump_findings, file_in_order, findings, found_in_order, input_findings, part_in_order, part_of_kind, set_findings};
+ghost use Rattle.usb_file_data.specs.inside.Reports.{none_reported, reported};
 
 use crate::cause::Found;
 use crate::configuration::check_any_set;
@@ -31,10 +32,11 @@ pub use std::alloc::AllocError as NoMemory;
 /// # Errors
 ///
 /// Out of memory.
+#[tactic(auto, unfolding(crate::specs::inside::Reports::reported))]
 pub fn check(alloc: Global, f: &DescriptorFile) -> Result<Vec<Finding>, NoMemory>
     ensures { IfOk result (λ v. v.items ≡ findings f.now) }
 {
-    by_rule(alloc, &walk_file(alloc, false, f)?.in_order())
+    by_rule(alloc, walk_file(alloc, false, f, false)?.into_findings())
 }
 
 /// Everything in a dump that breaks a rule, in the order of [`check`]. From bcdUSB 0300 on it is of a SuperSpeed
@@ -49,10 +51,11 @@ pub fn check(alloc: Global, f: &DescriptorFile) -> Result<Vec<Finding>, NoMemory
 /// # Errors
 ///
 /// Out of memory.
+#[tactic(auto, unfolding(crate::specs::inside::Reports::reported))]
 pub fn check_dump(alloc: Global, f: &DescriptorFile) -> Result<Vec<Finding>, NoMemory>
     ensures { IfOk result (λ v. v.items ≡ dump_findings f.now) }
 {
-    by_rule(alloc, &walk_file(alloc, true, f)?.in_order())
+    by_rule(alloc, walk_file(alloc, true, f, false)?.into_findings())
 }
 
 /// Everything in a set alone that breaks a rule, in the order of [`check`]: it is the only set of its part, the main one
@@ -68,10 +71,11 @@ pub fn check_dump(alloc: Global, f: &DescriptorFile) -> Result<Vec<Finding>, NoM
 /// # Errors
 ///
 /// Out of memory.
+#[tactic(auto, unfolding(crate::specs::inside::Reports::reported))]
 pub fn check_set(alloc: Global, c: &Configuration) -> Result<Vec<Finding>, NoMemory>
     ensures { IfOk result (λ v. v.items ≡ set_findings c.now) }
 {
-    by_rule(alloc, &walk_set(alloc, c)?.in_order())
+    by_rule(alloc, walk_set(alloc, c, false)?.into_findings())
 }
 
 /// Everything in an input that breaks a rule of chapter 9: [`check_set`] of a set, [`check`] of a file and
@@ -86,10 +90,11 @@ pub fn check_set(alloc: Global, c: &Configuration) -> Result<Vec<Finding>, NoMem
 /// # Errors
 ///
 /// Out of memory.
+#[tactic(auto, unfolding(crate::specs::inside::Reports::reported))]
 pub fn check_input(alloc: Global, input: &Input) -> Result<Vec<Finding>, NoMemory>
     ensures { IfOk result (λ findings. findings.items ≡ input_findings input.now) }
 {
-    by_rule(alloc, &walk(alloc, input)?.in_order())
+    by_rule(alloc, walk(alloc, input, false)?.into_findings())
 }
 
 /// What [`check_input`] finds, in the order of the bytes: at each descriptor the rules that it breaks, and why.
@@ -103,10 +108,11 @@ pub fn check_input(alloc: Global, input: &Input) -> Result<Vec<Finding>, NoMemor
 /// # Errors
 ///
 /// Out of memory.
+#[tactic(auto, unfolding(crate::specs::inside::Reports::reported))]
 pub fn found_in_order(alloc: Global, input: &Input) -> Result<Vec<Found>, NoMemory>
     ensures { IfOk result (λ v. v.items ≡ found_in_order input.now) }
 {
-    Ok(walk(alloc, input)?.in_order())
+    Ok(walk(alloc, input, true)?.into_found())
 }
 
 /// The part that a set alone is of.
@@ -119,46 +125,51 @@ fn part_of(kind: SetKind) -> Part
     }
 }
 
-/// Goes over an input.
-fn walk(alloc: Global, input: &Input) -> Result<Report, AllocError>
-    ensures { IfOk result (λ found. found ≡ found_in_order input.now) }
+/// Goes over an input, and keeps causes where they are asked for.
+fn walk(alloc: Global, input: &Input, has_causes: bool) -> Result<Report, AllocError>
+    ensures { IfOk result (λ found. found ≡ reported (none_reported has_causes) (found_in_order input.now)) }
 {
     match input {
-        Input::Set(set) => walk_set(alloc, set),
-        Input::File(file) => walk_file(alloc, false, file),
-        Input::Dump(file) => walk_file(alloc, true, file),
+        Input::Set(set) => walk_set(alloc, set, has_causes),
+        Input::File(file) => walk_file(alloc, false, file, has_causes),
+        Input::Dump(file) => walk_file(alloc, true, file, has_causes),
     }
 }
 
-/// Goes over a set alone.
-fn walk_set(alloc: Global, c: &Configuration) -> Result<Report, AllocError>
-    ensures { IfOk result (λ found. found ≡ part_in_order (part_of_kind c.now.kind) (c.now ∷ [])) }
+/// Goes over a set alone, as [`walk`] does.
+fn walk_set(alloc: Global, c: &Configuration, has_causes: bool) -> Result<Report, AllocError>
+    ensures { IfOk result (λ found. found ≡ reported (none_reported has_causes) (part_in_order (part_of_kind c.now.kind) (c.now ∷ []))) }
 {
-    let mut found = Report::new(alloc);
+    let mut found = Report::new(alloc, has_causes);
     let mut known = Known::new(alloc);
     check_part(&mut found, &mut known, part_of(c.kind), slice::from_ref(c))?;
     Ok(found)
 }
 
-/// Goes over a file or a dump.
-fn walk_file(alloc: Global, is_dump: bool, f: &DescriptorFile) -> Result<Report, AllocError>
-    ensures { IfOk result (λ found. found ≡ file_in_order is_dump f.now) }
+/// Goes over a file or a dump, as [`walk`] does.
+fn walk_file(
+    alloc: Global,
+    is_dump: bool,
+    f: &DescriptorFile,
+    has_causes: bool,
+) -> Result<Report, AllocError>
+    ensures { IfOk result (λ found. found ≡ reported (none_reported has_causes) (file_in_order is_dump f.now)) }
 {
-    let mut found = Report::new(alloc);
+    let mut found = Report::new(alloc, has_causes);
     let mut known = Known::new(alloc);
     check_parts(&mut found, &mut known, is_dump, f)?;
     Ok(found)
 }
 
 /// The device descriptor, the main part and the other part.
-#[tactic(auto, using(crate::proofs::Walking::append_again))]
+#[tactic(auto, using(crate::proofs::Reporting::reported_again, crate::proofs::Reporting::reported_none, std::proofs::lemmas::Grind::common_steps))]
 fn check_parts(
     found: &mut Report,
     known: &mut Known,
     is_dump: bool,
     f: &DescriptorFile,
 ) -> Result<(), AllocError>
-    ensures { OnOk result (found.new ≡ found.old ++ file_in_order is_dump f.now) }
+    ensures { OnOk result (found.new ≡ reported found.old (file_in_order is_dump f.now)) }
 {
     check_any_set(found, Place::of(Part::Main, 0), &f.sets)?;
     check_device(found, is_dump, &f.device)?;
@@ -172,13 +183,14 @@ fn check_parts(
 }
 
 /// The sets of a part.
+#[tactic(auto, using(crate::proofs::Reporting::reported_again, crate::proofs::Reporting::reported_none, std::proofs::lemmas::Grind::common_steps))]
 fn check_part(
     found: &mut Report,
     known: &mut Known,
     part: Part,
     sets: &[Configuration],
 ) -> Result<(), AllocError>
-    ensures { OnOk result (found.new ≡ found.old ++ part_in_order part sets.now) }
+    ensures { OnOk result (found.new ≡ reported found.old (part_in_order part sets.now)) }
 {
     let mut values = Marks::new();
     for (set, c) in sets.iter().enumerate() {

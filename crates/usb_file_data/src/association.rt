@@ -1,10 +1,12 @@
 //! V13: an association binds interfaces that are there.
-ghost use Rattle.std.specs.Prelude.{◌≡◌, ◌+◌, ◌∷◌, ◌++◌, [], IfOk, OnOk, length};
+ghost use Rattle.std.specs.List.{flat_map};
+ghost use Rattle.std.specs.Prelude.{◌≡◌, ◌+◌, ◌∷◌, [], IfOk, OnOk, false, length};
 ghost use Rattle.usb_set.specs.Owners.{association_in};
 ghost use Rattle.usb_file_data.specs.Causes.{association_cause};
 ghost use Rattle.usb_file_data.specs.Findings.{association_count};
 ghost use Rattle.usb_file_data.specs.inside.Interfaces.{kept, misses_some};
 ghost use Rattle.usb_file_data.specs.inside.Walk.{in_extras};
+ghost use Rattle.usb_file_data.specs.inside.Reports.{reported};
 
 use crate::cause::Cause;
 use crate::interfaces::Interfaces;
@@ -15,8 +17,9 @@ use usb_set::{Association, Extra, Sequence};
 
 /// Of the associations among these extras, of which the first has this number in its set. Answers the number of the next.
 ///
-/// Most descriptors own no extras, and for them nothing is called.
+/// Most descriptors own no extras, and most extras are no associations: for them nothing is called.
 #[inline(always)]
+#[tactic(auto, using(crate::proofs::Reporting::reported_again, crate::proofs::Reporting::reported_none, std::proofs::lemmas::Grind::common_steps))]
 pub(crate) fn check_extras(
     found: &mut Report,
     interfaces: &Interfaces,
@@ -24,16 +27,34 @@ pub(crate) fn check_extras(
     number: usize,
     extras: &Sequence<Extra>,
 ) -> Result<usize, AllocError>
-    ensures reported { OnOk result (found.new ≡ found.old ++ in_extras place.now (kept interfaces.now).numbers number extras.now) }
+    ensures reported { OnOk result (found.new ≡ reported found.old (in_extras place.now (kept interfaces.now).numbers number extras.now)) }
     ensures next { IfOk result (λ next. next ≡ number + association_count extras.now) }
 {
     if extras.is_empty() {
         return Ok(number);
     }
+    if !has_association(extras) {
+        return Ok(number);
+    }
     check_each(found, interfaces, *place, number, extras)
 }
 
+/// Whether one of the extras is an association.
+#[inline(always)]
+fn has_association(extras: &[Extra]) -> bool
+    ensures { result ≡ false → flat_map association_in extras.now ≡ [] }
+{
+    for extra in extras {
+        if matches!(extra, Extra::Association(_)) {
+            return true;
+        }
+    }
+    false
+}
+
 /// The same, extra by extra.
+#[inline(never)]
+#[tactic(auto, using(crate::proofs::Reporting::reported_again, crate::proofs::Reporting::reported_none, std::proofs::lemmas::Grind::common_steps))]
 fn check_each(
     found: &mut Report,
     interfaces: &Interfaces,
@@ -41,7 +62,7 @@ fn check_each(
     number: usize,
     extras: &[Extra],
 ) -> Result<usize, AllocError>
-    ensures reported { OnOk result (found.new ≡ found.old ++ in_extras place (kept interfaces.now).numbers number extras.now) }
+    ensures reported { OnOk result (found.new ≡ reported found.old (in_extras place (kept interfaces.now).numbers number extras.now)) }
     ensures next { IfOk result (λ next. next ≡ number + association_count extras.now) }
 {
     let mut next = number;
@@ -52,6 +73,7 @@ fn check_each(
 }
 
 /// Of an extra, if it is an association.
+#[tactic(auto, using(crate::proofs::Reporting::reported_again, crate::proofs::Reporting::reported_none, std::proofs::lemmas::Grind::common_steps))]
 fn check_extra(
     found: &mut Report,
     interfaces: &Interfaces,
@@ -59,7 +81,7 @@ fn check_extra(
     number: usize,
     extra: &Extra,
 ) -> Result<usize, AllocError>
-    ensures reported { OnOk result (found.new ≡ found.old ++ in_extras place (kept interfaces.now).numbers number (extra.now ∷ [])) }
+    ensures reported { OnOk result (found.new ≡ reported found.old (in_extras place (kept interfaces.now).numbers number (extra.now ∷ []))) }
     ensures next { IfOk result (λ next. next ≡ number + length (association_in extra.now)) }
 {
     match extra {

@@ -1,12 +1,13 @@
 //! V9 and V10: a configuration's bmAttributes and bConfigurationValue.
-ghost use Rattle.std.specs.Prelude.{◌≡◌, ◌++◌, OnOk};
+ghost use Rattle.std.specs.Prelude.{◌≡◌, OnOk};
 ghost use Rattle.usb_file_data.specs.declared.cause.Cause.TheVariants as causes;
 ghost use Rattle.usb_file_data.specs.Causes.{attributes_cause, value_cause};
 ghost use Rattle.usb_file_data.specs.Places.{when};
 ghost use Rattle.usb_file_data.specs.inside.Walk.{broken};
 ghost use Rattle.usb_file_data.specs.Rules.{wrong_attributes};
-ghost use Rattle.std.specs.Prelude.{◌≡◌, ◌++◌, ◌==◌, ◌||◌, OnOk, length};
+ghost use Rattle.std.specs.Prelude.{◌≡◌, ◌==◌, ◌||◌, OnOk, length};
 ghost use Rattle.usb_fields.specs.Marks.{is_marked, marked};
+ghost use Rattle.usb_file_data.specs.inside.Reports.{reported};
 
 use crate::cause::Cause;
 use crate::place::Place;
@@ -26,7 +27,7 @@ pub(crate) fn check_attributes(
     place: Place,
     c: &Configuration,
 ) -> Result<(), AllocError>
-    ensures { OnOk result (found.new ≡ found.old ++ when (wrong_attributes c.now) (broken (attributes_cause c.now.attributes) place)) }
+    ensures { OnOk result (found.new ≡ reported found.old (when (wrong_attributes c.now) (broken (attributes_cause c.now.attributes) place))) }
 {
     let clear = c.attributes & ALWAYS_ONE == 0;
     let reserved = c.attributes & ALWAYS_ZERO != 0;
@@ -40,7 +41,7 @@ pub(crate) fn check_any_set(
     place: Place,
     sets: &[Configuration],
 ) -> Result<(), AllocError>
-    ensures { OnOk result (found.new ≡ found.old ++ when (length sets.now == 0) (broken causes.NoConfiguration place)) }
+    ensures { OnOk result (found.new ≡ reported found.old (when (length sets.now == 0) (broken causes.NoConfiguration place))) }
 {
     found.report(Cause::NoConfiguration, sets.is_empty(), place)
 }
@@ -52,7 +53,7 @@ pub(crate) fn check_value(
     place: Place,
     c: &Configuration,
 ) -> Result<(), AllocError>
-    ensures reported { OnOk result (found.new ≡ found.old ++ when ((c.now.value == 0) || is_marked values.old c.now.value) (broken (value_cause c.now.value) place)) }
+    ensures reported { OnOk result (found.new ≡ reported found.old (when ((c.now.value == 0) || is_marked values.old c.now.value) (broken (value_cause c.now.value) place))) }
     ensures marked { OnOk result (is_marked values.new ≡ marked (is_marked values.old) c.now.value) }
 {
     let is_zero = c.value == 0;

@@ -1,8 +1,9 @@
 //! V11: packet size, class and reserved byte of the device descriptor and the qualifier.
-ghost use Rattle.std.specs.Prelude.{◌≡◌, ◌++◌, OnOk};
+ghost use Rattle.std.specs.Prelude.{◌≡◌, OnOk};
 ghost use Rattle.usb_file_data.specs.Causes.{device_packet_fault, late_packet_fault, packet_fault};
 ghost use Rattle.usb_file_data.specs.Findings.{at_device, at_qualifier};
 ghost use Rattle.usb_file_data.specs.Rules.{has_lone_subclass, wrong_packet};
+ghost use Rattle.usb_file_data.specs.inside.Reports.{reported};
 
 use crate::cause::{Cause, PacketFault};
 use crate::finding::Part;
@@ -24,7 +25,7 @@ pub(crate) fn check_device(
     is_dump: bool,
     d: &DeviceDescriptor,
 ) -> Result<(), AllocError>
-    ensures { OnOk result (found.new ≡ found.old ++ at_device is_dump d.now) }
+    ensures { OnOk result (found.new ≡ reported found.old (at_device is_dump d.now)) }
 {
     let packet = device_packet_fault(is_dump, d);
     let subclass = has_lone_subclass(d);
@@ -38,7 +39,7 @@ pub(crate) fn check_device(
 
 #[tactic(auto, using(crate::proofs::PacketFaults::packet_breaks))]
 pub(crate) fn check_qualifier(found: &mut Report, q: &Qualifier) -> Result<(), AllocError>
-    ensures { OnOk result (found.new ≡ found.old ++ at_qualifier q.now) }
+    ensures { OnOk result (found.new ≡ reported found.old (at_qualifier q.now)) }
 {
     let packet = packet_fault(q.packet);
     let subclass = q.class == 0 && q.subclass != 0;

@@ -1,5 +1,5 @@
 //! V1 to V4: interface numbers and alternate settings.
-ghost use Rattle.std.specs.Prelude.{◌≡◌, ◌++◌, length, OnOk};
+ghost use Rattle.std.specs.Prelude.{◌≡◌, length, OnOk};
 ghost use Rattle.usb_file_data.specs.declared.cause.Cause.TheVariants as causes;
 ghost use Rattle.usb_file_data.specs.Places.{when};
 ghost use Rattle.usb_file_data.specs.inside.Walk.{broken};
@@ -8,6 +8,7 @@ ghost use Rattle.usb_file_data.specs.inside.Interfaces.{AreEntered, kept};
 ghost use Rattle.std.specs.Prelude.{◌≡◌, ◌&&◌, not};
 ghost use Rattle.usb_file_data.specs.inside.Interfaces.{kept};
 ghost use Rattle.usb_file_data.specs.inside.Interfaces.{entered, kept};
+ghost use Rattle.usb_file_data.specs.inside.Reports.{reported};
 
 use crate::cause::Cause;
 use crate::interfaces::Interfaces;
@@ -23,7 +24,7 @@ pub(crate) fn check_interface_count(
     c: &Configuration,
 ) -> Result<(), AllocError>
     requires { AreEntered c.now.settings (kept interfaces.now) }
-    ensures { OnOk result (found.new ≡ found.old ++ when (wrong_interface_count c.now) (broken (causes.InterfaceCount c.now.declared_interfaces (length (interface_numbers c.now.settings))) place)) }
+    ensures { OnOk result (found.new ≡ reported found.old (when (wrong_interface_count c.now) (broken (causes.InterfaceCount c.now.declared_interfaces (length (interface_numbers c.now.settings))) place))) }
 {
     let declared = c.declared_interfaces;
     let count = interfaces.list().len();
@@ -41,7 +42,7 @@ pub(crate) fn check_number_gap(
     c: &Configuration,
 ) -> Result<(), AllocError>
     requires { AreEntered c.now.settings (kept interfaces.now) }
-    ensures { OnOk result (found.new ≡ found.old ++ when (has_number_gap c.now) (broken causes.NumberGap place)) }
+    ensures { OnOk result (found.new ≡ reported found.old (when (has_number_gap c.now) (broken causes.NumberGap place))) }
 {
     found.report(
         Cause::NumberGap,
@@ -65,7 +66,7 @@ pub(crate) fn check_repeated_setting(
     place: Place,
     s: &Setting,
 ) -> Result<(), AllocError>
-    ensures reported { OnOk result (found.new ≡ found.old ++ when ((kept interfaces.old).alternates s.now.number s.now.alternate) (broken causes.RepeatedSetting place)) }
+    ensures reported { OnOk result (found.new ≡ reported found.old (when ((kept interfaces.old).alternates s.now.number s.now.alternate) (broken causes.RepeatedSetting place))) }
     ensures entered { OnOk result (kept interfaces.new ≡ entered place.setting s.now (kept interfaces.old)) }
 {
     let again = interfaces.add(place.setting, s)?;

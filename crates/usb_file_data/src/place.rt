@@ -3,6 +3,7 @@ ghost use Rattle.std.specs.Prelude.{◌≡◌};
 
 use crate::cause::{Cause, Found};
 use crate::finding::{Finding, Part};
+use crate::rule::Rule;
 
 /// A set of a part, or a setting of it, or an endpoint of that, all counted from 0. Numbers that do not
 /// apply are 0.
@@ -15,6 +16,7 @@ pub(crate) struct Place {
 }
 
 impl Place {
+    ghost use Rattle.usb_file_data.specs.Places.{finding};
     ghost use Rattle.usb_file_data.specs.inside.Walk.{broken, place};
 
     /// That of a part, and of its set of this number.
@@ -48,16 +50,27 @@ impl Place {
     }
 
     /// What is found here where a rule is broken by the cause.
+    #[inline(always)]
     pub(crate) fn found(self, cause: Cause) -> Found
         ensures { result ≡ broken cause self }
     {
-        let finding = Finding {
-            rule: cause.rule().number(),
+        Found {
+            finding: self.finding(cause.rule()),
+            cause,
+        }
+    }
+
+    /// The finding that the rule is broken here.
+    #[inline(always)]
+    pub(crate) fn finding(self, rule: Rule) -> Finding
+        ensures { result ≡ finding rule self.part self.set self.setting self.endpoint }
+    {
+        Finding {
+            rule: rule.number(),
             part: self.part,
             set: self.set,
             setting: self.setting,
             endpoint: self.endpoint,
-        };
-        Found { finding, cause }
+        }
     }
 }

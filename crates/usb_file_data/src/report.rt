@@ -1,59 +1,97 @@
 //! What a walk over an input finds.
-ghost use Rattle.std.specs.Prelude.{◌≡◌, ◌++◌, [], OnOk};
+ghost use Rattle.std.specs.Prelude.{◌≡◌, ◌++◌, ◌∷◌, [], OnOk};
 
 use crate::cause::{Cause, Found};
+use crate::finding::Finding;
 use crate::place::Place;
 use std::alloc::{AllocError, Global};
 use std::marker::Model;
 
-/// What is found, in the order of the walk.
+/// What is found, in the order of the walk: with the causes, where they are asked for, and else without.
 #[derive(Drop)]
 pub(crate) struct Report {
+    has_causes: bool,
+    /// Empty where no causes are asked for.
     found: Vec<Found>,
+    /// Empty where they are.
+    findings: Vec<Finding>,
 }
 
 impl Model for Report {
-    ghost use Rattle.std.specs.Prelude.{List};
-    ghost use Rattle.usb_file_data.specs.declared.cause.Found.{Found};
+    ghost use Rattle.usb_file_data.specs.inside.Reports.{Reported};
 
-    ghost Value = { List Found };
+    ghost Value = { Reported };
 
-    ghost view = { λ r. r.found.items };
+    ghost view = { λ r. record { has_causes = r.has_causes; found = r.found.items; findings = r.findings.items } };
 }
 
 impl Report {
     ghost use Rattle.usb_file_data.specs.Places.{when};
+    ghost use Rattle.usb_file_data.specs.inside.Reports.{none_reported, reported};
     ghost use Rattle.usb_file_data.specs.inside.Walk.{broken};
 
     /// Nothing yet.
-    pub(crate) fn new(alloc: Global) -> Report
-        ensures { result ≡ [] }
+    pub(crate) fn new(alloc: Global, has_causes: bool) -> Report
+        ensures { result ≡ none_reported has_causes }
     {
         Report {
+            has_causes,
             found: Vec::new(alloc),
+            findings: Vec::new(alloc),
         }
     }
 
     /// Reports that a rule is broken at the place by the cause, where the test holds.
     #[inline(always)]
+    #[tactic(auto, using(crate::proofs::Reporting::reported_none))]
     pub(crate) fn report(
         &mut self,
         cause: Cause,
         holds: bool,
         place: Place,
     ) -> Result<(), AllocError>
-        ensures { OnOk result (self.new ≡ self.old ++ when holds (broken cause place)) }
+        ensures { OnOk result (self.new ≡ reported self.old (when holds (broken cause place))) }
     {
         if holds {
-            self.found.push(place.found(cause))?;
+            self.tell(cause, place)?;
         }
         Ok(())
     }
 
-    /// All that is found, in the order of the walk.
-    pub(crate) fn in_order(self) -> Vec<Found>
-        ensures { result.items ≡ self }
+    /// Reports that a rule is broken.
+    #[inline(always)]
+    #[tactic(auto, using(crate::proofs::Reporting::reported_with, crate::proofs::Reporting::reported_without))]
+    fn tell(&mut self, cause: Cause, place: Place) -> Result<(), AllocError>
+        ensures { OnOk result (self.new ≡ reported self.old (broken cause place ∷ [])) }
+    {
+        if self.has_causes {
+            return self.keep(place.found(cause));
+        }
+        self.findings.push(place.finding(cause.rule()))?;
+        Ok(())
+    }
+
+    /// Keeps what is found with its cause.
+    #[cold]
+    #[inline(never)]
+    fn keep(&mut self, found: Found) -> Result<(), AllocError>
+        ensures { OnOk result (self.new ≡ record self.old { found = self.old.found ++ found ∷ [] }) }
+    {
+        self.found.push(found)?;
+        Ok(())
+    }
+
+    /// What was found with causes, in the order of the walk.
+    pub(crate) fn into_found(self) -> Vec<Found>
+        ensures { result.items ≡ self.found }
     {
         self.found
+    }
+
+    /// What was found without causes, in the order of the walk.
+    pub(crate) fn into_findings(self) -> Vec<Finding>
+        ensures { result.items ≡ self.findings }
+    {
+        self.findings
     }
 }

@@ -1,10 +1,13 @@
 //! All rules that a set keeps or breaks by itself.
-ghost use Rattle.std.specs.Prelude.{◌≡◌, ◌+◌, ◌++◌, true, false, IfOk, OnOk};
+ghost use Rattle.std.specs.Prelude.{◌≡◌, ◌+◌, true, false, IfOk, OnOk};
 ghost use Rattle.usb_fields.specs.Marks.{is_marked, marked};
-ghost use Rattle.usb_file_data.specs.Findings.{setting_associations};
+ghost use Rattle.std.specs.List.{flat_map};
+ghost use Rattle.usb_file_data.specs.Places.{at_each_counted};
+ghost use Rattle.usb_file_data.specs.Findings.{association_count, endpoint_associations, setting_associations};
 ghost use Rattle.usb_file_data.specs.inside.Addresses.{claimed, owned, kept as claims};
 ghost use Rattle.usb_file_data.specs.inside.Interfaces.{NoneBreaksV3OrV4, AreEntered, entered, kept as entries, compared_with};
-ghost use Rattle.usb_file_data.specs.inside.Walk.{in_configuration, in_endpoint, in_interface, in_set, in_setting};
+ghost use Rattle.usb_file_data.specs.inside.Walk.{endpoint_at, in_configuration, in_endpoint, in_interface, in_set, in_setting};
+ghost use Rattle.usb_file_data.specs.inside.Reports.{reported};
 
 use crate::addresses::Addresses;
 use crate::association::check_extras;
@@ -52,6 +55,7 @@ struct Earlier {
 }
 
 /// Of a set at its place, among the values of those before it in its part.
+#[tactic(auto, using(crate::proofs::Reporting::reported_again, crate::proofs::Reporting::reported_none, std::proofs::lemmas::Grind::common_steps))]
 pub(crate) fn check_set_at(
     found: &mut Report,
     known: &mut Known,
@@ -59,7 +63,7 @@ pub(crate) fn check_set_at(
     place: Place,
     c: &Configuration,
 ) -> Result<(), AllocError>
-    ensures reported { OnOk result (found.new ≡ found.old ++ in_set place (is_marked values.old) c.now) }
+    ensures reported { OnOk result (found.new ≡ reported found.old (in_set place (is_marked values.old) c.now)) }
     ensures marked { OnOk result (is_marked values.new ≡ marked (is_marked values.old) c.now.value) }
 {
     let may_break = enter_all(&mut known.whole, &c.settings)?;
@@ -98,6 +102,7 @@ fn enter_all(interfaces: &mut Interfaces, settings: &[Setting]) -> Result<bool, 
 }
 
 /// Of the first descriptor of a set.
+#[tactic(auto, using(crate::proofs::Reporting::reported_again))]
 fn check_configuration(
     found: &mut Report,
     whole: &Interfaces,
@@ -106,7 +111,7 @@ fn check_configuration(
     c: &Configuration,
 ) -> Result<(), AllocError>
     requires { AreEntered c.now.settings (entries whole.now) }
-    ensures reported { OnOk result (found.new ≡ found.old ++ in_configuration place (is_marked values.old) c.now) }
+    ensures reported { OnOk result (found.new ≡ reported found.old (in_configuration place (is_marked values.old) c.now)) }
     ensures marked { OnOk result (is_marked values.new ≡ marked (is_marked values.old) c.now.value) }
 {
     check_interface_count(found, whole, place, c)?;
@@ -116,6 +121,7 @@ fn check_configuration(
 }
 
 /// Of a setting, before which the set has so many associations. Answers how many it has before the next one.
+#[tactic(auto, using(crate::proofs::Reporting::reported_again, crate::proofs::Reporting::reported_none, std::proofs::lemmas::Grind::common_steps))]
 fn check_setting(
     found: &mut Report,
     whole: &Interfaces,
@@ -125,27 +131,46 @@ fn check_setting(
     number: usize,
     s: &Setting,
 ) -> Result<usize, AllocError>
-    ensures reported { OnOk result (found.new ≡ found.old ++ in_setting place (entries whole.now).numbers (entries whole.now).alternates (compared_with may_break (entries earlier.old.interfaces)).numbers (compared_with may_break (entries earlier.old.interfaces)).alternates (claims earlier.old.addresses).elsewhere number s.now) }
+    ensures reported { OnOk result (found.new ≡ reported found.old (in_setting place (entries whole.now).numbers (entries whole.now).alternates (compared_with may_break (entries earlier.old.interfaces)).numbers (compared_with may_break (entries earlier.old.interfaces)).alternates (claims earlier.old.addresses).elsewhere number s.now)) }
     ensures interfaces { OnOk result (may_break ≡ true → entries earlier.new.interfaces ≡ entered place.setting s.now (entries earlier.old.interfaces)) }
     ensures addresses { OnOk result ((claims earlier.new.addresses).elsewhere ≡ owned s.now.number s.now.endpoints (claims earlier.old.addresses).elsewhere) }
     ensures next { IfOk result (λ next. next ≡ number + setting_associations s.now) }
 {
     check_interface(found, whole, &mut earlier.interfaces, may_break, place, s)?;
-    let mut next = check_extras(found, whole, &place, number, &s.extras)?;
-    earlier.addresses.begin(s.number);
+    let next = check_extras(found, whole, &place, number, &s.extras)?;
+    if s.endpoints.is_empty() {
+        return Ok(next);
+    }
+    check_endpoints(found, whole, &mut earlier.addresses, &place, next, s)
+}
+
+/// Of the endpoints of a setting at its place, before which the set has so many associations. Answers how many it has
+/// before the next setting.
+#[tactic(auto, using(crate::proofs::Reporting::reported_again, crate::proofs::Reporting::reported_none, std::proofs::lemmas::Grind::common_steps))]
+fn check_endpoints(
+    found: &mut Report,
+    whole: &Interfaces,
+    addresses: &mut Addresses,
+    place: &Place,
+    number: usize,
+    s: &Setting,
+) -> Result<usize, AllocError>
+    ensures reported { OnOk result (found.new ≡ reported found.old (at_each_counted endpoint_associations (endpoint_at place.now (entries whole.now).numbers (claims addresses.old).elsewhere s.now) 0 number s.now.endpoints)) }
+    ensures addresses { OnOk result ((claims addresses.new).elsewhere ≡ owned s.now.number s.now.endpoints (claims addresses.old).elsewhere) }
+    ensures next { IfOk result (λ next. next ≡ number + association_count (flat_map (λ e. e.extras) s.now.endpoints)) }
+{
+    let setting = *place;
+    addresses.begin(s.number);
+    let mut next = number;
     for (endpoint, e) in s.endpoints.iter().enumerate() {
-        check_endpoint(
-            found,
-            &mut earlier.addresses,
-            place.at_endpoint(endpoint),
-            e,
-        )?;
-        next = check_extras(found, whole, &place, next, &e.extras)?;
+        check_endpoint(found, addresses, setting.at_endpoint(endpoint), e)?;
+        next = check_extras(found, whole, place, next, &e.extras)?;
     }
     Ok(next)
 }
 
 /// Of an interface descriptor, in a set of which a setting may break V3 or V4, or none does.
+#[tactic(auto, using(crate::proofs::Reporting::reported_again))]
 fn check_interface(
     found: &mut Report,
     whole: &Interfaces,
@@ -154,7 +179,7 @@ fn check_interface(
     place: Place,
     s: &Setting,
 ) -> Result<(), AllocError>
-    ensures reported { OnOk result (found.new ≡ found.old ++ in_interface place (entries whole.now).alternates (compared_with may_break (entries interfaces.old)).numbers (compared_with may_break (entries interfaces.old)).alternates s.now) }
+    ensures reported { OnOk result (found.new ≡ reported found.old (in_interface place (entries whole.now).alternates (compared_with may_break (entries interfaces.old)).numbers (compared_with may_break (entries interfaces.old)).alternates s.now)) }
     ensures interfaces { OnOk result (may_break ≡ true → entries interfaces.new ≡ entered place.setting s.now (entries interfaces.old)) }
 {
     if !may_break {
@@ -167,17 +192,20 @@ fn check_interface(
 }
 
 /// Of the descriptor of an endpoint.
+#[inline(always)]
+#[tactic(auto, using(crate::proofs::Reporting::reported_again))]
 fn check_endpoint(
     found: &mut Report,
     addresses: &mut Addresses,
     place: Place,
     e: &Endpoint,
 ) -> Result<(), AllocError>
-    ensures reported { OnOk result (found.new ≡ found.old ++ in_endpoint place (claims addresses.old).here (λ b. (claims addresses.old).elsewhere b (claims addresses.old).number) e.now) }
+    ensures reported { OnOk result (found.new ≡ reported found.old (in_endpoint place (claims addresses.old).here (λ b. (claims addresses.old).elsewhere b (claims addresses.old).number) e.now)) }
     ensures claimed { OnOk result (claims addresses.new ≡ claimed e.now.address (claims addresses.old)) }
 {
-    let claimed = addresses.claim(e.address);
-    check_address(found, place, e)?;
+    let address = e.address;
+    let claimed = addresses.claim(address);
+    check_address(found, place, address)?;
     check_repeated_address(found, claimed, place)?;
     check_shared_address(found, claimed, place)?;
     check_packet_size(found, place, e)

@@ -85,6 +85,7 @@ impl Model for Transfer {
 
 impl Transfer {
     ghost use Rattle.usb_host.specs.Heard.{heard_of};
+    ghost use Rattle.usb_host.specs.declared.transfer.TransferStage.TheVariants.{DataIn};
     ghost use Rattle.usb_fields.specs.Setup.{direction_of};
     ghost use Rattle.usb_fields.specs.declared.setup.Direction.TheVariants.{Out};
     ghost use Rattle.usb_host.specs.Transfer.{acknowledged, begun, due, due_of, packet_due, packet_length, sent_by, HasData, taken, taken_data, taken_status, moved, completed, failed, struck, delayed, with_packet, is_untried, left, most_transactions};
@@ -326,6 +327,7 @@ impl Transfer {
     /// this device's, whether it came before or not.
     #[inline(always)]
     fn take_data<'a>(&mut self, toggle: Toggle, bytes: &'a [u8]) -> Heard<'a>
+        requires { self.old.stage ≡ DataIn }
         ensures heard { heard_of result ≡ (taken_data self.old toggle bytes.now).heard }
         ensures after { self.new ≡ (taken_data self.old toggle bytes.now).transfer }
     {
@@ -335,7 +337,7 @@ impl Transfer {
         if toggle != self.awaited {
             return self.strike();
         }
-        if bytes.len() > usize::from(self.request.length - self.kept) {
+        if usize::from(self.kept) + bytes.len() > usize::from(self.request.length) {
             return self.fail(Why::TooLong);
         }
         self.keep(bytes.len() as u16);
@@ -384,16 +386,15 @@ impl Transfer {
     /// Progress by a data packet of so many bytes.
     #[inline(always)]
     fn keep(&mut self, count: u16)
-        requires { self.old.kept + count ≤ self.old.request.length }
+        requires stage { self.old.stage ≡ DataIn }
+        requires within { self.old.kept + count ≤ self.old.request.length }
         ensures { self.new ≡ with_packet self.old count }
     {
         let is_short = count < u16::from(self.packet);
         self.kept += count;
-        self.stage = if is_short || self.kept == self.request.length {
-            TransferStage::StatusOut
-        } else {
-            TransferStage::DataIn
-        };
+        if is_short || self.kept == self.request.length {
+            self.stage = TransferStage::StatusOut;
+        }
         self.awaited = self.awaited.flip();
         self.strikes = 0;
         self.nak_count = 0;

@@ -1,5 +1,5 @@
 //! A set that comes in pieces, or as a prefix of some bytes.
-ghost use Rattle.std.specs.Prelude.{◌≡◌, []};
+ghost use Rattle.std.specs.Prelude.{◌≡◌, [], true, false, Ok};
 ghost use Rattle.usb_set.specs.Decoding.{ReadsSet};
 
 use crate::fault::SetFault;
@@ -55,6 +55,7 @@ impl Model for Decoder {
 
 impl Decoder {
     ghost use Rattle.usb_set.specs.Decoding.{gathers, Answers, Finishes, IsNothingNew};
+    ghost use Rattle.usb_set.specs.declared.decoder.Progress.TheVariants.{More};
 
     /// A decoder that has taken no byte.
     pub fn new(alloc: Global) -> Decoder
@@ -76,6 +77,34 @@ impl Decoder {
     /// at the place of a whole descriptor whose last byte is in this piece.
     #[inline(always)]
     pub fn feed(&mut self, piece: &[u8]) -> Result<Progress, SetFault>
+        ensures answer { Answers self.old piece.now result self.new }
+        ensures empty { IsNothingNew self.old piece.now result self.new }
+    {
+        if self.keeps(piece) {
+            return Ok(Progress::More);
+        }
+        self.feed_on(piece)
+    }
+
+    /// Keeps a piece that neither ends the descriptor in work nor can show a fault. So a short piece costs little.
+    #[inline(always)]
+    fn keeps(&mut self, piece: &[u8]) -> bool
+        ensures kept { result ≡ true → Answers self.old piece.now (Ok More) self.new }
+        ensures same { result ≡ false → self.new ≡ self.old }
+    {
+        if let Some(_fault) = self.fault {
+            return false;
+        }
+        if self.reader.is_done() {
+            return false;
+        }
+        known_bytes(piece);
+        self.reader.keeps(piece)
+    }
+
+    /// Parses a piece of any kind.
+    #[inline(always)]
+    fn feed_on(&mut self, piece: &[u8]) -> Result<Progress, SetFault>
         ensures answer { Answers self.old piece.now result self.new }
         ensures empty { IsNothingNew self.old piece.now result self.new }
     {

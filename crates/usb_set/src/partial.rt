@@ -47,7 +47,7 @@ impl Partial {
     pub(crate) fn is_done(&self) -> bool
         ensures { result ≡ is_done self.now }
     {
-        self.tree.is_some() && self.place == self.total
+        self.place == self.total && self.tree.is_some()
     }
 
     /// Where the descriptor in work starts.

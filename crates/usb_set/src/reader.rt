@@ -44,6 +44,7 @@ impl Model for Reader {
 }
 
 /// Adds bytes of the descriptor in work.
+#[inline(always)]
 fn keep(current: &mut ArrayVec<u8, 255>, bytes: &[u8])
     requires { array_vec_len current.old + length bytes.now ≤ 255 }
     ensures { current.new.items ≡ current.old.items ++ bytes.now }
@@ -75,22 +76,10 @@ impl Reader {
         self.partial.is_done()
     }
 
-    /// Reads on, to the set's end or to that of the piece.
-    #[inline(always)]
-    pub(crate) fn read(&mut self, piece: &[u8]) -> Result<Progress, SetFault>
-        requires { InWork self.old }
-        ensures { Reads self.old piece.now result self.new }
-    {
-        if self.keeps(piece) {
-            return Ok(Progress::More);
-        }
-        self.read_on(piece)
-    }
-
     /// Keeps a piece that ends before the descriptor in work does, where it can show no fault: four
     /// bytes of that descriptor were there. So a single byte costs little.
     #[inline(always)]
-    fn keeps(&mut self, piece: &[u8]) -> bool
+    pub(crate) fn keeps(&mut self, piece: &[u8]) -> bool
         requires { InWork self.old }
         ensures { Keeps self.old piece.now result self.new }
     {
@@ -102,8 +91,9 @@ impl Reader {
         true
     }
 
+    /// Reads on, to the set's end or to that of the piece.
     #[inline(always)]
-    fn read_on(&mut self, piece: &[u8]) -> Result<Progress, SetFault>
+    pub(crate) fn read(&mut self, piece: &[u8]) -> Result<Progress, SetFault>
         requires { InWork self.old }
         ensures { Reads self.old piece.now result self.new }
     {

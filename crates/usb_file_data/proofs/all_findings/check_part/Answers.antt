@@ -1,8 +1,10 @@
-use Rattle.std.proofs.Common.{◌<◌, ◌++◌, ◌∙◌, length, ap, sym, arith}
+use Rattle.std.proofs.Common.{◌<◌, ◌∙◌, length, ap, sym, arith}
 use Rattle.usb_fields.specs.Marks.{is_marked, marked}
 use Rattle.usb_file_data.specs.Rules.{value_of}
+use Rattle.usb_file_data.specs.inside.Reports.{reported}
 use Rattle.usb_file_data.specs.inside.Walk.{in_set, place, set_at}
-use Rattle.usb_file_data.proofs.Walking.{at_each_next, stands_more}
+use Rattle.usb_file_data.proofs.Reporting.{each_last, each_next}
+use Rattle.usb_file_data.proofs.Walking.{stands_more}
 use Rattle.usb_file_data.proofs.all_findings.check_part.Goals as goal
 
 pub loop-set-preserved : goal.loop-set-preserved
@@ -14,9 +16,12 @@ loop-set-preserved c =
     let inv = c.loop-set.invariant in
     let below : i < length sets = omega (arith, c.loop-set-test.true) in
     let reported = c.in_ok-check_set_at.ensures.reported
-    ∙ ap (λ q. old ++ in_set q (is_marked c.loop-set.values) v) c.of.ensures
-    ∙ ap (λ f. old ++ in_set (place c.args.part i 0 0) f v) inv.values in
+    ∙ ap (λ q. reported old (in_set q (is_marked c.loop-set.values) v)) c.of.ensures
+    ∙ ap (λ f. reported old (in_set (place c.args.part i 0 0) f v)) inv.values in
     record {
-      found = at_each_next (set_at c.args.part sets) sets i v old _ _ below c.index-sets-set.is inv.found reported;
+      found = each_next (set_at c.args.part sets) sets i v old _ _ below c.index-sets-set.is inv.found reported;
       values = c.in_ok-check_set_at.ensures.marked ∙ ap (λ f. marked f v.value) inv.values ∙ sym (stands_more value_of sets i v below c.index-sets-set.is);
     }
+
+pub returns : goal.returns
+returns c = each_last (set_at c.args.part c.args.sets.now) c.args.sets.now c.loop-set.set _ _ (omega (arith, c.loop-set-test.false)) c.loop-set.invariant.found

@@ -1,9 +1,10 @@
-use Rattle.std.proofs.Common.{◌≡◌, ◌+◌, ◌++◌, ◌∙◌, nat_lt, not, length, ap, sym, subst, OnOk, arith}
+use Rattle.std.proofs.Common.{◌≡◌, ◌+◌, ◌∙◌, nat_lt, not, length, ap, sym, subst, OnOk, arith}
 use Rattle.std.specs.List.{list_any, range_with_len}
 use Rattle.usb_file_data.specs.declared.cause.Cause.TheVariants as causes
 use Rattle.usb_file_data.specs.Places.{when}
 use Rattle.usb_file_data.specs.Rules.{interface_numbers}
 use Rattle.usb_file_data.specs.inside.Interfaces.{kept}
+use Rattle.usb_file_data.specs.inside.Reports.{reported}
 use Rattle.usb_file_data.specs.inside.Walk.{broken}
 use Rattle.usb_file_data.proofs.Walking.{count_is, some_absent}
 use Rattle.usb_file_data.proofs.interface.check_number_gap.Goals as goal
@@ -17,4 +18,4 @@ returns c =
     let from : n ≡ 0 + n = omega arith in
     let wrong = ap (nat_lt next) (is ∙ from) ∙ sym (some_absent e.numbers 0 next n c.next_absent.ensures)
     ∙ ap (λ f. list_any (λ m. not (f m)) (range_with_len 0 n)) c.requires.numbers in
-    subst (λ b. OnOk c.report.result (c.report.new.self ≡ c.args.found.now ++ when b (broken causes.NumberGap c.args.place))) wrong c.report.ensures
+    subst (λ b. OnOk c.report.result (c.report.new.self ≡ reported c.args.found.now (when b (broken causes.NumberGap c.args.place)))) wrong c.report.ensures

@@ -1,6 +1,6 @@
-use Rattle.std.proofs.Common.{◌≡◌, ◌++◌, drop, map}
+use Rattle.std.proofs.Common.{◌≡◌, ◌++◌, drop}
 use Rattle.usb_file_data.specs.Findings.{of_rule}
 use Rattle.usb_file_data.proofs.order.copy_of.Given as goal
 
 abbrev pub invariant-loop-one : goal.invariant-loop-one
-invariant-loop-one l = l.out.items ++ of_rule l.rule (map (λ f. f.finding) (drop l.one-index l.found)) ≡ l.fn.out.items ++ of_rule l.rule (map (λ f. f.finding) l.found)
+invariant-loop-one l = l.out.items ++ of_rule l.rule (drop l.one-index l.found) ≡ l.fn.out.items ++ of_rule l.rule l.found

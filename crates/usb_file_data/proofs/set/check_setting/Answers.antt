@@ -1,17 +1,39 @@
-use Rattle.std.proofs.Common.{◌≡◌, ◌<◌, ◌+◌, ◌++◌, ◌∙◌, length, map, get_or, take, ap, sym, arith, append_assoc}
-use Rattle.usb_fields.specs.Marks.{marked}
-use Rattle.usb_fields.proofs.Cells.{funext}
-use Rattle.usb_file_data.specs.Places.{at_each_counted, is_among}
-use Rattle.usb_file_data.specs.Rules.{address_of}
+use Rattle.std.proofs.Common.{◌≡◌, ◌+◌, ◌++◌, ◌∙◌, [], length, ap, sym, subst, OnOk}
+use Rattle.std.proofs.lemmas.Bool.{eqb-true}
+use Rattle.std.proofs.lemmas.List.{nil_from_length}
+use Rattle.usb_file_data.specs.Places.{at_each_counted}
 use Rattle.usb_file_data.specs.Findings.{association_count, endpoint_associations}
-use Rattle.usb_file_data.specs.inside.Addresses.{owned, owned_at, kept as claims}
+use Rattle.usb_file_data.specs.inside.Addresses.{owned, kept as claims}
 use Rattle.usb_file_data.specs.inside.Interfaces.{kept as entries, compared_with}
-use Rattle.usb_file_data.specs.inside.Walk.{endpoint_at, in_endpoint, in_extras, in_interface, place}
-use Rattle.usb_file_data.proofs.Walking.{counted_next, count_after, ends_next, joined_twice, owned_more, owned_none, owned_same, stands_more}
+use Rattle.usb_file_data.specs.inside.Reports.{reported}
+use Rattle.usb_file_data.specs.inside.Walk.{endpoint_at, in_extras, in_interface}
+use Rattle.usb_file_data.proofs.Reporting.{joined_twice, reported_none}
+use Rattle.usb_file_data.proofs.Walking.{owned_none}
 use Rattle.usb_file_data.proofs.set.check_setting.Goals as goal
 
-pub loop-endpoint-init : goal.loop-endpoint-init
-loop-endpoint-init c =
+pub returns-then-is_empty-clause-reported : goal.returns-then-is_empty-clause-reported
+returns-then-is_empty-clause-reported c =
+    let s = c.args.s.now in
+    let old = c.args.found.now in
+    let stands = (entries c.args.whole.now).numbers in
+    let before = compared_with c.args.may_break (entries c.args.earlier.now.interfaces) in
+    let other = (claims c.args.earlier.now.addresses).elsewhere in
+    let at = in_interface c.args.place (entries c.args.whole.now).alternates before.numbers before.alternates s in
+    let extras = in_extras c.args.place stands c.args.number s.extras in
+    let none : s.endpoints ≡ [] = nil_from_length s.endpoints (eqb-true (length s.endpoints) 0 (sym c.is_empty.ensures ∙ c.if-is_empty.true)) in
+    sym (reported_none c.check_extras.new.found)
+    ∙ joined_twice old c.check_interface.new.found c.check_extras.new.found at extras [] c.in_ok-check_interface.ensures.reported c.in_ok-next.ensures.reported
+    ∙ ap (λ xs. reported old (at ++ extras ++ at_each_counted endpoint_associations (endpoint_at c.args.place stands other s) 0 (c.args.number + association_count s.extras) xs)) (sym none)
+
+pub returns-then-is_empty-clause-addresses : goal.returns-then-is_empty-clause-addresses
+returns-then-is_empty-clause-addresses c =
+    let s = c.args.s.now in
+    let other = (claims c.args.earlier.now.addresses).elsewhere in
+    let none : s.endpoints ≡ [] = nil_from_length s.endpoints (eqb-true (length s.endpoints) 0 (sym c.is_empty.ensures ∙ c.if-is_empty.true)) in
+    sym (owned_none s.number other) ∙ ap (λ xs. owned s.number xs other) (sym none)
+
+pub returns-clause-reported : goal.returns-clause-reported
+returns-clause-reported c =
     let s = c.args.s.now in
     let old = c.args.found.now in
     let stands = (entries c.args.whole.now).numbers in
@@ -20,49 +42,6 @@ loop-endpoint-init c =
     let at = in_interface c.args.place (entries c.args.whole.now).alternates before.numbers before.alternates s in
     let extras = in_extras c.args.place stands c.args.number s.extras in
     let next : c.in_ok-next.next ≡ c.args.number + association_count s.extras = c.in_ok-next.ensures.next in
-    record {
-      found = joined_twice old c.check_interface.new.found c.check_extras.new.found at extras _ c.in_ok-check_interface.ensures.reported c.in_ok-next.ensures.reported
-          ∙ ap (λ n. old ++ (at ++ extras ++ at_each_counted endpoint_associations (endpoint_at c.args.place stands other s) 0 n s.endpoints)) next;
-      interfaces = c.in_ok-check_interface.ensures.interfaces;
-      number = ap (λ t. t.number) c.begin.ensures;
-      here = ap (λ t. t.here) c.begin.ensures;
-      elsewhere = ap (λ t. t.elsewhere) c.begin.ensures ∙ sym (owned_none s.number other);
-      next = count_after s c.args.number c.in_ok-next.next next;
-    }
-
-pub loop-endpoint-preserved : goal.loop-endpoint-preserved
-loop-endpoint-preserved c =
-    let s = c.args.s.now in
-    let k = c.loop-endpoint.endpoint in
-    let n = c.loop-endpoint.next in
-    let e = c.e-item.result in
-    let old = c.loop-endpoint.found in
-    let stands = (entries c.args.whole.now).numbers in
-    let other = (claims c.args.earlier.now.addresses).elsewhere in
-    let now = claims c.loop-endpoint.earlier.addresses in
-    let inv = c.loop-endpoint.invariant in
-    let p = place c.args.place.part c.args.place.set c.args.place.setting k in
-    let here = is_among (map address_of (take k s.endpoints)) in
-    let same = c.deref-e-items.ensures in
-    let long = ap length same in
-    let below : k < length s.endpoints = omega (arith, long, c.loop-endpoint-test.true) in
-    let is : e ≡ get_or s.endpoints k e = c.e-item.is ∙ ap (λ xs. get_or xs k e) same in
-    let elsewhere = funext (λ b. now.elsewhere b now.number) (λ b. other b s.number) (λ b.
-    ap (λ f. f b now.number) inv.elsewhere ∙ ap (owned s.number (take k s.endpoints) other b) inv.number ∙ owned_same s.number other (take k s.endpoints) b) in
-    let at = c.in_ok-check_endpoint.ensures.reported
-    ∙ ap (λ q. old ++ in_endpoint q now.here (λ b. now.elsewhere b now.number) e) c.at_endpoint.ensures
-    ∙ ap (λ f. old ++ in_endpoint p f (λ b. now.elsewhere b now.number) e) inv.here
-    ∙ ap (λ f. old ++ in_endpoint p here f e) elsewhere in
-    let reported = c.in_ok-next-2.ensures.reported
-    ∙ ap (λ xs. xs ++ in_extras c.args.place stands n e.extras) at
-    ∙ append_assoc old (in_endpoint p here (λ b. other b s.number) e) (in_extras c.args.place stands n e.extras) in
-    let next : c.in_ok-next-2.next ≡ n + endpoint_associations e = c.in_ok-next-2.ensures.next in
-    record {
-      found = counted_next endpoint_associations (endpoint_at c.args.place stands other s) s.endpoints k n _ e old _ _ below is inv.found reported next;
-      interfaces = inv.interfaces;
-      number = ap (λ t. t.number) c.in_ok-check_endpoint.ensures.claimed ∙ inv.number;
-      here = ap (λ t. t.here) c.in_ok-check_endpoint.ensures.claimed ∙ ap (λ f. marked f e.address) inv.here ∙ sym (stands_more address_of s.endpoints k e below is);
-      elsewhere = ap (λ t. t.elsewhere) c.in_ok-check_endpoint.ensures.claimed ∙ ap (λ m. owned_at m now.elsewhere e.address) inv.number
-          ∙ ap (λ f. owned_at s.number f e.address) inv.elsewhere ∙ sym (owned_more s.number other s.endpoints k e below is);
-      next = ends_next s.endpoints k n c.in_ok-next-2.next _ e below is inv.next next;
-    }
+    let is = joined_twice old c.check_interface.new.found c.check_extras.new.found at extras _ c.in_ok-check_interface.ensures.reported c.in_ok-next.ensures.reported
+    ∙ ap (λ n. reported old (at ++ extras ++ at_each_counted endpoint_associations (endpoint_at c.args.place stands other s) 0 n s.endpoints)) next in
+    subst (λ r. OnOk c.check_endpoints.result (c.check_endpoints.new.found ≡ r)) is c.check_endpoints.ensures.reported

@@ -7,7 +7,7 @@ use Rattle.usb_set.specs.inside.Reading.{Reading, faulty, reads}
 use Rattle.usb_set.specs.inside.Stepping.{WantsHere, Steps, Reads}
 use Rattle.usb_set.proofs.ByteByByte.{reads-append}
 use Rattle.usb_set.proofs.Stepping.{not_done}
-use Rattle.usb_set.proofs.reader.Reader.read_on.Goals as goal
+use Rattle.usb_set.proofs.reader.Reader.read.Goals as goal
 
 -- over the rest of the piece
 over_rest : (old now new : Reading) (used : ℕ) (piece : List ℕ) → reads old (take used piece) ≡ now → reads now (drop used piece) ≡ new → reads old piece ≡ new
