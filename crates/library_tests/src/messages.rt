@@ -4,7 +4,7 @@ use std::alloc::Global;
 use std::fmt::Display;
 use usb_device::DescriptionFault;
 use usb_fields::{FieldFault, UnitFault};
-use usb_file::{FileFault, FileWhy, ListFault, ListWhy, OutFault, WriteFault};
+use usb_file::{FileFault, FileWhy, Finding, ListFault, ListWhy, OutFault, Part, WriteFault};
 use usb_host::{LimitFault, Why};
 use usb_set::{EncodeFault, SetFault, SetWhy};
 use usb_tool::FatesFault;
@@ -82,14 +82,30 @@ fn faults_of_files_and_listings(rt: HostRuntime) -> Result<()> {
 }
 
 #[test]
-fn faults_of_both_ends(rt: HostRuntime) -> Result<()> {
-    let alloc = rt.alloc();
+fn faults_of_descriptions(rt: HostRuntime) -> Result<()> {
+    let finding = Finding {
+        rule: 12,
+        part: Part::Main,
+        set: 0,
+        setting: 0,
+        endpoint: 1,
+    };
+    let texts = "the strings are not those that the file names, or a language stands twice";
+    let speed = "no device of this speed has such descriptors";
     let unwritable = "a set has no bytes, or the sets are not as declared";
-    let describing = [
+    let told = [
+        (DescriptionFault::Finding(finding), "V12 main 0 0 1"),
+        (DescriptionFault::Texts, texts),
+        (DescriptionFault::Speed, speed),
         (DescriptionFault::Memory, NO_MEMORY),
         (DescriptionFault::Unwritable, unwritable),
     ];
-    say(alloc, &describing)?;
+    say(rt.alloc(), &told)
+}
+
+#[test]
+fn faults_of_both_ends(rt: HostRuntime) -> Result<()> {
+    let alloc = rt.alloc();
     let limits = [
         (LimitFault::Address, "the address is not 1 to 127"),
         (LimitFault::Attempts, "the attempts are not 1 to 8"),
