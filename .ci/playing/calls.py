@@ -12,7 +12,7 @@ from enumerating import named, word  # noqa: E402
 # These are asked of the libraries, by the program crates/examples.
 OF_LIBRARIES = set(
     "setup device qualifier endpoint units write_units set feed encode file write assemble named failing_reads"
-    " failing_writes failing_write failing_flush line speed running_speed fates manner settings message".split()
+    " failing_writes failing_write failing_flush".split()
 )
 
 
@@ -20,6 +20,18 @@ def usbdesc(row):
     words = row.words()
     place = words.index("<") if "<" in words else len(words)
     yield Run(words[:place], change(row.text("|"), words[place + 1 :]), int(row.wanted()), row.text(">"), row.text("!"))
+
+
+def terminal(row):
+    yield from (run._replace(terminal=True) for run in usbdesc(row))
+
+
+def line(row):
+    """What words that are no command line end with, or that ask for help."""
+    if row.wanted() == "help":
+        yield Run(row.words(), b"", 0, None)
+    else:
+        yield Run(row.words(), b"", 2, begins=b"error: ")
 
 
 def options_of(words):
@@ -110,6 +122,8 @@ def compare(row, told):
 
 CALLS = {
     "usbdesc": usbdesc,
+    "terminal": terminal,
+    "line": line,
     "build": build,
     "cuts": cuts,
     "fronts": fronts_of_row,

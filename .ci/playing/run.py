@@ -2,6 +2,7 @@
 
 import difflib
 import os
+import pty
 import subprocess
 import tempfile
 from typing import NamedTuple, Optional
@@ -19,9 +20,13 @@ class Run(NamedTuple):
     # None of these two where anything may come.
     status: Optional[int]
     output: Optional[bytes] = b""
+    # Of what `clap` says only that it begins so is wanted.
     errors: bytes = b""
+    begins: Optional[bytes] = None
     # Where zeros follow the data without end: how many bytes must be read.
     read: Optional[int] = None
+    # Whether standard error is a terminal.
+    terminal: bool = False
 
 
 def ends_with(words, data, told):
@@ -46,10 +51,26 @@ def differs(title, wanted, came):
     return [f"{title}:", *(f"  {line}" for line in lines)]
 
 
-def start(program, run, **given):
+def start(program, run, errors=subprocess.PIPE, **given):
     """Runs the program. Help and usage name it by its first word, whatever the file of the build is called."""
     words = ["usbdesc", *run.words]
-    return subprocess.run(words, executable=program, capture_output=True, timeout=SECONDS, check=False, **given)
+    return subprocess.run(words, executable=program, stdout=subprocess.PIPE, stderr=errors, timeout=SECONDS, check=False, **given)
+
+
+def at_terminal(program, run):
+    """What comes of the run where standard error is a terminal, which writes a carriage return before each line feed."""
+    ours, its = pty.openpty()
+    ended = start(program, run, its, input=run.data)
+    os.close(its)
+    shown_there = b""
+    try:
+        while piece := os.read(ours, 4096):
+            shown_there += piece
+    except OSError:
+        pass  # the other end is closed
+    os.close(ours)
+    ended.stderr = shown_there.replace(b"\r\n", b"\n")
+    return ended
 
 
 def read_by(program, run):
@@ -65,7 +86,9 @@ def read_by(program, run):
 def play(program, run, mark=""):
     """How the run with this program differs, in lines. The mark may be anywhere in what it writes."""
     try:
-        if run.read is None:
+        if run.terminal:
+            ended, read = at_terminal(program, run), None
+        elif run.read is None:
             ended, read = start(program, run, input=run.data), None
         else:
             ended, read = read_by(program, run)
@@ -74,4 +97,7 @@ def play(program, run, mark=""):
     told = [] if run.status in (None, ended.returncode) else [f"status {ended.returncode}, not {run.status}"]
     if read != run.read:
         told.append(f"{read} bytes read, not {run.read}")
-    return told + differs("standard output", run.output, ended.stdout.replace(mark.encode(), b"")) + differs("standard error", run.errors, ended.stderr)
+    errors = run.errors
+    if run.begins is not None:
+        errors = ended.stderr if ended.stderr.startswith(run.begins) else run.begins
+    return told + differs("standard output", run.output, ended.stdout.replace(mark.encode(), b"")) + differs("standard error", errors, ended.stderr)

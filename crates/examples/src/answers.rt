@@ -1,6 +1,6 @@
 //! What comes of each call that a row can name.
 use crate::row::Row;
-use crate::{command_line, failing, fields, files, listings, messages, sets, tree};
+use crate::{failing, fields, files, listings, sets, tree};
 use anyhow::{Result, bail};
 use std::alloc::Global;
 
@@ -26,14 +26,9 @@ pub(crate) fn answer(alloc: Global, row: &Row) -> Result<Option<String>> {
         "failing_writes" => failing::failing_writes(alloc, row)?,
         "failing_write" => failing::failing_write(alloc, row)?,
         "failing_flush" => failing::failing_flush(alloc, row)?,
-        "line" => command_line::line(alloc, words)?,
-        "speed" => command_line::speed(alloc, words)?,
-        "running_speed" => command_line::running_speed(alloc, words)?,
-        "fates" => command_line::fates(alloc, words)?,
-        "settings" => command_line::settings(alloc, words)?,
-        "manner" => command_line::manner(alloc, words)?,
-        "message" => messages::message(alloc, words)?,
-        "usbdesc" | "build" | "cuts" | "fronts" | "check" | "endless" => return Ok(None),
+        "usbdesc" | "terminal" | "line" | "build" | "cuts" | "fronts" | "check" | "endless" => {
+            return Ok(None);
+        }
         call => bail!("no call is named {call}"),
     }))
 }

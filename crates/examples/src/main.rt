@@ -4,12 +4,10 @@
 #![tactic(auto)]
 
 mod answers;
-mod command_line;
 mod failing;
 mod fields;
 mod files;
 mod listings;
-mod messages;
 mod row;
 mod sets;
 mod streams;

@@ -18,6 +18,8 @@ mod losses;
 #[cfg(test)]
 mod lossy_bus;
 #[cfg(test)]
+mod messages;
+#[cfg(test)]
 mod names;
 #[cfg(test)]
 mod observing;
