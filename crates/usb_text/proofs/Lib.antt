@@ -9,3 +9,4 @@ pub mod ShownLines
 pub mod Items
 pub mod Apart
 pub mod OneReading
+pub mod InOrder
