@@ -12,7 +12,9 @@ def counted(part):
 
 
 def expand(names, word):
-    """The word written out: its parts, which are joined by '+', each as often as it says."""
+    """The word written out: its parts, which are joined by '+', each as often as it says. A place, as '@0+9', is itself."""
+    if word.startswith("@"):
+        return word
     parts = [counted(part) for part in word.split("+")]
     return "".join(names.get(atom, atom) * count for count, atom in parts)
 

@@ -20,11 +20,20 @@ BEFORE = rb"[\t >\xef\xbb\xbf]*"
 ZEROS = re.compile(rb"0{4,}(?=:[\t ]|[\t ])")
 OFFSET = re.compile(rb"(?:0x)?(" + DIGIT + rb"{4,})(?: <[^\n>]*>?)?(:?)[\t ]*")
 ADDRESS = re.compile(rb"(?:0x)?(" + DIGIT + rb"{4,})(?: <[^\n>]*>?)?:[\t ]")
-NUMBERED = re.compile(DIGIT + rb"*(?:[\t\n\r ,]|\Z)")
+NUMBERED = re.compile(rb"(?:0x)?" + DIGIT + rb"*(?:[\t\n\r ,]|\Z)")
+AFTER = rb"(?:[\t\n\r ,]|\Z)"
+# What two readings would take differently: words after a blank; bits, the numbers of columns, or an offset before two bytes.
 WORDS = re.compile(
-    rb"[\t ]" + BEFORE + rb"(?:" + DIGIT + rb"{4}){1,2}(?!" + DIGIT + rb")[\t ]"
-    rb"|" + BEFORE + rb"(?:0b)?[01]{8}[\t ]"
+    rb"[\t ]" + BEFORE + rb"(?:" + DIGIT + rb"{4}|" + DIGIT + rb"{8}|" + DIGIT + rb"{16})" + AFTER
+    + rb"|" + BEFORE + rb"(?:(?:0b)?[01]{8}" + AFTER + rb"|00 01 02|" + DIGIT + rb"{4,}[\t ]+" + DIGIT + rb"{2}[\t ]" + DIGIT + rb"{2})"
 )
+# A line with an offset, or two zeros, and bytes; and the next line, to see whether it has counted them.
+COUNTED = re.compile(
+    BEFORE + rb"(" + DIGIT + rb"{4,}|00" + DIGIT + rb"?)([\t ][^\n]*)\n" + BEFORE + rb"(" + DIGIT + rb"+)"
+)
+LITERAL = re.compile(BEFORE + rb"(?![0-9])(?:[^\\,{\"']*[^\\,{\"'\w])?b(?=[\"']\\)")
+ESCAPES = {b"0": 0, b"n": 10, b"r": 13, b"t": 9, b"\\": 92, b"'": 39, b'"': 34}
+NAMED = rb"Data \(Hex[^\n:]*:?[\t ]*"
 ASSEMBLER = re.compile(BEFORE + rb"[A-Fa-f]+[\t ]*0x")
 # What is before the bytes of a line: a name and a colon; a directive; a declaration or a call before a string.
 PAIR = DIGIT + rb"{2}"
@@ -33,7 +42,6 @@ LABEL = re.compile(
     rb"|[\t ]*\.?(?:[dD][bB]|[dD][cC]\.?[bB]|[fF][cC][bB]|[bB][yY][tT][eE])[\t ][A-Za-z_.\t ]*"
     rb"(?=\$|[0-9]" + DIGIT + rb"*[xXhH])"
     rb"|(?![\t ]*[0-9])(?:[^\n\\,{\"']*=[\t ]*\n?[\t ]*|(?=[^\n\\,{\"']*[G-Zg-z_])[^\n\\,{\"']*[^\n\\,{\"'\[\t ][\t ]*)(?=[\"']\\x)"
-    rb"|[\t ]*b(?=[\"']\\x)"
     rb"|(?![\t ]*[0-9])[^\n\\,{\"']*\([\t ]*(?=[\"']" + PAIR + rb"))",
     re.M,
 )
@@ -42,6 +50,7 @@ COLUMNS = {
     "colons": (4, re.compile(rb"  ")),
     "spaces": (2, re.compile(rb"\||   |  (?!" + ITEM.pattern + rb"|\Z)")),
     "groups": (None, re.compile(rb"  ")),
+    "rows": (2, re.compile(rb"  ")),
     "addresses": (2, re.compile(rb"  ")),
 }
 COMMENT = re.compile(rb"/\*.*?(?:\*/|\Z)|//[^\n]*|# [^\n]*|^[\t >]*```[^\n]*", re.M | re.S)
@@ -50,7 +59,10 @@ CLOSING = rb"\)[\t\n\r ,;)]*\Z"
 # Of each style what is between bytes, and how a byte is written.
 STYLES = {
     "escaped": (rb"[\"']|\\(?=[\n\r])|" + GAP + rb"(?!\\x)|" + CLOSING, rb"\\x(" + DIGIT + rb"{2})(?=[\\\"'])"),
-    "prefixed": (GAP + rb'|"', rb"(?:0[xX]|\$)(" + DIGIT + rb"{1,2})(?:[uU]8?)?(?!\w)|([0-9])(?!\w)"),
+    "prefixed": (
+        GAP + rb'|"',
+        rb"(?:0[xX]|\$)(" + DIGIT + rb"{1,2})(?:[uU]8?)?(?!\w)|([0-9])(?!\w)(?![\t ]+(?:0[xX]|\$))",
+    ),
     "suffixed": (GAP + rb"|0(?=" + DIGIT + rb"?.[hH](?!\w))(?!.[hH](?!\w))", rb"(" + DIGIT + rb"{2})[hH](?!\w)"),
     "pairs": (GAP + rb"|[\"']|" + CLOSING, rb"(" + DIGIT + rb"{2})"),
     "separated": (GAP, rb"(" + DIGIT + rb"{2})(?:[:-](?=" + DIGIT + rb")|(?=[\n\r])|\Z)"),
@@ -89,13 +101,28 @@ def form_at(text, at):
         return "addresses", int(ADDRESS.match(text, at)[1], 16)
     line, _, rest = text[zeros.end() :].partition(b"\n")
     if line.startswith(b":"):
-        return "colons", 0
+        return ("colons" if is_in_order(text[at:]) else "words"), 0
     if line.startswith(b"  "):
         return "spaces", 0
+    if zeros.end() - at == 16 and line[1:2] not in (b" ", b"\t"):
+        return "rows", 0
     characters = re.search(rb"  ([^\x00-\x20])", line)
     if characters and characters[1] != b">":
         return "groups", 0
     return ("addresses" if re.match(BEFORE + rb"0{4}", rest) else "words"), 0
+
+
+def is_in_order(text):
+    """Whether the first visible character in sixteen lines is that of its byte."""
+    for line in text.split(b"\n")[:16]:
+        line = re.sub(rb"\A" + BEFORE, b"", line)
+        offset = OFFSET.match(line)
+        shown, _, characters = line[offset.end() if offset else 0 :].partition(b"  ")
+        characters = b"" if characters.startswith(b" ") else characters
+        for pair, c in zip(re.findall(DIGIT + rb"{2}", shown), characters):
+            if 32 < c < 127 and c != 46:
+                return c == int(pair, 16)
+    return True
 
 
 def is_at(offset, place):
@@ -116,7 +143,11 @@ def in_columns(text, at):
         end = text.find(b"\n", at)
         end = len(text) if end < 0 else end
         mark = characters.search(text[at:end])
-        items(text, at, at + mark.start() if mark else end, most, found)
+        stop_at = at + mark.start() if mark else end
+        if form == "rows":
+            sixteen = re.compile(rb"(?:" + DIGIT + rb"{2}[\t ,]*?){16}(?=[\t ])").match(text, at, stop_at)
+            stop_at = sixteen.end() if sixteen else stop_at
+        items(text, at, stop_at, most, found)
         if end == len(text):
             break
         start = re.compile(BEFORE).match(text, end + 1).end()
@@ -146,11 +177,24 @@ def items(text, at, end, most, found):
         at = item.end()
 
 
+def has_two_readings(text):
+    """Whether two readings would take a text differently."""
+    line = COUNTED.match(text)
+    count = len(re.findall(DIGIT, line[2])) // 2 if line else 0
+    return bool(WORDS.match(text)) or (count > 0 and any(value(line[3], radix) == value(line[1], radix) + count for radix in (16, 10)))
+
+
+def value(digits, radix):
+    """The number that digits begin with."""
+    leading = digits if radix == 16 else re.match(rb"[0-9]*", digits)[0]
+    return int(leading or b"0", radix)
+
+
 def as_it_is(text):
     """The bytes of a text that is hexadecimal as it is."""
     if ZEROS.match(text):
         return in_columns(text, 0)
-    if columns_of(text) is not None or WORDS.match(text) or ASSEMBLER.match(text):
+    if columns_of(text) is not None or has_two_readings(text) or ASSEMBLER.match(text):
         raise Fault(*place(text, 0))
     found = bytearray()
     for number, line in enumerate(text.split(b"\n"), 1):
@@ -212,18 +256,62 @@ def uncommented(comment):
     return spaces(comment[0])
 
 
+def in_literals(text, at):
+    """The bytes of the literals of a text, the first of which begins with the quote there."""
+    quote, found, at = text[at : at + 1], bytearray(), at + 1
+    while at < len(text):
+        c, escape = text[at : at + 1], re.compile(rb"\\(?:x(" + DIGIT + rb"{2})|(0)(?![0-9])|([nrt\\'\"]))").match(text, at)
+        if c == quote:
+            later = re.compile(rb"[\t\n\r ]*b" + quote).match(text, at + 1)
+            if not (later or re.compile(rb"[\t\n\r ,;)]*\Z").match(text, at + 1)):
+                raise Fault(*place(text, at))
+            at = later.end() if later else len(text)
+        elif escape:
+            found.append(int(escape[1], 16) if escape[1] else ESCAPES[escape[2] or escape[3]])
+            at = escape.end()
+        elif c == b"\\" or not 32 <= c[0] <= 126:
+            raise Fault(*place(text, at))
+        else:
+            found += c
+            at += 1
+    if not found:
+        raise Fault(*place(text, at))
+    return bytes(found)
+
+
+def in_names(text):
+    """The bytes of a text whose lines have names before their bytes and characters after them."""
+    found, at = bytearray(), 0
+    start = re.compile(BEFORE + rb"(?:" + NAMED + rb")?")
+    while at < len(text):
+        at = start.match(text, at).end()
+        end = text.find(b"\n", at)
+        end = len(text) if end < 0 else end
+        mark = text.find(b"   ", at, end)
+        items(text, at, end if mark < 0 else mark, 2, found)
+        at = end + 1
+    if not found:
+        raise Fault(*place(text, len(text)))
+    return bytes(found)
+
+
 def source(text):
     """The bytes of the source of a program, or of another text."""
     columns = columns_of(text)
     if columns is not None:
         return in_columns(text, columns)
+    literal = LITERAL.match(text)
+    if literal:
+        return in_literals(text, literal.end())
+    if re.match(BEFORE + NAMED, text):
+        return in_names(text)
     code = COMMENT.sub(uncommented, text)
     code = re.sub(rb"\xef\xbb\xbf", b"   ", code)
     code = re.sub(rb"^[\t >]+", lambda it: it[0].replace(b">", b" "), code, flags=re.M)
     code = LABEL.sub(lambda it: spaces(it[0]), code)
     code = re.sub(rb"\\(?=[\n\r])", b" ", code)
     is_array, inner = between(code)
-    if WORDS.match(text):
+    if has_two_readings(text):
         raise Fault(*place(inner, 0))
     style = style_of(is_array, inner)
     gap, number = (re.compile(it) for it in STYLES[style])
@@ -271,6 +359,10 @@ def stop(text, fault):
         return "? not hexadecimal text: UTF-16\n"
     if not text or not is_source(text):
         return ""
+    columns = columns_of(text)
+    in_layout = LITERAL.match(text) or re.match(BEFORE + NAMED, text)
+    if has_two_readings(text) and not in_layout if columns is None else form_at(text, columns)[0] == "words":
+        return "? not hexadecimal text: it has two readings\n"
     line, column = fault.args
     return f"? not hexadecimal text: line {line} column {column} {found_at(text, line, column)}\n"
 

@@ -6,8 +6,9 @@ use Rattle.hex.specs.Hex.{hex_digit_value}
 use Rattle.usb_text.specs.declared.hex_text.Form.{Form}
 use Rattle.usb_text.specs.declared.hex_text.Form.TheVariants.{Plain, Words}
 use Rattle.usb_text.specs.HexDigits.{Item, is_gap, joined}
-use Rattle.usb_text.specs.Columns.{after_all, at_start, begins_zeros, column_form, ends_address, has_columns, in_line, is_blank, is_offset, is_zero}
-use Rattle.usb_text.specs.HexText.{Reads, begins_byte, begins_directive, begins_words, bytes_of, digits_in, ends, form_of, goes_on, item, line_item, plain_item}
+use Rattle.usb_text.specs.Columns.{after_all, at_start, begins_zeros, column_form, ends_address, has_columns, is_blank, is_offset, is_zero}
+use Rattle.usb_text.specs.HexText.{Reads, begins_byte, begins_directive, bytes_of, digits_in, ends, form_of, goes_on, in_line, item, line_item, plain_item}
+use Rattle.usb_text.specs.TwoReadings.{has_two_readings}
 use Rattle.usb_text.specs.Hexadecimal.{HexAsIs, IsApart, IsNoDescriptor, is_of_source}
 
 -- nothing is read where no item begins
@@ -136,7 +137,7 @@ no_words text bytes (goes_on is read) some = cc
 
 as_is_apart : (text bytes : List ℕ) → HexAsIs text bytes → IsApart text
 unfolding form_of
-as_is_apart text bytes hex = by (begins_zeros text) refl (has_columns text || begins_words text || begins_directive (at_start text)) hex.read hex.some
+as_is_apart text bytes hex = by (begins_zeros text) refl (has_columns text || has_two_readings text || begins_directive (at_start text)) hex.read hex.some
   where
     by : (b : Bool) → begins_zeros text ≡ b → (w : Bool)
         → (let form = cond b (column_form text) (cond w Words Plain) in Reads form 0 (in_line form text) bytes []) → 0 < length bytes → IsApart text

@@ -10,3 +10,4 @@ pub mod ShownLines
 pub mod Items
 pub mod Apart
 pub mod OneReading
+pub mod InOrder

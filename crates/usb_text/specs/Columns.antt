@@ -2,12 +2,12 @@
 --
 -- An offset is four digits or more. It is zero where the text begins, as `xxd`, `hexdump -C`, `od`, `objdump -s` and
 -- Wireshark have it, or an address before a colon, as a debugger has it. Each other one is the count of the bytes before it.
-use Rattle.std.specs.Prelude.{◌≡◌, ℕ, ◌+◌, ◌-◌, ◌*◌, ◌==◌, ◌||◌, ◌&&◌, Bool, false, not, nat_le, nat_lt, true, if◌then◌else◌, List, [], ◌∷◌, length, slice_index, Option, Some, None}
+use Rattle.std.specs.Prelude.{◌≡◌, ℕ, ◌+◌, ◌-◌, ◌*◌, ◌==◌, ◌||◌, ◌&&◌, Bool, false, not, zero, suc, nat_le, nat_lt, true, if◌then◌else◌, List, [], ◌∷◌, length, slice_index, Option, Some, None}
 use Rattle.hex.specs.Hex.{hex_digit_value, is_hex_digit}
 use Rattle.usb_text.specs.Comments.{is_before_line, is_fence}
-use Rattle.usb_text.specs.HexDigits.{is_gap}
+use Rattle.usb_text.specs.HexDigits.{byte_of, is_gap}
 use Rattle.usb_text.specs.declared.hex_text.Form.{Form}
-use Rattle.usb_text.specs.declared.hex_text.Form.TheVariants.{Plain, Words, Colons, Spaces, Groups, Addresses, Source}
+use Rattle.usb_text.specs.declared.hex_text.Form.TheVariants.{Plain, Words, Colons, Spaces, Rows, Groups, Addresses, Named, Literal, Source}
 
 abbrev pub is_zero : ℕ → Bool
 is_zero c = c == 48
@@ -113,11 +113,13 @@ begins_address text = has_digits text && ends_address (after_name (after_digits 
 abbrev pub at_start : List ℕ → List ℕ
 at_start text = after_all is_before_line text
 
+-- what is at the start of the line after this one
+abbrev pub next_line : List ℕ → List ℕ
+next_line text = at_start (after_one (after_all is_in_line text))
+
 -- the line after this one begins with four zeros too
 abbrev pub has_next_offset : List ℕ → Bool
-has_next_offset text =
-    let next = at_start (after_one (after_all is_in_line text)) in
-    is_offset next (after_all is_zero next)
+has_next_offset text = is_offset (next_line text) (after_all is_zero (next_line text))
 
 -- The line has characters after two spaces. Those of `od` begin with `>`.
 unfoldable pub has_text : List ℕ → Bool
@@ -132,13 +134,65 @@ has_text (c ∷ rest) =
 abbrev pub blank_form : List ℕ → Form
 blank_form rest = if has_text rest then Groups else if has_next_offset rest then Addresses 0 else Words
 
-abbrev pub zeros_form : List ℕ → Form
-zeros_form rest = if has_colon rest then Colons else if has_two_spaces rest then Spaces else blank_form rest
+-- a character that is that of one byte alone: no space, and no dot
+abbrev pub is_visible : ℕ → Bool
+is_visible c = nat_lt 32 c && nat_lt c 127 && not (c == 46)
+
+-- whether a character is this byte, if it is visible
+abbrev pub tells : Option ℕ → ℕ → Option Bool
+tells None c = None
+tells (Some byte) c = if is_visible c then Some (c == byte) else None
+
+abbrev pub or_later : Option Bool → Option Bool → Option Bool
+or_later None later = later
+or_later (Some is) later = Some is
+
+-- The first visible character of a line is that of its byte. Its high digit may be the character before the text.
+unfoldable pub order_of : Bool → ℕ → List ℕ → List ℕ → Option Bool
+order_of begun high [] characters = None
+order_of begun high (c ∷ rest) characters =
+    if (c == 10) || has_two_spaces (c ∷ rest) then None
+    else if begun then or_later (tells (byte_of high c) (slice_index characters 0)) (order_of false c rest (after_one characters))
+    else order_of (is_hex_digit c) c rest characters
+
+-- what is left of a line after its first two spaces; nothing where there are more, after which nothing says whose the first is
+unfoldable pub characters_of : List ℕ → List ℕ
+characters_of [] = []
+characters_of (c ∷ rest) =
+    if (c == 10) || has_three_spaces (c ∷ rest) then []
+    else if has_two_spaces (c ∷ rest) then after_one rest
+    else characters_of rest
+
+abbrev pub line_order : List ℕ → Option Bool
+line_order line = order_of false 0 line (characters_of line)
+
+abbrev pub in_order : Option Bool → Bool → Bool
+in_order None later = later
+in_order (Some is) later = is
+
+-- The first visible character, in so many lines at most, is that of its byte, as in those of `xxd` and not of `xxd -e`.
+unfoldable pub are_in_order : ℕ → List ℕ → Bool
+are_in_order zero text = true
+are_in_order (suc lines) text = in_order (line_order (after_offset text)) (are_in_order lines (next_line text))
+
+abbrev pub colon_form : List ℕ → Form
+colon_form text = if are_in_order 16 text then Colons else Words
+
+-- sixteen zeros and one blank, as PowerShell 7 begins its first row
+abbrev pub begins_row : List ℕ → List ℕ → Bool
+begins_row text rest = (length text == 16 + length rest) && not (is_blank (slice_index rest 1))
+
+abbrev pub zeros_form : List ℕ → List ℕ → Form
+zeros_form text rest =
+    if has_colon rest then colon_form text
+    else if has_two_spaces rest then Spaces
+    else if begins_row text rest then Rows
+    else blank_form rest
 
 -- the form of a text that begins with an offset
 abbrev pub column_form : List ℕ → Form
 column_form text =
-    if begins_zeros text then zeros_form (after_all is_zero text) else Addresses (offset_value 16 0 (after_mark text))
+    if begins_zeros text then zeros_form text (after_all is_zero text) else Addresses (offset_value 16 0 (after_mark text))
 
 abbrev pub begins_columns : List ℕ → Bool
 begins_columns text = begins_zeros text || begins_address text
@@ -162,7 +216,7 @@ begins_gap (c ∷ rest) = is_gap c
 
 -- The line is empty, or no number is at its start, or it numbers the columns.
 abbrev pub is_heading : List ℕ → Bool
-is_heading text = is_empty_line text || not (begins_gap (after_all is_hex_digit text)) || begins_numbers text
+is_heading text = is_empty_line text || not (begins_gap (after_digits text)) || begins_numbers text
 
 -- Where the columns of a text begin: at its first line with an offset, where only headings are before it.
 unfoldable pub columns_of : Bool → List ℕ → Option (List ℕ)
@@ -185,15 +239,21 @@ abbrev pub after_start : List ℕ → Option (List ℕ) → List ℕ
 after_start text None = text
 after_start text (Some line) = after_offset line
 
--- what is left after the start of the first line with bytes
-abbrev pub in_line : Form → List ℕ → List ℕ
-in_line Plain text = text
-in_line Words text = text
-in_line Colons text = after_start text (columns_of true text)
-in_line Spaces text = after_start text (columns_of true text)
-in_line Groups text = after_start text (columns_of true text)
-in_line (Addresses base) text = after_start text (columns_of true text)
-in_line (Source style) text = text
+-- `Data (HexDump)` begins the line, as UsbTreeView names bytes
+abbrev pub is_named : List ℕ → Bool
+is_named text =
+    (slice_index text 0 == 68) && (slice_index text 1 == 97) && (slice_index text 2 == 116)
+    && (slice_index text 3 == 97) && (slice_index text 4 == 32) && (slice_index text 5 == 40)
+    && (slice_index text 6 == 72) && (slice_index text 7 == 101) && (slice_index text 8 == 120)
+
+abbrev pub is_in_label : ℕ → Bool
+is_in_label c = not ((c == 10) || (c == 58))
+
+-- what is left after the name at the start of a line, its colon and blanks; the line itself where it has none
+abbrev pub after_label : List ℕ → List ℕ
+after_label text =
+    let line = at_start text in
+    if is_named line then after_all is_blank (after_one (after_all is_in_label line)) else line
 
 abbrev pub begins_fence : List ℕ → Bool
 begins_fence [] = false
@@ -214,8 +274,11 @@ at_line Plain count text = Some text
 at_line Words count text = Some text
 at_line Colons count text = at_offset count text
 at_line Spaces count text = at_offset count text
+at_line Rows count text = at_offset count text
 at_line Groups count text = at_offset count text
 at_line (Addresses base) count text = at_offset (base + count) text
+at_line Named count text = Some (after_label text)
+at_line (Literal quote) count text = Some text
 at_line (Source style) count text = Some text
 
 -- After a byte its group goes on for longer than the form has it: `xxd` has two bytes in one, the others one. Of longer
@@ -225,6 +288,9 @@ is_too_long Plain rest = false
 is_too_long Words rest = false
 is_too_long Colons rest = is_hex_digit (slice_index rest 0) && is_hex_digit (slice_index rest 1) && is_hex_digit (slice_index rest 2)
 is_too_long Spaces rest = is_hex_digit (slice_index rest 0)
+is_too_long Rows rest = is_hex_digit (slice_index rest 0)
 is_too_long Groups rest = false
 is_too_long (Addresses base) rest = is_hex_digit (slice_index rest 0)
+is_too_long Named rest = is_hex_digit (slice_index rest 0)
+is_too_long (Literal quote) rest = false
 is_too_long (Source style) rest = false

@@ -2,13 +2,15 @@
 --
 -- A text is a run of items: white space or a comma, a mark `0x` or `\x`, and two digits, which are a byte. In a text with
 -- columns each line has an offset, bytes and maybe their characters (`Columns`). Then only the bytes are read.
-use Rattle.std.specs.Prelude.{◌≡◌, ℕ, ◌+◌, ◌==◌, ◌||◌, ◌&&◌, Bool, false, not, true, if◌then◌else◌, List, [], ◌∷◌, ◌++◌, length, slice_index, Option, Some, None, option_map}
+use Rattle.std.specs.Prelude.{◌≡◌, ℕ, ◌+◌, ◌%◌, ◌==◌, ◌||◌, ◌&&◌, Bool, false, not, true, if◌then◌else◌, List, [], ◌∷◌, ◌++◌, length, slice_index, Option, Some, None, option_map}
 use Rattle.hex.specs.Hex.{is_hex_digit}
-use Rattle.usb_text.specs.Columns.{after_all, after_one, at_line, at_start, begins_zeros, column_form, has_columns, has_three_spaces, has_two_spaces, is_blank, is_in_line, is_too_long}
+use Rattle.usb_text.specs.Columns.{after_all, after_label, after_one, after_start, at_line, at_start, begins_zeros, column_form, columns_of, has_columns, has_three_spaces, has_two_spaces, is_blank, is_in_line, is_too_long}
 use Rattle.usb_text.specs.HexDigits.{Item, digits, is_gap, no_byte}
+use Rattle.usb_text.specs.Literals.{after_opening, literal_item}
 use Rattle.usb_text.specs.SourceItems.{is_decimal, source_item}
+use Rattle.usb_text.specs.TwoReadings.{has_two_readings}
 use Rattle.usb_text.specs.declared.hex_text.Form.{Form}
-use Rattle.usb_text.specs.declared.hex_text.Form.TheVariants.{Plain, Words, Colons, Spaces, Groups, Addresses, Source}
+use Rattle.usb_text.specs.declared.hex_text.Form.TheVariants.{Plain, Words, Colons, Spaces, Rows, Groups, Addresses, Named, Literal, Source}
 
 -- `0x` or `\x`
 abbrev pub is_mark : ℕ → ℕ → Bool
@@ -31,33 +33,12 @@ abbrev pub begins_directive : List ℕ → Bool
 begins_directive text =
     is_digit_letter (slice_index text 0) && begins_mark (after_all is_blank (after_all is_digit_letter text))
 
--- so many digits of a kind and a blank are at the start of a text
-abbrev pub begins_group : ℕ → (ℕ → Bool) → List ℕ → Bool
-begins_group count is text =
-    let rest = after_all is text in
-    (length text == count + length rest) && is_blank (slice_index rest 0)
-
-abbrev pub is_binary : ℕ → Bool
-is_binary c = (c == 48) || (c == 49)
-
--- what is left after `0b`, if that is there
-abbrev pub after_radix : List ℕ → List ℕ
-after_radix text = if (slice_index text 0 == 48) && (slice_index text 1 == 98) then after_one (after_one text) else text
-
--- A text begins with words of which nothing says which byte is first, as `od -An` writes them after a space, or with
--- eight bits.
-abbrev pub begins_words : List ℕ → Bool
-begins_words text =
-    let start = at_start text in
-    (is_blank (slice_index text 0) && (begins_group 4 is_hex_digit start || begins_group 8 is_hex_digit start))
-    || begins_group 8 is_binary (after_radix start)
-
 -- The form in which a text is read as it is: with columns where it begins with an offset of zeros. None is for one whose
 -- columns begin later, nor for an assembler's, whose letters before a mark are no digits.
 unfoldable pub form_of : List ℕ → Form
 form_of text =
     if begins_zeros text then column_form text
-    else if has_columns text || begins_words text || begins_directive (at_start text) then Words
+    else if has_columns text || has_two_readings text || begins_directive (at_start text) then Words
     else Plain
 
 abbrev pub gap_or : Form → ℕ → ℕ → List ℕ → Item → Item
@@ -86,14 +67,17 @@ abbrev pub has_no_item : ℕ → List ℕ → Bool
 has_no_item count text = has_two_spaces text && is_none (plain_item Plain count (after_one (after_one text)))
 
 -- The characters of a line's bytes begin here: after two spaces; where those may be between bytes too, after three, at
--- a bar, or where no byte is after the two.
+-- a bar, or where no byte is after the two; after the sixteenth byte of a row.
 abbrev pub has_characters : Form → ℕ → List ℕ → Bool
 has_characters Plain count text = false
 has_characters Words count text = false
 has_characters Colons count text = has_two_spaces text
 has_characters Spaces count text = (slice_index text 0 == 124) || has_three_spaces text || has_no_item count text
+has_characters Rows count text = has_two_spaces text || (is_blank (slice_index text 0) && (count % 16 == 0))
 has_characters Groups count text = has_two_spaces text
 has_characters (Addresses base) count text = has_two_spaces text
+has_characters Named count text = has_three_spaces text
+has_characters (Literal quote) count text = false
 has_characters (Source style) count text = false
 
 -- the characters of a line are one item, up to its line feed
@@ -107,10 +91,26 @@ abbrev pub item : Form → ℕ → List ℕ → Item
 item Plain count text = line_item Plain count text
 item Colons count text = line_item Colons count text
 item Spaces count text = line_item Spaces count text
+item Rows count text = line_item Rows count text
 item Groups count text = line_item Groups count text
 item (Addresses base) count text = line_item (Addresses base) count text
+item Named count text = line_item Named count text
 item Words count text = None
+item (Literal quote) count text = literal_item quote text
 item (Source style) count text = source_item style text
+
+-- what is left after the start of the first line with bytes
+abbrev pub in_line : Form → List ℕ → List ℕ
+in_line Plain text = text
+in_line Words text = text
+in_line Colons text = after_start text (columns_of true text)
+in_line Spaces text = after_start text (columns_of true text)
+in_line Rows text = after_start text (columns_of true text)
+in_line Groups text = after_start text (columns_of true text)
+in_line (Addresses base) text = after_start text (columns_of true text)
+in_line Named text = after_label text
+in_line (Literal quote) text = after_opening text
+in_line (Source style) text = text
 
 abbrev pub bytes_of : Option ℕ → List ℕ
 bytes_of None = []

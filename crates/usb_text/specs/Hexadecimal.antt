@@ -6,15 +6,17 @@ use Rattle.std.specs.Prelude.{◌≡◌, ℕ, ◌+◌, ◌-◌, ◌<◌, ◌==�
 use Rattle.std.specs.List.{list_all}
 use Rattle.usb_text.specs.Brackets.{bracket_of, first_side, has, within}
 use Rattle.usb_text.specs.Comments.{uncommented}
-use Rattle.usb_text.specs.Columns.{column_form, columns_of, in_line}
+use Rattle.usb_text.specs.Columns.{at_start, column_form, columns_of, is_named}
 use Rattle.usb_text.specs.Labels.{unlabelled}
-use Rattle.usb_text.specs.HexText.{Reads, begins_words, column_after, form_of, is_line_feed}
+use Rattle.usb_text.specs.Literals.{literal_of}
+use Rattle.usb_text.specs.HexText.{Reads, column_after, form_of, in_line, is_line_feed}
 use Rattle.usb_text.specs.SourceItems.{is_decimal, is_parting}
+use Rattle.usb_text.specs.TwoReadings.{has_two_readings}
 use Rattle.usb_text.specs.declared.bracket.Bracket.{Bracket}
 use Rattle.usb_text.specs.declared.comment.Place.TheVariants as places
 use Rattle.usb_text.specs.declared.label.Part.TheVariants as parts
 use Rattle.usb_text.specs.declared.hex_text.Form.{Form}
-use Rattle.usb_text.specs.declared.hex_text.Form.TheVariants.{Source, Words}
+use Rattle.usb_text.specs.declared.hex_text.Form.TheVariants.{Literal, Named, Source, Words}
 use Rattle.usb_text.specs.declared.hex_text.HexFault.{HexFault}
 use Rattle.usb_text.specs.declared.hex_text.HexFault.TheVariants as faults
 use Rattle.usb_text.specs.declared.source_item.Style.{Style}
@@ -113,20 +115,32 @@ code_of text = unlabelled parts.Start (uncommented places.Start text)
 abbrev pub within_code : List ℕ → List ℕ
 within_code text = inner_of (bracket_of (code_of text)) (code_of text)
 
--- what is read of a text: all where it has columns
-abbrev pub source_in : Option (List ℕ) → List ℕ → List ℕ
-source_in None text = within_code text
-source_in (Some line) text = text
+-- the form of a text with columns, a name or a literal, which is read as it is; none has a program's source
+abbrev pub named_form : List ℕ → Option (List ℕ) → Option Form
+named_form text None = if is_named (at_start text) then Some Named else None
+named_form text (Some literal) = Some (Literal (slice_index literal 0))
+
+abbrev pub layout_in : List ℕ → Option (List ℕ) → Option Form
+layout_in text None = named_form text (literal_of text)
+layout_in text (Some line) = Some (column_form line)
+
+abbrev pub layout_of : List ℕ → Option Form
+layout_of text = layout_in text (columns_of true text)
+
+-- what is read of a text, and in which form
+abbrev pub source_in : List ℕ → Option Form → List ℕ
+source_in text None = within_code text
+source_in text (Some form) = text
 
 abbrev pub source_of : List ℕ → List ℕ
-source_of text = source_in (columns_of true text) text
+source_of text = source_in text (layout_of text)
 
-abbrev pub form_in : Option (List ℕ) → List ℕ → Form
-form_in None text = if begins_words text then Words else Source (style_of (bracket_of (code_of text)) (within_code text))
-form_in (Some line) text = column_form line
+abbrev pub form_in : List ℕ → Option Form → Form
+form_in text None = if has_two_readings text then Words else Source (style_of (bracket_of (code_of text)) (within_code text))
+form_in text (Some form) = form
 
 abbrev pub source_form : List ℕ → Form
-source_form text = form_in (columns_of true text) text
+source_form text = form_in text (layout_of text)
 
 -- ---- any text
 

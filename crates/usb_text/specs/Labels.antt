@@ -103,15 +103,9 @@ is_declaration named last (c ∷ rest) =
     else if ends_declaration c then false
     else is_declaration (is_beyond_digits c || named) (if is_blank c then last else c) rest
 
--- `b'\x`, as Python and Rust have bytes
-abbrev pub begins_literal : List ℕ → Bool
-begins_literal text = (slice_index text 0 == 98) && is_quote (slice_index text 1) && begins_escape (after_one (after_one text))
-
 -- the line begins with no number
 abbrev pub begins_declaration : List ℕ → Bool
-begins_declaration text =
-    let start = after_all is_blank text in
-    begins_literal start || (not (is_decimal (slice_index start 0)) && is_declaration false 32 text)
+begins_declaration text = not (is_decimal (slice_index (after_all is_blank text) 0)) && is_declaration false 32 text
 
 -- ---- texts without labels
 

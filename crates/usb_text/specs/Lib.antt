@@ -6,6 +6,8 @@ pub mod HexDigits
 pub mod SourceItems
 pub mod Columns
 pub mod HexText
+pub mod Literals
+pub mod TwoReadings
 pub mod Hexadecimal
 pub mod Stops
 pub mod Comments

@@ -2,6 +2,7 @@
 use Rattle.std.specs.Prelude.{ℕ, ◌+◌, ◌-◌, ◌*◌, ◌==◌, ◌||◌, ◌&&◌, Bool, false, not, nat_le, nat_lt, if◌then◌else◌, List, [], ◌∷◌, slice_index, Option, Some, None, option_map}
 use Rattle.std.specs.List.{list_all}
 use Rattle.hex.specs.Hex.{hex_digit_value, is_hex_digit}
+use Rattle.usb_text.specs.Columns.{after_all, is_blank}
 use Rattle.usb_text.specs.HexDigits.{Item, byte_of, digits, is_gap}
 use Rattle.usb_text.specs.declared.source_item.Style.{Style}
 use Rattle.usb_text.specs.declared.source_item.Style.TheVariants.{Escaped, Prefixed, Suffixed, Pairs, Separated, Loose, Decimals}
@@ -95,10 +96,17 @@ number (c ∷ d ∷ rest) =
     if is_hex_digit d then ended_number (after_suffix rest) (byte_of c d)
     else ended_number (after_suffix (d ∷ rest)) (hex_digit_value c)
 
+abbrev pub is_x : ℕ → Bool
+is_x c = (c == 120) || (c == 88)
+
 -- what is left after `x`
 abbrev pub after_x : List ℕ → Option (List ℕ)
 after_x [] = None
-after_x (c ∷ rest) = if (c == 120) || (c == 88) then Some rest else None
+after_x (c ∷ rest) = if is_x c then Some rest else None
+
+-- `0x`, `0X` or `$`
+abbrev pub begins_prefix : List ℕ → Bool
+begins_prefix text = (slice_index text 0 == 36) || ((slice_index text 0 == 48) && is_x (slice_index text 1))
 
 -- what is left after `0x`, `0X` or `$`
 abbrev pub after_prefix : ℕ → List ℕ → Option (List ℕ)
@@ -107,9 +115,14 @@ after_prefix c rest =
     else if c == 48 then after_x rest
     else None
 
+-- blanks and a number with a prefix, before which a digit may be the number of its line
+abbrev pub precedes_number : List ℕ → Bool
+precedes_number text = is_blank (slice_index text 0) && begins_prefix (after_all is_blank text)
+
 -- one decimal digit, which is the same number without a prefix
 abbrev pub one_digit : ℕ → List ℕ → Item
-one_digit c rest = if is_decimal c && not (begins_word rest) then Some (Some (c - 48), rest) else None
+one_digit c rest =
+    if is_decimal c && not (begins_word rest || precedes_number rest) then Some (Some (c - 48), rest) else None
 
 abbrev pub number_after : ℕ → List ℕ → Option (List ℕ) → Item
 number_after c rest None = one_digit c rest

@@ -1,8 +1,11 @@
 -- The line that says why a text is not read as hexadecimal.
-use Rattle.std.specs.Prelude.{ℕ, ◌==◌, ◌||◌, ◌&&◌, Bool, false, nat_le, if◌then◌else◌, List, [], ◌∷◌, ◌++◌, slice_index, Option, Some, None, codes}
+use Rattle.std.specs.Prelude.{ℕ, ◌==◌, ◌||◌, ◌&&◌, Bool, false, true, nat_le, if◌then◌else◌, List, [], ◌∷◌, ◌++◌, slice_index, Option, Some, None, codes}
 use Rattle.std.specs.Fmt.{decimal}
-use Rattle.usb_text.specs.Hexadecimal.{is_source}
+use Rattle.usb_text.specs.Hexadecimal.{is_source, layout_of}
 use Rattle.usb_text.specs.Numbers.{byte_code}
+use Rattle.usb_text.specs.TwoReadings.{has_two_readings}
+use Rattle.usb_text.specs.declared.hex_text.Form.{Form}
+use Rattle.usb_text.specs.declared.hex_text.Form.TheVariants.{Words}
 use Rattle.usb_text.specs.declared.hex_text.HexFault.{HexFault}
 use Rattle.usb_text.specs.declared.hex_text.HexFault.TheVariants as faults
 
@@ -38,10 +41,23 @@ place_words line column = line_words line ++ codes " column " ++ decimal column
 unfoldable pub place_line : ℕ → ℕ → Option ℕ → List ℕ
 place_line line column found = place_words line column ++ found_words found ++ codes "\n"
 
+abbrev pub is_of_words : List ℕ → Option Form → Bool
+is_of_words text None = has_two_readings text
+is_of_words text (Some Words) = true
+is_of_words text (Some form) = false
+
+-- two readings would take the text differently
+abbrev pub is_ambiguous : List ℕ → Bool
+is_ambiguous text = is_of_words text (layout_of text)
+
+abbrev pub text_line : List ℕ → ℕ → ℕ → Option ℕ → List ℕ
+text_line b line column found =
+    if is_ambiguous b then refused_words ++ codes "it has two readings\n" else place_line line column found
+
 -- The line that says why the bytes are no hexadecimal text; none where they don't look like text.
 abbrev pub stop_line : List ℕ → HexFault → List ℕ
 stop_line b faults.Memory = []
 stop_line b (faults.Text line column found) =
     if is_utf16 b then refused_words ++ codes "UTF-16\n"
-    else if is_some_source b then place_line line column found
+    else if is_some_source b then text_line b line column found
     else []

@@ -4,7 +4,8 @@ ghost use Rattle.usb_text.specs.Brackets.{bracket_of, closing, first_side, has, 
 ghost use Rattle.std.specs.Prelude.{IfErr, IfOk};
 ghost use Rattle.usb_text.specs.Brackets.{within};
 
-use crate::hex_text::{HexFault, keep};
+use crate::hex_text::HexFault;
+use crate::reading::keep;
 use std::alloc::Global;
 
 /// A kind of brackets.

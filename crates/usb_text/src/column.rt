@@ -1,12 +1,18 @@
 //! The columns of a text that has them.
 ghost use Rattle.std.specs.Prelude.{◌≡◌, ◌&&◌, ◌≤◌, IfSome, MatchOption, None, Some, length, slice_index, true};
 ghost use Rattle.hex.specs.Hex.{is_hex_digit};
-ghost use Rattle.usb_text.specs.Columns.{after_all, after_colon, after_digits, after_mark, after_name, after_offset, after_one, after_start, at_line, at_offset, at_start, begins_address, begins_columns, begins_fence, begins_gap, begins_numbers, begins_zeros, blank_form, column_form, columns_of, ends_address, grown, has_colon, has_columns, has_digits, has_next_offset, has_offset, has_text, has_three_spaces, has_two_spaces, in_line, is_blank, is_empty_line, is_heading, is_in_line, is_in_name, is_octal, is_offset, is_too_long, is_zero, offset_value, zeros_form};
+ghost use Rattle.usb_text.specs.Columns.{after_all, after_one, at_line, at_offset, at_start, begins_address, begins_columns, begins_fence, begins_gap, begins_numbers, begins_row, begins_zeros, blank_form, column_form, columns_of, has_next_offset, has_text, has_three_spaces, has_two_spaces, is_blank, is_empty_line, is_heading, is_in_line, is_too_long, is_zero, next_line, zeros_form};
 ghost use Rattle.usb_text.specs.Comments.{is_before_line};
 
 use crate::comment::{is_before_line, is_fence};
 use crate::hex_text::{Form, is_gap};
+use crate::in_order::colon_form;
+use crate::named::after_label;
 use crate::numbers::digit;
+use crate::offset::{
+    after_digits, after_mark, after_name, after_offset, ends_address, has_digits, has_offset,
+    is_offset, offset_value,
+};
 
 /// What is left after all leading zeros.
 #[tactic(auto, unfolding(crate::specs::Columns::after_all))]
@@ -66,22 +72,6 @@ pub(crate) fn after_line(text: &[u8]) -> &[u8]
     rest
 }
 
-/// What is left of a line from `>` on, or from its end.
-#[tactic(auto, unfolding(crate::specs::Columns::after_all))]
-fn after_in_name(text: &[u8]) -> &[u8]
-    ensures is { result.now ≡ after_all is_in_name text.now }
-    ensures within { length result.now ≤ length text.now }
-{
-    let mut rest = text;
-    while let [c, tail @ ..] = rest {
-        if *c == b'\n' || *c == b'>' {
-            break;
-        }
-        rest = tail;
-    }
-    rest
-}
-
 /// What is left from the first character of a line on that is neither white space nor before a line in a mail.
 #[tactic(auto, unfolding(crate::specs::Columns::after_all))]
 pub(crate) fn at_start(text: &[u8]) -> &[u8]
@@ -116,129 +106,6 @@ pub(crate) fn is_blank(c: u8) -> bool
     c == b' ' || c == b'\t'
 }
 
-/// Whether four characters or more were before what is left of a text.
-fn is_offset(text: &[u8], rest: &[u8]) -> bool
-    requires { length rest.now ≤ length text.now }
-    ensures { result ≡ is_offset text.now rest.now }
-{
-    text.len() - rest.len() >= 4
-}
-
-/// What is left after `0x`, if that is there.
-fn after_mark(text: &[u8]) -> &[u8]
-    ensures is { result.now ≡ after_mark text.now }
-    ensures within { length result.now ≤ length text.now }
-{
-    match text {
-        [b'0', b'x', rest @ ..] => rest,
-        _ => text,
-    }
-}
-
-/// What is left after the name of an address, if there is one.
-fn after_name(text: &[u8]) -> &[u8]
-    ensures is { result.now ≡ after_name text.now }
-    ensures within { length result.now ≤ length text.now }
-{
-    match text {
-        [b' ', b'<', ..] => after_one(after_in_name(text)),
-        _ => text,
-    }
-}
-
-/// Whether a colon and a blank are at the start of a text.
-fn ends_address(text: &[u8]) -> bool
-    ensures { result ≡ ends_address text.now }
-{
-    matches!(text, [b':', b' ' | b'\t', ..])
-}
-
-/// What is left after a colon, if there is one.
-fn after_colon(text: &[u8]) -> &[u8]
-    ensures is { result.now ≡ after_colon text.now }
-    ensures within { length result.now ≤ length text.now }
-{
-    match text {
-        [b':', rest @ ..] => rest,
-        _ => text,
-    }
-}
-
-/// What is left after the digits of an offset.
-fn after_digits(text: &[u8]) -> &[u8]
-    ensures is { result.now ≡ after_digits text.now }
-    ensures within { length result.now ≤ length (after_mark text.now) }
-{
-    after_hex_digits(after_mark(text))
-}
-
-/// Whether a text begins with as many digits as an offset has.
-fn has_digits(text: &[u8]) -> bool
-    ensures { result ≡ has_digits text.now }
-{
-    is_offset(after_mark(text), after_digits(text))
-}
-
-/// What is left after the offset of a line.
-fn after_offset(text: &[u8]) -> &[u8]
-    ensures is { result.now ≡ after_offset text.now }
-    ensures within { length result.now ≤ length text.now }
-{
-    if has_digits(text) {
-        after_blanks(after_colon(after_name(after_digits(text))))
-    } else {
-        text
-    }
-}
-
-/// The value of an offset's digits so far and one more.
-fn grown(radix: u8, value: u64, digit: u8) -> u64
-    ensures { result ≡ grown radix value digit }
-{
-    if value < 1 << 56 {
-        value * u64::from(radix) + u64::from(digit)
-    } else {
-        value
-    }
-}
-
-/// The value of the digits at the start of a text.
-#[tactic(auto, unfolding(crate::specs::Columns::offset_value))]
-fn offset_value(radix: u8, text: &[u8]) -> u64
-    ensures { result ≡ offset_value radix 0 text.now }
-{
-    let mut value = 0;
-    let mut rest = text;
-    while let [c, tail @ ..] = rest {
-        let Some(digit) = digit(*c) else {
-            break;
-        };
-        if digit >= radix {
-            break;
-        }
-        value = grown(radix, value, digit);
-        rest = tail;
-    }
-    value
-}
-
-/// Whether an offset is octal, as that of `od` is.
-fn is_octal(text: &[u8]) -> bool
-    ensures { result ≡ is_octal text.now }
-{
-    let rest = after_digits(text);
-    text.len() - rest.len() == 7 && !matches!(rest, [b':', ..])
-}
-
-/// Whether a line begins with the offset of this place.
-fn has_offset(place: u128, text: &[u8]) -> bool
-    ensures { result ≡ has_offset place text.now }
-{
-    has_digits(text)
-        && (u128::from(offset_value(16, after_mark(text))) == place
-            || (is_octal(text) && u128::from(offset_value(8, text)) == place))
-}
-
 /// Whether a text begins with four zeros or more as an offset.
 pub(crate) fn begins_zeros(text: &[u8]) -> bool
     ensures { result ≡ begins_zeros text.now }
@@ -261,11 +128,19 @@ fn begins_address(text: &[u8]) -> bool
     has_digits(text) && ends_address(after_name(after_digits(text)))
 }
 
+/// What is at the start of the line after this one.
+pub(crate) fn next_line(text: &[u8]) -> &[u8]
+    ensures is { result.now ≡ next_line text.now }
+    ensures within { length result.now ≤ length text.now }
+{
+    at_start(after_one(after_line(text)))
+}
+
 /// Whether the line after this one begins with four zeros too.
 fn has_next_offset(text: &[u8]) -> bool
     ensures { result ≡ has_next_offset text.now }
 {
-    let next = at_start(after_one(after_line(text)));
+    let next = next_line(text);
     is_offset(next, after_zeros(next))
 }
 
@@ -294,21 +169,31 @@ pub(crate) fn column_form(text: &[u8]) -> Form
     ensures { result ≡ column_form text.now }
 {
     if begins_zeros(text) {
-        zeros_form(after_zeros(text))
+        zeros_form(text, after_zeros(text))
     } else {
         Form::Addresses(offset_value(16, after_mark(text)))
     }
 }
 
-/// The form that the end of an offset of zeros says.
-fn zeros_form(rest: &[u8]) -> Form
-    ensures { result ≡ zeros_form rest.now }
+/// The form that an offset of zeros and its end say.
+fn zeros_form(text: &[u8], rest: &[u8]) -> Form
+    requires { length rest.now ≤ length text.now }
+    ensures { result ≡ zeros_form text.now rest.now }
 {
     match rest {
-        [b':', ..] => Form::Colons,
+        [b':', ..] => colon_form(text),
         [b' ', b' ', ..] => Form::Spaces,
+        _ if begins_row(text, rest) => Form::Rows,
         _ => blank_form(rest),
     }
+}
+
+/// Whether sixteen zeros and one blank are at the start of a text.
+fn begins_row(text: &[u8], rest: &[u8]) -> bool
+    requires { length rest.now ≤ length text.now }
+    ensures { result ≡ begins_row text.now rest.now }
+{
+    text.len() - rest.len() == 16 && !begins_blank(after_one(rest))
 }
 
 /// The form after one blank.
@@ -339,14 +224,14 @@ fn is_empty_line(text: &[u8]) -> bool
 }
 
 /// Whether a text begins with the numbers of columns.
-fn begins_numbers(text: &[u8]) -> bool
+pub(crate) fn begins_numbers(text: &[u8]) -> bool
     ensures { result ≡ begins_numbers text.now }
 {
     matches!(text, [b'0', b'0', b' ', b'0', b'1', b' ', b'0', b'2', ..])
 }
 
 /// Whether a gap or nothing is at the start of a text.
-fn begins_gap(text: &[u8]) -> bool
+pub(crate) fn begins_gap(text: &[u8]) -> bool
     ensures { result ≡ begins_gap text.now }
 {
     match text {
@@ -359,7 +244,7 @@ fn begins_gap(text: &[u8]) -> bool
 fn is_heading(text: &[u8]) -> bool
     ensures { result ≡ is_heading text.now }
 {
-    is_empty_line(text) || !begins_gap(after_hex_digits(text)) || begins_numbers(text)
+    is_empty_line(text) || !begins_gap(after_digits(text)) || begins_numbers(text)
 }
 
 /// The text from its first offset on, where only headings are before that.
@@ -384,22 +269,6 @@ pub(crate) fn columns_of(text: &[u8]) -> Option<&[u8]>
         rest = tail;
     }
     None
-}
-
-/// What is left after the start of the first line with bytes.
-pub(crate) fn in_line(form: Form, text: &[u8]) -> &[u8]
-    ensures is { result.now ≡ in_line form text.now }
-    ensures within { length result.now ≤ length text.now }
-{
-    match form {
-        Form::Plain | Form::Words | Form::Source(_) => text,
-        Form::Colons | Form::Spaces | Form::Groups | Form::Addresses(_) => {
-            match columns_of(text) {
-                None => text,
-                Some(line) => after_offset(line),
-            }
-        }
-    }
 }
 
 /// Whether three back quotes are at the start of a line.
@@ -435,8 +304,9 @@ pub(crate) fn at_line(form: Form, count: usize, text: &[u8]) -> Option<&[u8]>
     ensures within { IfSome result (λ rest. length rest.now ≤ length text.now) }
 {
     match form {
-        Form::Plain | Form::Words | Form::Source(_) => Some(text),
-        Form::Colons | Form::Spaces | Form::Groups => at_offset(count as u128, text),
+        Form::Plain | Form::Words | Form::Literal(_) | Form::Source(_) => Some(text),
+        Form::Named => Some(after_label(text)),
+        Form::Colons | Form::Spaces | Form::Rows | Form::Groups => at_offset(count as u128, text),
         Form::Addresses(base) => at_offset(u128::from(base) + count as u128, text),
     }
 }
@@ -446,9 +316,9 @@ pub(crate) fn is_too_long(form: Form, rest: &[u8]) -> bool
     ensures { result ≡ is_too_long form rest.now }
 {
     match form {
-        Form::Plain | Form::Words | Form::Groups | Form::Source(_) => false,
+        Form::Plain | Form::Words | Form::Groups | Form::Literal(_) | Form::Source(_) => false,
         Form::Colons => begins_three_digits(rest),
-        Form::Spaces | Form::Addresses(_) => begins_digit(rest),
+        Form::Spaces | Form::Rows | Form::Addresses(_) | Form::Named => begins_digit(rest),
     }
 }
 

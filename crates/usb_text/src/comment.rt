@@ -4,7 +4,8 @@ ghost use Rattle.usb_text.specs.Comments.{after, after_code, after_start, begins
 ghost use Rattle.std.specs.Prelude.{IfErr, IfOk};
 ghost use Rattle.usb_text.specs.Comments.{uncommented};
 
-use crate::hex_text::{HexFault, keep};
+use crate::hex_text::HexFault;
+use crate::reading::keep;
 use std::alloc::Global;
 
 /// What a character of a text is in.

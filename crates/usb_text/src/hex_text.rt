@@ -5,22 +5,20 @@ ghost use Rattle.usb_text.specs.Hexadecimal.{fault_at, first_of};
 ghost use Rattle.std.specs.Prelude.{◌≡◌};
 ghost use Rattle.hex.specs.Hex.{is_hex_digit};
 ghost use Rattle.usb_text.specs.Columns.{after_all};
-ghost use Rattle.usb_text.specs.HexText.{after_radix, begins_directive, begins_group, begins_mark, begins_words, form_of, is_binary, is_digit_letter};
+ghost use Rattle.usb_text.specs.HexText.{begins_directive, begins_mark, form_of, is_digit_letter};
 ghost use Rattle.std.specs.Prelude.{◌≡◌, ◌<◌, IfSome, MatchOption, None, Some, length, slice_index, ◌&&◌, ◌==◌};
 ghost use Rattle.usb_text.specs.HexDigits.{is_gap};
 ghost use Rattle.usb_text.specs.HexText.{begins_byte, digits_in, has_characters, has_no_item, is_mark, item, line_item, plain_item};
-ghost use Rattle.std.specs.Prelude.{◌≡◌, ◌≤◌, ◌++◌, ◌⊎◌, IfErr, IfOk, OnOk, length};
-ghost use Rattle.usb_text.specs.HexText.{bytes_of};
-ghost use Rattle.usb_text.specs.Hexadecimal.{FaultyIn, HexIn, ReadsText};
 
 use crate::column::{
-    after_blanks, after_hex_digits, after_line, after_one, at_line, at_start, begins_blank,
-    begins_digit, begins_zeros, column_form, columns_of, has_three_spaces, has_two_spaces, in_line,
-    is_too_long,
+    after_blanks, after_line, after_one, at_line, at_start, begins_blank, begins_digit,
+    begins_zeros, column_form, columns_of, has_three_spaces, has_two_spaces, is_too_long,
 };
+use crate::literal::literal_item;
 use crate::numbers::{byte_of, digit};
-use crate::source_item::{Style, is_decimal, source_item};
-use std::alloc::Global;
+use crate::source_item::{Style, source_item};
+use crate::symbol::is_decimal;
+use crate::two_readings::has_two_readings;
 
 /// Why a text has no bytes.
 #[derive(Clone, Copy, Debug, PartialEq, Eq, Hash)]
@@ -90,16 +88,22 @@ fn column_after(text: &[u8]) -> usize
 pub(crate) enum Form {
     /// Without columns.
     Plain,
-    /// In words of which nothing says which byte is first. No byte is read.
+    /// Two readings would take it differently, as words of which nothing says which byte is first. No byte is read.
     Words,
     /// In columns with a colon after each offset, as `xxd` writes them.
     Colons,
     /// In columns with spaces after each offset, as `hexdump -C` and Wireshark write them.
     Spaces,
+    /// In rows of sixteen bytes and their characters after one space each, as PowerShell 7 writes them.
+    Rows,
     /// In columns with one space after each offset and characters, as `objdump -s` writes them.
     Groups,
     /// In columns of single bytes after offsets from this one on, as debuggers and `od` write them.
     Addresses(u64),
+    /// Without offsets, with names before lines and characters after them, as UsbTreeView writes them.
+    Named,
+    /// In literals with this quote, as Python and Rust write them.
+    Literal(u8),
     /// As the source of a program or another text has bytes.
     Source(Style),
 }
@@ -111,58 +115,13 @@ pub(crate) fn form_of(text: &[u8]) -> Form
 {
     if begins_zeros(text) {
         column_form(text)
-    } else if columns_of(text).is_some() || begins_words(text) || begins_directive(at_start(text)) {
+    } else if columns_of(text).is_some()
+        || has_two_readings(text)
+        || begins_directive(at_start(text))
+    {
         Form::Words
     } else {
         Form::Plain
-    }
-}
-
-/// Whether a text begins with words of which nothing says which byte is first.
-pub(crate) fn begins_words(text: &[u8]) -> bool
-    ensures { result ≡ begins_words text.now }
-{
-    let start = at_start(text);
-    (begins_blank(text) && (begins_digits(4, start) || begins_digits(8, start)))
-        || begins_bits(after_radix(start))
-}
-
-/// Whether a group of so many digits is at the start of a text, with a blank after it.
-fn begins_digits(count: usize, text: &[u8]) -> bool
-    ensures { result ≡ begins_group count is_hex_digit text.now }
-{
-    let rest = after_hex_digits(text);
-    text.len() - rest.len() == count && begins_blank(rest)
-}
-
-/// Whether eight bits are at the start of a text, with a blank after them.
-fn begins_bits(text: &[u8]) -> bool
-    ensures { result ≡ begins_group 8 is_binary text.now }
-{
-    let rest = after_bits(text);
-    text.len() - rest.len() == 8 && begins_blank(rest)
-}
-
-/// What is left after all leading bits.
-#[tactic(auto, unfolding(crate::specs::Columns::after_all))]
-fn after_bits(text: &[u8]) -> &[u8]
-    ensures is { result.now ≡ after_all is_binary text.now }
-    ensures within { length result.now ≤ length text.now }
-{
-    let mut rest = text;
-    while let [b'0' | b'1', tail @ ..] = rest {
-        rest = tail;
-    }
-    rest
-}
-
-/// What is left after `0b`, if that is there.
-fn after_radix(text: &[u8]) -> &[u8]
-    ensures { result.now ≡ after_radix text.now }
-{
-    match text {
-        [b'0', b'b', rest @ ..] => rest,
-        _ => text,
     }
 }
 
@@ -213,18 +172,21 @@ fn is_digit_letter(c: u8) -> bool
 }
 
 /// The item at the start of a text, after so many bytes: the byte that it is, if it is one, and what is left.
+#[inline(always)]
 pub(crate) fn item(form: Form, count: usize, text: &[u8]) -> Option<(Option<u8>, &[u8])>
     ensures is { MatchOption result (item form count text.now ≡ None) (λ p. item form count text.now ≡ Some (p.0, p.1.now)) }
     ensures less { IfSome result (λ p. length p.1.now < length text.now) }
 {
     match form {
         Form::Source(style) => source_item(style, text),
+        Form::Literal(quote) => literal_item(quote, text),
         Form::Words => None,
         _ => line_item(form, count, text),
     }
 }
 
 /// The same in a text with or without columns.
+#[inline(always)]
 #[tactic(auto, unfolding(crate::specs::HexText::line_item, crate::specs::HexText::plain_item))]
 fn line_item(form: Form, count: usize, text: &[u8]) -> Option<(Option<u8>, &[u8])>
     ensures is { MatchOption result (line_item form count text.now ≡ None) (λ p. line_item form count text.now ≡ Some (p.0, p.1.now)) }
@@ -236,7 +198,23 @@ fn line_item(form: Form, count: usize, text: &[u8]) -> Option<(Option<u8>, &[u8]
     }
 }
 
+/// The item at the start of a text without columns.
+#[inline(always)]
+#[tactic(auto, unfolding(crate::specs::HexText::line_item, crate::specs::HexText::plain_item, crate::specs::HexText::digits_in))]
+pub(crate) fn free_item(count: usize, text: &[u8]) -> Option<(Option<u8>, &[u8])>
+    ensures is { MatchOption result (item Form.Plain count text.now ≡ None) (λ p. item Form.Plain count text.now ≡ Some (p.0, p.1.now)) }
+    ensures less { IfSome result (λ p. length p.1.now < length text.now) }
+{
+    match text {
+        [c, rest @ ..] if is_gap(*c) => Some((None, rest)),
+        [c, d, rest @ ..] if marks_byte(*c, *d, rest) => Some((None, rest)),
+        [c, d, rest @ ..] => Some((Some(byte_of(*c, *d)?), rest)),
+        _ => None,
+    }
+}
+
 /// The item at the start of a text that is in no column of characters.
+#[inline(always)]
 #[tactic(auto, unfolding(crate::specs::HexText::plain_item))]
 fn plain_item(form: Form, count: usize, text: &[u8]) -> Option<(Option<u8>, &[u8])>
     ensures is { MatchOption result (plain_item form count text.now ≡ None) (λ p. plain_item form count text.now ≡ Some (p.0, p.1.now)) }
@@ -255,6 +233,7 @@ fn plain_item(form: Form, count: usize, text: &[u8]) -> Option<(Option<u8>, &[u8
 }
 
 /// The byte of two digits, where their group isn't too long.
+#[inline(always)]
 #[tactic(auto, unfolding(crate::specs::HexText::digits_in))]
 fn digits_in(form: Form, c: u8, d: u8, rest: &[u8]) -> Option<(Option<u8>, &[u8])>
     ensures is { MatchOption result (digits_in form c d rest.now ≡ None) (λ p. digits_in form c d rest.now ≡ Some (p.0, p.1.now)) }
@@ -268,12 +247,15 @@ fn digits_in(form: Form, c: u8, d: u8, rest: &[u8]) -> Option<(Option<u8>, &[u8]
 }
 
 /// Whether the characters of a line's bytes begin here.
+#[inline(always)]
 fn has_characters(form: Form, count: usize, text: &[u8]) -> bool
     ensures { result ≡ has_characters form count text.now }
 {
     match form {
-        Form::Plain | Form::Words | Form::Source(_) => false,
+        Form::Plain | Form::Words | Form::Literal(_) | Form::Source(_) => false,
         Form::Colons | Form::Groups | Form::Addresses(_) => has_two_spaces(text),
+        Form::Named => has_three_spaces(text),
+        Form::Rows => has_two_spaces(text) || (begins_blank(text) && count % 16 == 0),
         Form::Spaces => { begins_bar(text) || has_three_spaces(text) || has_no_item(count, text) }
     }
 }
@@ -320,54 +302,5 @@ fn begins_byte(text: &[u8]) -> bool
     match text {
         [c, d, rest @ ..] => digit(*c).is_some() && digit(*d).is_some() && !begins_digit(rest),
         _ => false,
-    }
-}
-
-/// The bytes of a text in a form, one at least.
-#[tactic(auto, using(crate::proofs::Items::leads_from, crate::proofs::Items::leads_on, crate::proofs::Items::leads_to))]
-pub(crate) fn read_in(alloc: Global, form: Form, text: &[u8]) -> Result<Vec<u8>, HexFault>
-    ensures ok { IfOk result (λ bytes. HexIn form text.now bytes.items) }
-    ensures err { IfErr result (λ fault. (fault ≡ HexFault.Memory) ⊎ FaultyIn form text.now fault) }
-{
-    let mut bytes = Vec::new(alloc);
-    let mut rest = in_line(form, text);
-    'items: loop {
-        match item(form, bytes.len(), rest) {
-            Some((byte, tail)) => {
-                keep(&mut bytes, byte)?;
-                rest = tail;
-            }
-            None => return ended(form, text, rest, bytes),
-        }
-    }
-}
-
-/// Adds the byte of an item, if it is one.
-pub(crate) fn keep(bytes: &mut Vec<u8>, byte: Option<u8>) -> Result<(), HexFault>
-    ensures ok { OnOk result (bytes.new.items ≡ bytes.old.items ++ bytes_of byte) }
-    ensures err { IfErr result (λ fault. fault ≡ HexFault.Memory) }
-{
-    match byte {
-        None => Ok(()),
-        Some(byte) => match bytes.push(byte) {
-            Ok(()) => Ok(()),
-            Err(_) => Err(HexFault::Memory),
-        },
-    }
-}
-
-/// What is answered where no item is left: the bytes, if nothing else is left and there are some.
-fn ended(form: Form, text: &[u8], rest: &[u8], bytes: Vec<u8>) -> Result<Vec<u8>, HexFault>
-    requires read { ReadsText form text.now bytes.items rest.now }
-    requires within { length rest.now ≤ length text.now }
-    ensures ok { IfOk result (λ bytes. HexIn form text.now bytes.items) }
-    ensures err { IfErr result (FaultyIn form text.now) }
-{
-    if bytes.is_empty() {
-        return Err(fault_at(text, rest));
-    }
-    match rest {
-        [] => Ok(bytes),
-        _ => Err(fault_at(text, rest)),
     }
 }

@@ -4,14 +4,20 @@ ghost use Rattle.usb_text.specs.SourceItems.{is_decimal};
 ghost use Rattle.std.specs.List.{list_all};
 ghost use Rattle.usb_text.specs.Hexadecimal.{array_style, bare_style, has_long_number, has_prefix, has_suffix, is_of_decimals, is_of_source, is_source, line_style, style_of};
 ghost use Rattle.std.specs.Prelude.{IfErr, IfOk, ◌⊎◌};
-ghost use Rattle.usb_text.specs.Hexadecimal.{FaultyIn, HexIn, HexRefused, HexText, inner_of, source_form, source_of};
+ghost use Rattle.usb_text.specs.Literals.{literal_of};
+ghost use Rattle.usb_text.specs.Hexadecimal.{FaultyIn, HexIn, HexRefused, HexText, inner_of, layout_of, named_form, source_form, source_of};
 
 use crate::bracket::{Bracket, bracket_of, has, within};
-use crate::column::{column_form, columns_of};
+use crate::column::{at_start, column_form, columns_of};
 use crate::comment::uncommented;
-use crate::hex_text::{Form, HexFault, begins_words, form_of, read_in};
+use crate::hex_text::{Form, HexFault, form_of};
 use crate::label::unlabelled;
-use crate::source_item::{Style, is_decimal, is_parting};
+use crate::literal::literal_of;
+use crate::named::is_named;
+use crate::reading::read_in;
+use crate::source_item::{Style, is_parting};
+use crate::symbol::is_decimal;
+use crate::two_readings::has_two_readings;
 use std::alloc::Global;
 
 /// The bytes of a hexadecimal text, one at least. Digits have either case. White space and commas may be between two
@@ -20,7 +26,8 @@ use std::alloc::Global;
 ///
 /// Another text is read without comments and labels, and between its first bracket and the partner where it has brackets. Its bytes
 /// are in strings (`"\x12\x01"`), have prefixes (`0x1`, `0X12`, `$12`), suffixes (`12h`, `0x12u`) or separators
-/// (`12:01`, `12-01`), or are decimal numbers in brackets.
+/// (`12:01`, `12-01`), or are decimal numbers in brackets. Or it has literals of Python or Rust, as `b'\x12\x01 '`, in which a
+/// printable character is its byte. A text that two readings would take differently is refused.
 ///
 /// ```rust
 /// assert_eq!(rt; parse(alloc, b"0x09, 0x02\n2200")?.as_slice(), [9, 2, 0x22, 0]);
@@ -56,20 +63,56 @@ fn read_source(alloc: Global, text: &[u8]) -> Result<Vec<u8>, HexFault>
     ensures ok { IfOk result (λ bytes. HexIn (source_form text.now) (source_of text.now) bytes.items) }
     ensures err { IfErr result (λ fault. (fault ≡ HexFault.Memory) ⊎ FaultyIn (source_form text.now) (source_of text.now) fault) }
 {
-    match columns_of(text) {
-        Some(line) => read_in(alloc, column_form(line), text),
+    match layout_of(text) {
+        Some(form) => read_in(alloc, form, text),
         None => {
             let code = uncommented(alloc, text)?;
             let code = unlabelled(alloc, &code)?;
             let bracket = bracket_of(&code);
             let inner = inner_of(alloc, bracket, code)?;
-            let form = if begins_words(text) {
+            let form = if has_two_readings(text) {
                 Form::Words
             } else {
                 Form::Source(style_of(bracket, &inner))
             };
             read_in(alloc, form, &inner)
         }
+    }
+}
+
+/// The form of a text with columns, a literal or a name, in which it is read as it is.
+pub(crate) fn layout_of(text: &[u8]) -> Option<Form>
+    ensures { result ≡ layout_of text.now }
+{
+    match columns_of(text) {
+        Some(line) => Some(column_form(line)),
+        None => named_form(text),
+    }
+}
+
+/// The form of a text with a literal or a name.
+fn named_form(text: &[u8]) -> Option<Form>
+    ensures { result ≡ named_form text.now (literal_of text.now) }
+{
+    match literal_of(text) {
+        Some(literal) => Some(Form::Literal(first_character(literal))),
+        None => {
+            if is_named(at_start(text)) {
+                Some(Form::Named)
+            } else {
+                None
+            }
+        }
+    }
+}
+
+/// The first character of a text.
+fn first_character(text: &[u8]) -> u8
+    ensures { result ≡ slice_index text.now 0 }
+{
+    match text {
+        [c, ..] => *c,
+        [] => 0,
     }
 }
 

@@ -2,13 +2,15 @@
 ghost use Rattle.std.specs.Prelude.{◌≡◌, IfErr, IfOk, false, slice_index};
 ghost use Rattle.usb_text.specs.Columns.{after_all};
 ghost use Rattle.usb_text.specs.SourceItems.{is_decimal, is_quote};
-ghost use Rattle.usb_text.specs.Labels.{after_dot, are_pairs, begins_declaration, begins_hexadecimal, begins_name, begins_pairs, begins_two_digits, declares, ends_declaration, is_beyond_digits, is_comma, is_declaration, goes_on_below, begins_literal, is_directive, is_either_case, is_in_directive, is_label, is_of_radix, is_radix_letter, names_bytes, next_part, part_at, part_of_line, shown_part, unlabelled};
+ghost use Rattle.usb_text.specs.Labels.{after_dot, are_pairs, begins_declaration, begins_hexadecimal, begins_name, begins_pairs, begins_two_digits, declares, ends_declaration, is_beyond_digits, is_comma, is_declaration, goes_on_below, is_directive, is_either_case, is_in_directive, is_label, is_of_radix, is_radix_letter, names_bytes, next_part, part_at, part_of_line, shown_part, unlabelled};
 ghost use Rattle.usb_text.specs.Columns.{is_blank};
 
 use crate::column::{after_blanks, after_hex_digits, after_one, begins_blank, is_blank};
-use crate::hex_text::{HexFault, keep};
+use crate::hex_text::HexFault;
 use crate::numbers::digit;
-use crate::source_item::{begins_escape, begins_line_end, is_decimal, is_letter, is_quote};
+use crate::reading::keep;
+use crate::source_item::begins_escape;
+use crate::symbol::{begins_line_end, is_decimal, is_letter, is_quote};
 use std::alloc::Global;
 
 /// What a character of a text is in.
@@ -79,7 +81,7 @@ fn begins_pairs(text: &[u8]) -> bool
 }
 
 /// Whether two bytes with a blank between them are at the start of a text.
-fn are_pairs(text: &[u8]) -> bool
+pub(crate) fn are_pairs(text: &[u8]) -> bool
     ensures { result ≡ are_pairs is_blank text.now }
 {
     match text {
@@ -207,12 +209,11 @@ fn begins_radix_letter(text: &[u8]) -> bool
 fn begins_declaration(text: &[u8]) -> bool
     ensures { result ≡ begins_declaration text.now }
 {
-    let start = after_blanks(text);
-    begins_literal(start) || (!begins_decimal(start) && is_declaration(text))
+    !begins_decimal(after_blanks(text)) && is_declaration(text)
 }
 
 /// Whether a decimal digit is at the start of a text.
-fn begins_decimal(text: &[u8]) -> bool
+pub(crate) fn begins_decimal(text: &[u8]) -> bool
     ensures { result ≡ is_decimal (slice_index text.now 0) }
 {
     match text {
@@ -246,16 +247,6 @@ fn is_declaration(text: &[u8]) -> bool
     false
 }
 
-/// Whether `b'\x` is at the start of a text.
-fn begins_literal(text: &[u8]) -> bool
-    ensures { result ≡ begins_literal text.now }
-{
-    match text {
-        [b, quote, rest @ ..] => *b == b'b' && is_quote(*quote) && begins_escape(rest),
-        _ => false,
-    }
-}
-
 /// Whether the string of a declaration begins in the next line.
 fn goes_on_below(named: bool, last: u8, rest: &[u8]) -> bool
     ensures { result ≡ goes_on_below named last rest.now }
@@ -273,7 +264,7 @@ fn declares(named: bool, last: u8, text: &[u8]) -> bool
 }
 
 /// Whether the character is in no declaration before a string.
-fn ends_declaration(c: u8) -> bool
+pub(crate) fn ends_declaration(c: u8) -> bool
     ensures { result ≡ ends_declaration c }
 {
     c == b'\\' || c == b',' || c == b'{'

@@ -8,9 +8,10 @@
 //! - [`write_all`] writes bytes to a writer that may take a part of them at a time; [`OutFault`] is why it failed
 //!   (`specs/Output.antt`).
 //! - [`parse`] gives the bytes of a hexadecimal text as people copy it: digits alone or with marks and commas, the
-//!   columns of dumps and debuggers (`specs/HexText.antt`, `specs/Columns.antt`), or the source of a program
-//!   (`specs/Comments.antt`, `specs/Labels.antt`, `specs/Brackets.antt`, `specs/SourceItems.antt`); or the line and the column at which it
-//!   is none (`specs/Hexadecimal.antt`). [`put_stop`] says that in words (`specs/Stops.antt`).
+//!   columns of dumps and debuggers (`specs/HexText.antt`, `specs/Columns.antt`), literals (`specs/Literals.antt`), or the source
+//!   of a program (`specs/Comments.antt`, `specs/Labels.antt`, `specs/Brackets.antt`, `specs/SourceItems.antt`); or the line and the
+//!   column at which it is none (`specs/Hexadecimal.antt`), as where two readings would differ (`specs/TwoReadings.antt`). [`put_stop`]
+//!   says that in words (`specs/Stops.antt`).
 #![tactic(auto)]
 
 mod bracket;
@@ -20,18 +21,25 @@ mod comment;
 mod digits;
 mod hex_text;
 mod hexadecimal;
+mod in_order;
 mod label;
 mod laws;
 mod lines;
+mod literal;
+mod named;
 mod numbers;
+mod offset;
 mod output;
 mod page;
+mod reading;
 mod shown;
 mod source_item;
 mod stop;
+mod symbol;
 #[cfg(test)]
 mod tests;
 mod text;
+mod two_readings;
 
 pub use characters::{is_plain, put_units, put_units_in};
 pub use digits::digits_of;

@@ -1,12 +1,13 @@
 //! The items of a text that has bytes as the source of a program or another text has them.
 ghost use Rattle.std.specs.Prelude.{◌≡◌, ◌<◌, ◌≤◌, IfSome, MatchOption, None, Some, length};
 ghost use Rattle.std.specs.List.{list_all};
-ghost use Rattle.usb_text.specs.SourceItems.{after_backslash, decimal_item, decimals, ended_number, escape, escaped_item, loose_item, number, one_digit, pair_item, prefixed_item, separated_item, short_number, source_item, suffixed_item};
-ghost use Rattle.usb_text.specs.SourceItems.{after_prefix, after_separator, after_suffix, after_width, begins_escape, begins_line_end, begins_word, closing_item, ends_suffix, goes_on, is_closing, is_decimal, is_letter, is_line_end, is_of_word, is_parting, is_quote};
+ghost use Rattle.usb_text.specs.SourceItems.{after_backslash, begins_prefix, decimal_item, decimals, ended_number, escape, escaped_item, loose_item, number, one_digit, pair_item, precedes_number, prefixed_item, separated_item, short_number, source_item, suffixed_item};
+ghost use Rattle.usb_text.specs.SourceItems.{after_prefix, after_separator, after_suffix, after_width, begins_escape, closing_item, ends_suffix, goes_on, is_closing, is_parting};
 
-use crate::column::begins_digit;
+use crate::column::{after_blanks, begins_blank, begins_digit};
 use crate::hex_text::is_gap;
 use crate::numbers::{byte_of, digit};
+use crate::symbol::{begins_word, is_decimal, is_letter, is_line_end, is_quote};
 
 /// How a text without columns has its bytes.
 #[derive(Clone, Copy, Debug, PartialEq, Eq, Hash)]
@@ -127,12 +128,26 @@ fn after_prefix(c: u8, rest: &[u8]) -> Option<&[u8]>
     }
 }
 
+/// Whether blanks and a number with a prefix are at the start of a text.
+fn precedes_number(text: &[u8]) -> bool
+    ensures { result ≡ precedes_number text.now }
+{
+    begins_blank(text) && begins_prefix(after_blanks(text))
+}
+
+/// Whether a prefix is at the start of a text.
+fn begins_prefix(text: &[u8]) -> bool
+    ensures { result ≡ begins_prefix text.now }
+{
+    matches!(text, [b'$', ..] | [b'0', b'x' | b'X', ..])
+}
+
 /// The byte of one decimal digit.
 fn one_digit(c: u8, rest: &[u8]) -> Option<(Option<u8>, &[u8])>
     ensures is { MatchOption result (one_digit c rest.now ≡ None) (λ p. one_digit c rest.now ≡ Some (p.0, p.1.now)) }
     ensures less { IfSome result (λ p. length p.1.now ≤ length rest.now) }
 {
-    if is_decimal(c) && !begins_word(rest) {
+    if is_decimal(c) && !(begins_word(rest) || precedes_number(rest)) {
         Some((Some(c - b'0'), rest))
     } else {
         None
@@ -317,7 +332,7 @@ pub(crate) fn is_parting(c: u8) -> bool
 }
 
 /// The item of a closing parenthesis: all that is left, where nothing else is in it.
-fn closing_item(rest: &[u8]) -> Option<(Option<u8>, &[u8])>
+pub(crate) fn closing_item(rest: &[u8]) -> Option<(Option<u8>, &[u8])>
     ensures is { MatchOption result (closing_item rest.now ≡ None) (λ p. closing_item rest.now ≡ Some (p.0, p.1.now)) }
     ensures less { IfSome result (λ p. length p.1.now ≤ length rest.now) }
 {
@@ -340,55 +355,4 @@ fn is_closing(c: u8) -> bool
     ensures { result ≡ is_closing c }
 {
     c == b')' || is_parting(c)
-}
-
-/// Whether the end of a line is at the start of a text.
-pub(crate) fn begins_line_end(text: &[u8]) -> bool
-    ensures { result ≡ begins_line_end text.now }
-{
-    match text {
-        [c, ..] => is_line_end(*c),
-        [] => false,
-    }
-}
-
-fn is_line_end(c: u8) -> bool
-    ensures { result ≡ is_line_end c }
-{
-    c == b'\n' || c == b'\r'
-}
-
-pub(crate) fn is_quote(c: u8) -> bool
-    ensures { result ≡ is_quote c }
-{
-    c == b'"' || c == b'\''
-}
-
-pub(crate) fn is_decimal(c: u8) -> bool
-    ensures { result ≡ is_decimal c }
-{
-    c >= b'0' && c <= b'9'
-}
-
-pub(crate) fn is_letter(c: u8) -> bool
-    ensures { result ≡ is_letter c }
-{
-    (c >= b'A' && c <= b'Z') || (c >= b'a' && c <= b'z') || c == b'_'
-}
-
-/// Whether the character may be in a number or a name.
-fn is_of_word(c: u8) -> bool
-    ensures { result ≡ is_of_word c }
-{
-    is_decimal(c) || is_letter(c)
-}
-
-/// Whether such a character is at the start of a text.
-fn begins_word(text: &[u8]) -> bool
-    ensures { result ≡ begins_word text.now }
-{
-    match text {
-        [c, ..] => is_of_word(*c),
-        [] => false,
-    }
 }

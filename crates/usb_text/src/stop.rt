@@ -1,12 +1,13 @@
 //! The line that says why a text is not read as hexadecimal.
 ghost use Rattle.std.specs.Prelude.{◌≡◌, ◌++◌, OnOk, codes};
 ghost use Rattle.usb_text.specs.Numbers.{byte_code};
-ghost use Rattle.usb_text.specs.Stops.{character_words, found_words, is_some_source, is_utf16, line_words, place_line, place_words, refused_words, stop_line};
+ghost use Rattle.usb_text.specs.Stops.{character_words, found_words, is_ambiguous, is_some_source, is_utf16, line_words, place_line, place_words, refused_words, stop_line, text_line};
 
-use crate::hex_text::HexFault;
-use crate::hexadecimal::is_source;
+use crate::hex_text::{Form, HexFault};
+use crate::hexadecimal::{is_source, layout_of};
 use crate::numbers::put_byte_code;
 use crate::text::Text;
+use crate::two_readings::has_two_readings;
 use std::alloc::AllocError;
 
 /// Puts the line that says why the bytes are no hexadecimal text: `? not hexadecimal text: line 1 column 15 has '/'`.
@@ -28,11 +29,29 @@ pub fn put_stop(text: &mut Text, bytes: &[u8], fault: HexFault) -> Result<(), Al
             if is_utf16(bytes) {
                 put_utf16(text)
             } else if is_some_source(bytes) {
-                put_place_line(text, line, column, found)
+                put_text_line(text, bytes, line, column, found)
             } else {
                 Ok(())
             }
         }
+    }
+}
+
+/// Puts the line of bytes that are a text.
+fn put_text_line(
+    text: &mut Text,
+    bytes: &[u8],
+    line: usize,
+    column: usize,
+    found: Option<u8>,
+) -> Result<(), AllocError>
+    ensures { OnOk result (text.new ≡ text.old ++ text_line bytes.now line column found) }
+{
+    if is_ambiguous(bytes) {
+        put_refused(text)?;
+        text.put("it has two readings\n")
+    } else {
+        put_place_line(text, line, column, found)
     }
 }
 
@@ -120,6 +139,16 @@ fn put_code(text: &mut Text, c: u8) -> Result<(), AllocError>
 {
     text.put(" has ")?;
     put_byte_code(text, c)
+}
+
+/// Whether two readings would take a text differently.
+fn is_ambiguous(text: &[u8]) -> bool
+    ensures { result ≡ is_ambiguous text.now }
+{
+    match layout_of(text) {
+        None => has_two_readings(text),
+        Some(form) => matches!(form, Form::Words),
+    }
 }
 
 /// Whether bytes begin with the byte order mark of UTF-16.

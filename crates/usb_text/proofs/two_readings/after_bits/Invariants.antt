@@ -1,7 +1,7 @@
 use Rattle.std.proofs.Common.{◌≡◌, ◌≤◌, length}
-use Rattle.usb_text.specs.HexText.{is_binary}
+use Rattle.usb_text.specs.TwoReadings.{is_binary}
 use Rattle.usb_text.specs.Columns.{after_all}
-use Rattle.usb_text.proofs.hex_text.after_bits.Given as goal
+use Rattle.usb_text.proofs.two_readings.after_bits.Given as goal
 
 abbrev pub invariant-loop-rest : goal.invariant-loop-rest
 invariant-loop-rest l = (after_all is_binary l.rest ≡ after_all is_binary l.text) × (length l.rest ≤ length l.text)

@@ -1,6 +1,6 @@
 use Rattle.std.proofs.Common.{◌≡◌, ◌≤◌, length}
 use Rattle.usb_text.specs.Columns.{after_all, is_in_name}
-use Rattle.usb_text.proofs.column.after_in_name.Given as goal
+use Rattle.usb_text.proofs.offset.after_in_name.Given as goal
 
 abbrev pub invariant-loop-rest : goal.invariant-loop-rest
 invariant-loop-rest l = (after_all is_in_name l.rest ≡ after_all is_in_name l.text) × (length l.rest ≤ length l.text)

@@ -1,0 +1,109 @@
+//! Whether the characters of lines are those of their bytes.
+ghost use Rattle.std.specs.Prelude.{◌≡◌, false, slice_index};
+ghost use Rattle.usb_text.specs.Columns.{are_in_order, characters_of, colon_form, is_visible, line_order, order_of, tells};
+
+use crate::column::{after_one, has_three_spaces, has_two_spaces, next_line};
+use crate::hex_text::Form;
+use crate::numbers::{byte_of, digit};
+use crate::offset::after_offset;
+
+/// The lines at most whose characters are compared.
+const LINES: usize = 16;
+
+/// The form of a text with a colon after its first offset.
+pub(crate) fn colon_form(text: &[u8]) -> Form
+    ensures { result ≡ colon_form text.now }
+{
+    if are_in_order(LINES, text) {
+        Form::Colons
+    } else {
+        Form::Words
+    }
+}
+
+/// Whether the first visible character, in so many lines at most, is that of its byte.
+#[tactic(auto, using(crate::proofs::InOrder::next_in_order), unfolding(crate::specs::Columns::are_in_order))]
+fn are_in_order(lines: usize, text: &[u8]) -> bool
+    ensures { result ≡ are_in_order lines text.now }
+{
+    if lines == 0 {
+        return true;
+    }
+    match line_order(after_offset(text)) {
+        Some(is) => is,
+        None => are_in_order(lines - 1, next_line(text)),
+    }
+}
+
+/// Whether the first visible character of a line is that of its byte.
+fn line_order(line: &[u8]) -> Option<bool>
+    ensures { result ≡ line_order line.now }
+{
+    order_of(line, characters_of(line))
+}
+
+/// What is left of a line after its first two spaces. Nothing is where there are more.
+#[tactic(auto, unfolding(crate::specs::Columns::characters_of))]
+fn characters_of(text: &[u8]) -> &[u8]
+    ensures { result.now ≡ characters_of text.now }
+{
+    let mut rest = text;
+    while let [c, tail @ ..] = rest {
+        if *c == b'\n' || has_three_spaces(rest) {
+            return &[];
+        }
+        if has_two_spaces(rest) {
+            return after_one(tail);
+        }
+        rest = tail;
+    }
+    rest
+}
+
+/// The same of a line with these characters.
+#[tactic(auto, unfolding(crate::specs::Columns::order_of))]
+fn order_of(text: &[u8], characters: &[u8]) -> Option<bool>
+    ensures { result ≡ order_of false 0 text.now characters.now }
+{
+    let mut begun = false;
+    let mut high = 0;
+    let mut rest = text;
+    let mut shown = characters;
+    while let [c, tail @ ..] = rest {
+        if *c == b'\n' || has_two_spaces(rest) {
+            return None;
+        }
+        if begun {
+            if let Some(is) = tells(byte_of(high, *c), shown) {
+                return Some(is);
+            }
+            begun = false;
+            shown = after_one(shown);
+        } else {
+            begun = digit(*c).is_some();
+        }
+        high = *c;
+        rest = tail;
+    }
+    None
+}
+
+/// Whether the character at the start of a text is this byte, if it is visible.
+fn tells(byte: Option<u8>, characters: &[u8]) -> Option<bool>
+    ensures { result ≡ tells byte (slice_index characters.now 0) }
+{
+    match byte {
+        None => None,
+        Some(byte) => match characters {
+            [c, ..] if is_visible(*c) => Some(*c == byte),
+            _ => None,
+        },
+    }
+}
+
+/// Whether a character is that of one byte alone.
+fn is_visible(c: u8) -> bool
+    ensures { result ≡ is_visible c }
+{
+    c > 32 && c < 127 && c != b'.'
+}

@@ -1,0 +1,108 @@
+//! Hexadecimal texts of a form, read item by item.
+ghost use Rattle.std.specs.Prelude.{◌≡◌, ◌≤◌, ◌++◌, ◌⊎◌, IfErr, IfOk, OnOk, length};
+ghost use Rattle.usb_text.specs.HexText.{bytes_of, in_line};
+ghost use Rattle.usb_text.specs.Hexadecimal.{FaultyIn, HexIn, ReadsText};
+
+use crate::column::columns_of;
+use crate::hex_text::{Form, HexFault, fault_at, free_item, item};
+use crate::literal::after_opening;
+use crate::named::after_label;
+use crate::offset::after_offset;
+use std::alloc::Global;
+
+/// What is left after the start of the first line with bytes.
+fn in_line(form: Form, text: &[u8]) -> &[u8]
+    ensures is { result.now ≡ in_line form text.now }
+    ensures within { length result.now ≤ length text.now }
+{
+    match form {
+        Form::Plain | Form::Words | Form::Source(_) => text,
+        Form::Named => after_label(text),
+        Form::Literal(_) => after_opening(text),
+        Form::Colons | Form::Spaces | Form::Rows | Form::Groups | Form::Addresses(_) => {
+            match columns_of(text) {
+                None => text,
+                Some(line) => after_offset(line),
+            }
+        }
+    }
+}
+
+/// The bytes of a text in a form, one at least.
+pub(crate) fn read_in(alloc: Global, form: Form, text: &[u8]) -> Result<Vec<u8>, HexFault>
+    ensures ok { IfOk result (λ bytes. HexIn form text.now bytes.items) }
+    ensures err { IfErr result (λ fault. (fault ≡ HexFault.Memory) ⊎ FaultyIn form text.now fault) }
+{
+    match form {
+        Form::Plain => read_freely(alloc, text),
+        _ => read_items(alloc, form, text),
+    }
+}
+
+/// The same of a text without columns, which is read twice as fast so.
+#[tactic(auto, using(crate::proofs::Items::freely_from, crate::proofs::Items::freely_on, crate::proofs::Items::freely_to))]
+fn read_freely(alloc: Global, text: &[u8]) -> Result<Vec<u8>, HexFault>
+    ensures ok { IfOk result (λ bytes. HexIn Form.Plain text.now bytes.items) }
+    ensures err { IfErr result (λ fault. (fault ≡ HexFault.Memory) ⊎ FaultyIn Form.Plain text.now fault) }
+{
+    let mut bytes = Vec::new(alloc);
+    let mut rest = text;
+    'items: loop {
+        match free_item(bytes.len(), rest) {
+            Some((byte, tail)) => {
+                keep(&mut bytes, byte)?;
+                rest = tail;
+            }
+            None => return ended(Form::Plain, text, rest, bytes),
+        }
+    }
+}
+
+/// The bytes of a text in a form, item by item.
+#[tactic(auto, using(crate::proofs::Items::leads_from, crate::proofs::Items::leads_on, crate::proofs::Items::leads_to))]
+fn read_items(alloc: Global, form: Form, text: &[u8]) -> Result<Vec<u8>, HexFault>
+    ensures ok { IfOk result (λ bytes. HexIn form text.now bytes.items) }
+    ensures err { IfErr result (λ fault. (fault ≡ HexFault.Memory) ⊎ FaultyIn form text.now fault) }
+{
+    let mut bytes = Vec::new(alloc);
+    let mut rest = in_line(form, text);
+    'items: loop {
+        match item(form, bytes.len(), rest) {
+            Some((byte, tail)) => {
+                keep(&mut bytes, byte)?;
+                rest = tail;
+            }
+            None => return ended(form, text, rest, bytes),
+        }
+    }
+}
+
+/// Adds the byte of an item, if it is one.
+pub(crate) fn keep(bytes: &mut Vec<u8>, byte: Option<u8>) -> Result<(), HexFault>
+    ensures ok { OnOk result (bytes.new.items ≡ bytes.old.items ++ bytes_of byte) }
+    ensures err { IfErr result (λ fault. fault ≡ HexFault.Memory) }
+{
+    match byte {
+        None => Ok(()),
+        Some(byte) => match bytes.push(byte) {
+            Ok(()) => Ok(()),
+            Err(_) => Err(HexFault::Memory),
+        },
+    }
+}
+
+/// What is answered where no item is left: the bytes, if nothing else is left and there are some.
+fn ended(form: Form, text: &[u8], rest: &[u8], bytes: Vec<u8>) -> Result<Vec<u8>, HexFault>
+    requires read { ReadsText form text.now bytes.items rest.now }
+    requires within { length rest.now ≤ length text.now }
+    ensures ok { IfOk result (λ bytes. HexIn form text.now bytes.items) }
+    ensures err { IfErr result (FaultyIn form text.now) }
+{
+    if bytes.is_empty() {
+        return Err(fault_at(text, rest));
+    }
+    match rest {
+        [] => Ok(bytes),
+        _ => Err(fault_at(text, rest)),
+    }
+}
