@@ -170,6 +170,19 @@ struct Place<'a> {
     /// The associations of the set, and its descriptors after this one.
     associations: &'a [&'a [u8]],
     later: &'a [u8],
+    /// Where the last interface of each number starts in the set; it is nowhere at 0.
+    last: &'a [u16; 256],
+    start: usize,
+}
+
+impl Place<'_> {
+    fn has(&self, number: u8) -> bool {
+        self.last[usize::from(number)] > 0
+    }
+
+    fn follows(&self, number: u8) -> bool {
+        usize::from(self.last[usize::from(number)]) > self.start
+    }
 }
 
 struct Explainer<'a> {
@@ -313,6 +326,7 @@ impl<'a> Explainer<'a> {
             self.text.end();
         }
         self.release_remark(usb);
+        self.device_class_remark(codes[0]);
         self.release_field(0, "bcdUSB", usb);
         self.class_fields(0, ["bDeviceClass", "bDeviceSubClass", "bDeviceProtocol"], codes, None);
         let text = self.field(0, "bMaxPacketSize0");
@@ -332,9 +346,17 @@ impl<'a> Explainer<'a> {
         self.number_field(0, "bNumConfigurations", item[17]);
     }
 
-    fn release_remark(&mut self, usb: u16) {
-        if !matches!(usb, 0x0100 | 0x0110 | 0x0200 | 0x0201 | 0x0210 | 0x0250 | 0x0300 | 0x0310 | 0x0320) {
+    fn release_remark(&mut self, usb: u16) -> bool {
+        let is_none = !matches!(usb, 0x0100 | 0x0110 | 0x0200 | 0x0201 | 0x0210 | 0x0250 | 0x0300 | 0x0310 | 0x0320);
+        if is_none {
             self.remark(0).put("bcdUSB is no release of USB\n");
+        }
+        is_none
+    }
+
+    fn device_class_remark(&mut self, class: u8) {
+        if matches!(class, 1 | 3 | 5..=8 | 0x0a | 0x0b | 0x0d..=0x10) {
+            self.remark(0).put("this class is one of interfaces, and not of devices\n");
         }
     }
 
@@ -355,7 +377,10 @@ impl<'a> Explainer<'a> {
             put_causes(&mut self.text, &[packet_cause(item[7], false, false), subclass_cause(codes), reserved]);
             self.text.end();
         }
-        self.release_remark(usb);
+        if !self.release_remark(usb) && usb < 0x0200 {
+            self.remark(0).put("bcdUSB of a qualifier is 2.00 at least\n");
+        }
+        self.device_class_remark(codes[0]);
         self.release_field(0, "bcdUSB", usb);
         self.class_fields(0, ["bDeviceClass", "bDeviceSubClass", "bDeviceProtocol"], codes, None);
         self.number_field(0, "bMaxPacketSize0", item[7]);
@@ -405,6 +430,8 @@ impl<'a> Explainer<'a> {
         let speed = self.set_speed(set);
         let bindings: Vec<&[u8]> = cut(set).map(|it| it.1).filter(|it| it[1] == ASSOCIATION).collect();
         let associations = bindings.as_slice();
+        let mut last = [0; 256];
+        cut(set).filter(|(_, it)| it[1] == INTERFACE).for_each(|(start, it)| last[usize::from(it[2])] = start as u16);
         let mut place = Place {
             part,
             set: number,
@@ -415,10 +442,12 @@ impl<'a> Explainer<'a> {
             interface: None,
             associations,
             later: set,
+            last: &last,
+            start: 0,
         };
         let (mut owner, mut settings, mut associations) = (1, 0, 0);
         for (start, item) in cut(set) {
-            place.later = &set[start + item.len()..];
+            (place.start, place.later) = (start, &set[start + item.len()..]);
             match item[1] {
                 CONFIGURATION | OTHER_SPEED => self.of_configuration(item, at, place),
                 INTERFACE => {
@@ -434,7 +463,7 @@ impl<'a> Explainer<'a> {
                 }
                 ASSOCIATION => {
                     owner = 1;
-                    self.of_association(item, at + start, (part, number, associations, 0));
+                    self.of_association(item, at + start, Place { setting: associations, endpoint: 0, ..place });
                     associations += 1;
                 }
                 _ => self.of_raw(item, at + start, owner + 1, place),
@@ -507,11 +536,11 @@ impl<'a> Explainer<'a> {
         self.tail_field(1, &item[9..]);
     }
 
-    fn of_association(&mut self, item: &[u8], at: usize, place: (Part, usize, usize, usize)) {
+    fn of_association(&mut self, item: &[u8], at: usize, place: Place) {
         let (first, count, codes) = (usize::from(item[2]), usize::from(item[3]), &item[4..7]);
         let text = self.heading(2);
         text.put("association ");
-        text.number(place.2);
+        text.number(place.setting);
         text.put(if count == 0 { " of no interface" } else { " of interface" });
         if count > 0 {
             text.put(if count > 1 { "s " } else { " " });
@@ -526,12 +555,15 @@ impl<'a> Explainer<'a> {
         self.end_heading(at, item.len());
         let binds = count > 0;
         let words = if binds { "it binds an interface that the set hasn't" } else { "it binds no interface" };
-        self.finding(2, 13, place, words);
+        self.finding(2, 13, (place.part, place.set, place.setting, 0), words);
         if codes[0] == 0 {
             self.remark(2).put("class 0x00 is not allowed\n");
         }
         if self.qualifier.or(self.device).is_some_and(|it| it[4..7] != [0xef, 2, 1]) {
             self.remark(2).put("a device with associations is of class 0xef, subclass 0x02, protocol 0x01\n");
+        }
+        if place.has(item[2]) && !place.follows(item[2]) {
+            self.remark(2).put("an association stands before its interfaces\n");
         }
         self.number_field(2, "bFirstInterface", item[2]);
         self.number_field(2, "bInterfaceCount", item[3]);
@@ -718,7 +750,7 @@ impl<'a> Explainer<'a> {
         if attributes & 3 == 1 && size != 0 && place.speed != Speed::Super {
             self.remark(3).put("an isochronous packet is 0 bytes in alternate setting 0\n");
         }
-        if size == 0 && !cut(place.later).any(|(_, it)| it[1] == INTERFACE && it[2] == number) {
+        if size == 0 && !place.follows(number) {
             self.remark(3).put("packets of 0 bytes hold no data, and no other setting follows\n");
         }
     }
@@ -726,8 +758,19 @@ impl<'a> Explainer<'a> {
     /// What an interface lacks among its descriptors.
     fn interface_remark(&mut self, codes: &[u8], later: &[u8]) {
         let mut own = cut(later).map(|(_, it)| it).take_while(|it| it[1] != INTERFACE);
+        if codes[0] == 3 {
+            let is_in = |it: &[u8]| it[1] == ENDPOINT && it[3] & 3 == 3 && it[2] & 0x80 != 0;
+            let (mut has_hid, mut has_in) = (false, false);
+            own.for_each(|it| (has_hid, has_in) = (has_hid || it[1] == 0x21, has_in || is_in(it)));
+            if !has_hid {
+                self.remark(2).put("a HID interface has a HID descriptor\n");
+            }
+            if !has_in {
+                self.remark(2).put("a HID interface has an interrupt IN endpoint\n");
+            }
+            return;
+        }
         let words = match *codes {
-            [3, ..] if own.all(|it| it[1] != 0x21) => "a HID interface has a HID descriptor\n",
             [8, _, 0x50] if !has_both_directions(&mut own) => {
                 "a bulk-only interface has a bulk endpoint of each direction\n"
             }
@@ -740,7 +783,7 @@ impl<'a> Explainer<'a> {
     }
 
     /// What is wrong with a class descriptor by its own bytes.
-    fn raw_remarks(&mut self, item: &[u8], depth: usize, codes: [u8; 3]) {
+    fn raw_remarks(&mut self, item: &[u8], depth: usize, codes: [u8; 3], place: Place) {
         match (codes[0], item[1]) {
             (3, 0x21) => {
                 let right = 6 + 3 * usize::from(item.get(5).copied().unwrap_or(0));
@@ -752,14 +795,20 @@ impl<'a> Explainer<'a> {
                     text.number(item.len());
                     text.end();
                 }
-                if item.get(6..9) == Some(&[0x22, 0, 0]) {
-                    self.remark(depth).put("the report descriptor has 0 bytes\n");
+                match item.get(6..9) {
+                    Some([0x22, 0, 0]) => self.remark(depth).put("the report descriptor has 0 bytes\n"),
+                    None | Some([0x22, ..]) => {}
+                    _ => self.remark(depth).put("a HID descriptor names its report descriptor first\n"),
                 }
                 if depth == 4 {
                     self.remark(depth).put("a HID descriptor stands before the endpoints\n");
                 }
+                self.class_release_remark(depth, item.get(2..4));
             }
             (2, 0x24) => {
+                if depth == 4 {
+                    self.remark(depth).put("a functional descriptor stands before the endpoints\n");
+                }
                 let least = match item.get(2) {
                     Some(0 | 1 | 6) => 5,
                     Some(2) => 4,
@@ -772,9 +821,29 @@ impl<'a> Explainer<'a> {
                     text.put(" bytes, and bLength is ");
                     text.number(item.len());
                     text.end();
+                } else if item.get(2) == Some(&6) {
+                    self.union_remark(depth, &item[3..], place);
+                }
+                if item.len() >= 5 && item[2] == 0 {
+                    self.class_release_remark(depth, item.get(3..5));
                 }
             }
             _ => {}
+        }
+    }
+
+    fn class_release_remark(&mut self, depth: usize, release: Option<&[u8]>) {
+        if release.is_some_and(|it| !(1..0x10).contains(&it[1])) {
+            self.remark(depth).put("this is no release: its bytes may be swapped\n");
+        }
+    }
+
+    fn union_remark(&mut self, depth: usize, named: &[u8], place: Place) {
+        if let Some(number) = named.iter().find(|it| !place.has(**it)) {
+            let text = self.remark(depth);
+            text.put("it names interface ");
+            text.number(usize::from(*number));
+            text.put(", which the set hasn't\n");
         }
     }
 
@@ -793,7 +862,7 @@ impl<'a> Explainer<'a> {
             self.header_remark(item, depth, codes, place.later);
         }
         if let Some(codes) = place.codes {
-            self.raw_remarks(item, depth, codes);
+            self.raw_remarks(item, depth, codes, place);
         }
         self.field(depth, "bDescriptorType").byte(item[1]);
         self.text.end();
@@ -903,6 +972,9 @@ impl<'a> Explainer<'a> {
         }
         let mut start = at + 2 + 2 * strings.languages.len();
         self.end_heading(at, start - at);
+        if strings.languages.iter().any(|it| it >> 8 & 3 != 0 || it >> 10 == 0) {
+            self.remark(0).put("a language has bits 9 to 8 zero, and not all of bits 15 to 10\n");
+        }
         let named = named(file).to_vec();
         let places = strings.languages.iter().flat_map(|language| named.iter().map(move |it| (*language, *it)));
         for ((language, index), units) in places.zip(&strings.texts) {
@@ -913,6 +985,9 @@ impl<'a> Explainer<'a> {
             self.text.put(": ");
             self.text.quoted(units);
             self.end_heading(start, 2 + 2 * units.len());
+            if units.last() == Some(&0) {
+                self.remark(0).put("a string isn't ended by a unit 0\n");
+            }
             start += 2 + 2 * units.len();
         }
     }

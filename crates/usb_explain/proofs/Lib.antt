@@ -9,6 +9,7 @@ pub mod EndpointsShown
 pub mod Brief
 pub mod rest
 pub mod Cuts
+pub mod Coming
 pub mod Tables
 pub mod Classes
 pub mod Open

@@ -1,9 +1,9 @@
 -- Where one stands at a descriptor, and behind it.
-use Rattle.std.proofs.Common.{◌≡◌, ◌≤◌, ℕ, ◌+◌, Bool, true, false, List, Option, refl, arith}
+use Rattle.std.proofs.Common.{◌≡◌, ◌≤◌, ℕ, ◌+◌, ◌-◌, Bool, true, false, List, Option, ap, length, refl, arith}
 use Rattle.usb_explain.specs.declared.role.Role.{Role}
 use Rattle.usb_explain.specs.declared.role.Role.TheVariants.{Device, Qualifier, Configuration, Association, Interface, Endpoint, Raw, Languages, Text}
 use Rattle.usb_explain.specs.declared.position.Position.{Position}
-use Rattle.usb_explain.specs.Positions.{moved, noted, position_at, with_set}
+use Rattle.usb_explain.specs.Positions.{moved, noted, position_after, position_at, with_set}
 use Rattle.usb_explain.specs.declared.speed.SetSpeed.{SetSpeed}
 use Rattle.usb_explain.specs.declared.standing.Standing.{Standing}
 use Rattle.usb_explain.specs.SetStart.{looked, surveyed}
@@ -31,6 +31,26 @@ noted_at Endpoint d p = refl
 noted_at Raw d p = refl
 noted_at Languages d p = refl
 noted_at Text d p = refl
+
+with_set_left : (is_other : Bool) (p : Position) → (with_set is_other p).left ≡ p.left
+with_set_left true p = refl
+with_set_left false p = refl
+
+noted_left : (role : Role) (d : List ℕ) (p : Position) → (noted role d p).left ≡ p.left
+unfolding noted
+noted_left Device d p = refl
+noted_left Qualifier d p = refl
+noted_left Configuration d p = with_set_left p.is_other p
+noted_left Association d p = refl
+noted_left Interface d p = refl
+noted_left Endpoint d p = refl
+noted_left Raw d p = refl
+noted_left Languages d p = refl
+noted_left Text d p = refl
+
+-- fewer bytes of the set are left behind it
+pub after_left : (role : Role) (d : List ℕ) (p : Position) → (position_after role d p).left ≡ p.left - length d
+after_left role d p = ap (λ k. k - length d) (noted_left role d p)
 
 -- coming to one doesn't move either
 pub same_at : (role : Role) (ahead : List ℕ) (p : Position) → (position_at role ahead p).at ≡ p.at

@@ -4,7 +4,7 @@ use Rattle.std.specs.List.{list_any, take_while}
 use Rattle.std.proofs.lemmas.List.Sums.{take_while-cons}
 use Rattle.usb_explain.specs.declared.setting_remark.Wanted.{Wanted}
 use Rattle.usb_explain.specs.Roles.{is_interface}
-use Rattle.usb_explain.specs.SettingRemarks.{has_setting, has_wanted, is_numbered, is_wanted, no_interface}
+use Rattle.usb_explain.specs.SettingRemarks.{has_wanted, is_wanted, no_interface}
 
 -- the next interface ends a setting
 ends_there : (d : List ℕ) (more : List (List ℕ)) → is_interface d ≡ true → take_while no_interface (d ∷ more) ≡ []
@@ -33,16 +33,3 @@ pub wanted_later : (what : Wanted) (ds more : List (List ℕ)) (d : List ℕ) �
 unfolding has_wanted
 wanted_later what ds more d step is other =
     rw step (ap (list_any (is_wanted what)) (goes_on d more is) ∙ ap (λ b. b || list_any (is_wanted what) (take_while no_interface more)) other)
-
-pub none_numbered : (number : ℕ) (ds : List (List ℕ)) → ds ≡ [] → has_setting number ds ≡ false
-unfolding has_setting
-none_numbered number ds none = rw none refl
-
-pub numbered_found : (number : ℕ) (ds more : List (List ℕ)) (d : List ℕ) → ds ≡ d ∷ more → is_numbered number d ≡ true → has_setting number ds ≡ true
-unfolding has_setting
-numbered_found number ds more d step found = rw step (ap (λ b. b || list_any (is_numbered number) more) found)
-
-pub numbered_later : (number : ℕ) (ds more : List (List ℕ)) (d : List ℕ) → ds ≡ d ∷ more → is_numbered number d ≡ false
-    → has_setting number ds ≡ has_setting number more
-unfolding has_setting
-numbered_later number ds more d step other = rw step (ap (λ b. b || list_any (is_numbered number) more) other)

@@ -1,18 +1,17 @@
 -- What is gathered of a set, and its survey.
-use Rattle.std.proofs.Common.{◌≡◌, ◌<◌, ◌||◌, ℕ, Bool, true, false, List, [], ◌∷◌, length, map, Option, Some, None, refl, sym, ◌∙◌, arith, zero-add}
+use Rattle.std.proofs.Common.{◌≡◌, ◌<◌, ◌||◌, ℕ, Bool, true, false, List, [], ◌∷◌, length, if◌then◌else◌, map, replicate, slice_index, Option, Some, None, refl, sym, ap, ◌∙◌, arith, zero-add}
 use Rattle.std.proofs.Math.Bool.{or-false}
 use Rattle.std.specs.List.{list_any, range_with_len}
 use Rattle.std.specs.Option.{option_or}
-use Rattle.std.proofs.lemmas.List.{ext_get_or}
+use Rattle.std.proofs.lemmas.Bool.Decides.{nat_tests}
+use Rattle.std.proofs.lemmas.List.{ext_get_or, get_or-map, get_or-replicate, length-replicate}
 use Rattle.std.proofs.lemmas.List.FromFn.{get_or-map-range_with_len, length-map-range_with_len}
 use Rattle.usb_explain.specs.declared.speed_evidence.Evidence.{Evidence}
-use Rattle.usb_explain.specs.declared.survey.Gathering.{Gathering}
-use Rattle.usb_explain.specs.declared.survey.Survey.{Survey}
 use Rattle.usb_explain.specs.Bindings.{binding, bindings, bound_at}
 use Rattle.usb_explain.specs.InterfaceNumbers.{has_number, interface_numbers}
 use Rattle.usb_explain.specs.SettingRemarks.{has_setting, is_numbered}
-use Rattle.usb_explain.specs.SetSpeeds.{evidence_of, excludes_low, hints_low_or_full, is_companion, proves_full, proves_high, survey_of}
-use Rattle.usb_explain.specs.inside.Walking.{Hears, Gathers}
+use Rattle.usb_explain.specs.SetSpeeds.{Survey, evidence_of, excludes_low, hints_low_or_full, is_companion, proves_full, proves_high, survey_of}
+use Rattle.usb_explain.specs.inside.Walking.{Gathers, Hears, bound_cell, bound_first, bound_with, heard}
 
 -- the first of two, of which there is one alone
 or_none : (x : Option ℕ) → option_or x None ≡ x
@@ -27,8 +26,35 @@ whole_table all t len same =
     ext_get_or None t (map (λ n. binding n 0 all) (range_with_len 0 256)) (len ∙ sym (length-map-range_with_len (λ n. binding n 0 all) 0 256))
     (λ i within. sym (same i (omega (arith, len))) ∙ sym (get_or-map-range_with_len (λ n. binding n 0 all) 0 256 i i None (omega (arith, len)) (zero-add i)))
 
+-- what a cell says, in the table of all
+pub cell_at : (cells : List ℕ) (n : ℕ) → length cells ≡ 256 → n < 256 → bound_at (map bound_cell cells) n ≡ bound_cell (slice_index cells n)
+cell_at cells n len within = get_or-map bound_cell cells n 0 None (omega (arith, len))
+
+-- and after an association
+pub cell_bound : (cell association : ℕ) (binds : Bool) → association < 65535
+    → bound_cell (if binds then bound_first cell association else cell) ≡ option_or (bound_cell cell) (if binds then Some association else None)
+cell_bound cell association binds below = grind (arith, nat_tests)
+
+-- no descriptor was heard
+pub hears_none : (all : List (List ℕ)) → Hears all record { companion = false; high = false; full = false; above_low = false; slow = false } all
+hears_none all = record { companion = refl; high = refl; full = refl; above_low = refl; slow = refl }
+
+-- one was heard more
+heard_more : (p : List ℕ → Bool) (before : Bool) (d : List ℕ) (ds : List (List ℕ)) → before || list_any p (d ∷ ds) ≡ (before || p d) || list_any p ds
+heard_more p true d ds = refl
+heard_more p false d ds = refl
+
+pub hears_on : (all : List (List ℕ)) (e : Evidence) (d : List ℕ) (ds : List (List ℕ)) → Hears all e (d ∷ ds) → Hears all (heard d e) ds
+hears_on all e d ds h = record {
+  companion = h.companion ∙ heard_more is_companion e.companion d ds;
+  high = h.high ∙ heard_more proves_high e.high d ds;
+  full = h.full ∙ heard_more proves_full e.full d ds;
+  above_low = h.above_low ∙ heard_more excludes_low e.above_low d ds;
+  slow = h.slow ∙ heard_more hints_low_or_full e.slow d ds;
+}
+
 -- what was heard of all descriptors is what they say
-heard_all : (all : List (List ℕ)) (e : Evidence) → Hears all e [] → e ≡ evidence_of all
+pub heard_all : (all : List (List ℕ)) (e : Evidence) → Hears all e [] → e ≡ evidence_of all
 heard_all all e hears =
     let companion : list_any is_companion all ≡ e.companion = hears.companion ∙ or-false e.companion in
     let high : list_any proves_high all ≡ e.high = hears.high ∙ or-false e.high in
@@ -55,12 +81,38 @@ numbers_table all t len same =
     ext_get_or false t (map (λ n. has_setting n all) (range_with_len 0 256)) (len ∙ sym (length-map-range_with_len (λ n. has_setting n all) 0 256))
     (λ i within. sym (same i (omega (arith, len))) ∙ sym (get_or-map-range_with_len (λ n. has_setting n all) 0 256 i i false (omega (arith, len)) (zero-add i)))
 
+-- nothing was gathered
+pub gathers_none : (all : List (List ℕ)) → Gathers all record { companion = false; high = false; full = false; above_low = false; slow = false } (replicate 256 None) 0 (replicate 256 false) all
+gathers_none all = record {
+  cells = length-replicate {A = Option ℕ} 256 None;
+  evidence = hears_none all;
+  bindings = λ n within. sym (ap (λ x. option_or x (binding n 0 all)) (get_or-replicate 256 n None None within));
+  number_cells = length-replicate {A = Bool} 256 false;
+  numbers = λ n within. sym (ap (λ x. x || has_setting n all) (get_or-replicate 256 n false false within));
+}
+
+-- one descriptor more was gathered
+pub gathered_on : (all : List (List ℕ)) (e : Evidence) (table : List (Option ℕ)) (count : ℕ) (names : List Bool) (d : List ℕ) (ds : List (List ℕ)) → Gathers all e table count names (d ∷ ds)
+    → (table' : List (Option ℕ)) (count' : ℕ) (names' : List Bool)
+    → (length table ≡ 256 → length table' ≡ 256)
+    → ((n : ℕ) → n < 256 → (ds : List (List ℕ)) → bound_with table count n (d ∷ ds) ≡ bound_with table' count' n ds)
+    → (length names ≡ 256 → length names' ≡ 256)
+    → (length names ≡ 256 → (n : ℕ) → n < 256 → has_number names' n ≡ (has_number names n || is_numbered n d))
+    → Gathers all (heard d e) table' count' names' ds
+gathered_on all e table count names d ds gathers table' count' names' cells binds number_cells numbers = record {
+  cells = cells gathers.cells;
+  evidence = hears_on all e d ds gathers.evidence;
+  bindings = λ n within. gathers.bindings n within ∙ binds n within ds;
+  number_cells = number_cells gathers.number_cells;
+  numbers = λ n within. gathers.numbers n within ∙ numbers_on n d ds _ _ (numbers gathers.number_cells n within);
+}
+
 -- what was gathered of all descriptors is their survey
-pub gathered_all : (all : List (List ℕ)) (g : Gathering) → Gathers all g []
-    → ◌≡◌ {A = Survey} record { spoken = g.evidence; bindings = g.associations.bindings; interfaces = g.interfaces } (survey_of all)
+pub gathered_all : (all : List (List ℕ)) (e : Evidence) (table : List (Option ℕ)) (count : ℕ) (names : List Bool) → Gathers all e table count names []
+    → ◌≡◌ {A = Survey} record { spoken = e; bindings = table; interfaces = names } (survey_of all)
 unfolding survey_of
-gathered_all all g gathers =
-    let evidence : g.evidence ≡ evidence_of all = heard_all all g.evidence gathers.evidence in
-    let table : g.associations.bindings ≡ bindings all = whole_table all g.associations.bindings gathers.cells (λ n within. gathers.bindings n within ∙ or_none (bound_at g.associations.bindings n)) in
-    let numbers : g.interfaces ≡ interface_numbers all = numbers_table all g.interfaces gathers.number_cells (λ n within. gathers.numbers n within ∙ none_left n (has_number g.interfaces n)) in
+gathered_all all e table count names gathers =
+    let evidence : e ≡ evidence_of all = heard_all all e gathers.evidence in
+    let bound : table ≡ bindings all = whole_table all table gathers.cells (λ n within. gathers.bindings n within ∙ or_none (bound_at table n)) in
+    let numbers : names ≡ interface_numbers all = numbers_table all names gathers.number_cells (λ n within. gathers.numbers n within ∙ none_left n (has_number names n)) in
     cc

@@ -25,6 +25,12 @@ speed_of running s _ d = s.speed
 abbrev pub codes_of : Position → Option ClassCodes
 codes_of p = if p.settings == 0 then None else Some (record { class = p.class; subclass = p.subclass; protocol = p.protocol })
 
+-- the number of the interface that it is or, an association, names first; else of the interface that it follows
+abbrev pub interface_number : Position → Role → List ℕ → ℕ
+interface_number p Interface d = slice_index d 2
+interface_number p Association d = slice_index d 2
+interface_number p _ d = p.interface
+
 -- the depth of its heading
 unfoldable pub depth_of : Position → Role → ℕ
 depth_of p Configuration = 1

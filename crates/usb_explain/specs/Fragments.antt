@@ -1,6 +1,6 @@
 -- The explanation of a fragment: descriptors one after another, each as long as its first byte says (USB 2.0, 9.5), with no owner
 -- asked for; or a setup packet (9.3).
-use Rattle.std.specs.Prelude.{ℕ, ◌+◌, ◌/◌, ◌%◌, List, [], ◌∷◌, ◌++◌, length, drop, flat_map, slice_index, Bool, nat_le, ◌==◌, ◌&&◌, ◌||◌, Option, Some, None, not, unwrap_or, if◌then◌else◌, codes}
+use Rattle.std.specs.Prelude.{ℕ, ◌+◌, ◌/◌, ◌%◌, List, [], ◌∷◌, ◌++◌, length, drop, flat_map, slice_index, Bool, nat_le, ◌==◌, ◌&&◌, ◌||◌, Option, Some, None, false, not, unwrap_or, if◌then◌else◌, codes}
 use Rattle.std.specs.Option.{option_or}
 use Rattle.usb_fields.specs.Bytes.{little_endian_at}
 use Rattle.usb_file_data.specs.Likeness.{names_languages}
@@ -82,6 +82,7 @@ described_alone speed p d = record {
   associations = p.associations;
   association = None;
   missing = None;
+  follows = false;
   interface = option_or p.interface (class_alone d);
   device = None;
   string = 0;

@@ -1,5 +1,5 @@
 -- The outline of bytes: their descriptors one after another, each with all that is known of it at its place.
-use Rattle.std.specs.Prelude.{ℕ, zero, suc, List, [], ◌∷◌, length, map, take, drop, flat_map, slice_index, Option, unwrap_or}
+use Rattle.std.specs.Prelude.{ℕ, Bool, zero, suc, List, [], ◌∷◌, length, map, take, drop, flat_map, slice_index, Option, unwrap_or}
 use Rattle.std.specs.Option.{option_copied, option_map}
 use Rattle.usb_file_data.specs.declared.cause.Found.{Found}
 use Rattle.usb_names.specs.declared.codes.ClassCodes.{ClassCodes}
@@ -10,18 +10,19 @@ use Rattle.usb_explain.specs.declared.place.Place.{Place}
 use Rattle.usb_explain.specs.declared.role.Role.{Role}
 use Rattle.usb_explain.specs.declared.speed.SetSpeed.{SetSpeed}
 use Rattle.usb_explain.specs.Bindings.{bound_at}
-use Rattle.usb_explain.specs.Contexts.{codes_of, depth_of, rest_of_set, speed_of}
+use Rattle.usb_explain.specs.Contexts.{codes_of, depth_of, interface_number, rest_of_set, speed_of}
 use Rattle.usb_explain.specs.Findings.{found_at}
 use Rattle.usb_explain.specs.InterfaceNumbers.{missing_interface}
 use Rattle.usb_explain.specs.Owners.{owner_of}
 use Rattle.usb_explain.specs.RemarkPlaces.{place_in}
 use Rattle.usb_explain.specs.Roles.{next_role}
 use Rattle.usb_explain.specs.SetStart.{entered}
+use Rattle.usb_explain.specs.SettingRemarks.{follows}
 use Rattle.usb_explain.specs.Standings.{passed, start}
 
 -- A descriptor of an input: its place in bytes and among sets, settings and endpoints, its bytes, what it is, how deep and whose, its speed, and what is found there. Then
 -- how many associations of its set come before it; the first one of its set that binds an interface of its number; the first
--- interface that it names and its set lacks; what the interface is that it follows; what the device is, or the qualifier for the sets after it; how many strings come before it; and
+-- interface that it names and its set lacks; whether an interface of its number follows in its set; what the interface is that it follows; what the device is, or the qualifier for the sets after it; how many strings come before it; and
 -- the bytes of its set after it, where they are all there.
 pub record Described : Type 0 where
   pub at : ℕ
@@ -35,6 +36,7 @@ pub record Described : Type 0 where
   pub associations : ℕ
   pub association : Option ℕ
   pub missing : Option ℕ
+  pub follows : Bool
   pub interface : Option ClassCodes
   pub device : Option ClassCodes
   pub string : ℕ
@@ -54,6 +56,7 @@ described d = record {
   associations = d.associations;
   association = d.association;
   missing = d.missing;
+  follows = d.follows;
   interface = d.interface;
   device = d.device;
   string = d.string;
@@ -86,6 +89,7 @@ describe running e = record {
   associations = e.standing.position.associations;
   association = bound_at e.standing.bindings (slice_index e.bytes 2);
   missing = missing_interface e.standing.interfaces (codes_of e.standing.position) e.bytes;
+  follows = follows (interface_number e.standing.position e.role e.bytes) (rest_of_set e.standing.position e.bytes e.after);
   interface = codes_of e.standing.position;
   device = e.standing.codes;
   string = e.standing.position.strings;

@@ -150,7 +150,7 @@ endpoint_remarks d =
     ++ there (multiple_remark d.speed transfer (little_endian_at d.bytes 4))
     ++ there (attributes_remark d.speed transfer (slice_index d.bytes 3))
     ++ there (default_remark d.speed transfer d.owner size)
-    ++ there (empty_remark d.owner size d.rest)
+    ++ there (empty_remark d.owner size d.follows d.rest)
 
 -- the remarks on a descriptor that has no type of its own
 unfoldable pub raw_remarks : Described → List Remark
@@ -177,7 +177,7 @@ remarks_on roles.Configuration d = there (power_remark d.speed (slice_index d.by
 remarks_on roles.Association d =
     there (association_class_remark (slice_index d.bytes 4))
     ++ there (association_remark d.device)
-    ++ there (association_place_remark d.bytes d.missing d.rest)
+    ++ there (association_place_remark d.missing d.follows d.rest)
 remarks_on roles.Interface d =
     there (class_remark (slice_index d.bytes 5)) ++ there (setting_remark d.bytes d.rest) ++ there (pipe_remark d.bytes d.rest)
 remarks_on roles.Endpoint d = endpoint_remarks d

@@ -11,7 +11,6 @@ use Rattle.std.specs.Option.{option_or}
 use Rattle.usb_explain.specs.declared.speed.SetSpeed.{SetSpeed}
 use Rattle.usb_explain.specs.declared.speed.SetSpeed.TheVariants as speeds
 use Rattle.usb_explain.specs.declared.set_speed.Background.{Background}
-use Rattle.usb_explain.specs.declared.survey.Survey.{Survey}
 use Rattle.usb_explain.specs.InterfaceNumbers.{interface_numbers}
 use Rattle.usb_explain.specs.Bindings.{bindings}
 
@@ -163,6 +162,12 @@ abbrev pub speed_by : Background → Evidence → SetSpeed
 speed_by background evidence = without_low (low_is_excluded background evidence) (decided_speed background evidence)
 
 -- What is known of a set before its descriptors are gone over one by one.
+
+-- what they say of its speed, which association binds each interface, and which numbers interfaces have
+pub record Survey : Type 0 where
+  pub spoken : Evidence
+  pub bindings : List (Option ℕ)
+  pub interfaces : List Bool
 
 -- what descriptors say
 unfoldable pub survey_of : List (List ℕ) → Survey

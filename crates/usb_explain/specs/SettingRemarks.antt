@@ -108,20 +108,20 @@ is_numbered number d = is_interface d && (slice_index d 2 == number)
 unfoldable pub has_setting : ℕ → List (List ℕ) → Bool
 has_setting number ds = list_any (is_numbered number) ds
 
--- no setting follows that could have other packets
-abbrev pub is_last_default : Option InterfaceSetting → List (List ℕ) → Bool
-is_last_default None ds = false
-is_last_default (Some setting) ds = (setting.alternate == 0) && not (has_setting setting.interface ds)
+-- so it is in the rest of a set, where all of that is there
+abbrev pub follows : ℕ → Option (List ℕ) → Bool
+follows number None = false
+follows number (Some rest) = has_setting number (descriptors rest)
 
 -- Packets of 0 bytes have no data: an endpoint has them where another setting has greater ones (5.6.3 and 5.7.3).
-abbrev pub empty_remark : Option DescriptorOwner → ℕ → Option (List ℕ) → Option Remark
-empty_remark (Some owner) size (Some rest) = remark_if ((size == 0) && is_last_default owner.setting (descriptors rest)) remarks.EmptyPackets
-empty_remark _ size _ = None
+abbrev pub empty_remark : Option DescriptorOwner → ℕ → Bool → Option (List ℕ) → Option Remark
+empty_remark owner size follows (Some rest) = remark_if ((size == 0) && (in_default_setting owner && not follows)) remarks.EmptyPackets
+empty_remark owner size follows None = None
 
 -- ---- an association
 
 -- No setting of its first interface follows an association, which stands before all of those that it binds (its ECN, 9.X.Y),
 -- and the set has that interface.
-abbrev pub association_place_remark : List ℕ → Option ℕ → Option (List ℕ) → Option Remark
-association_place_remark d None (Some rest) = remark_if (not (has_setting (slice_index d 2) (descriptors rest))) remarks.LateAssociation
-association_place_remark d missing rest = None
+abbrev pub association_place_remark : Option ℕ → Bool → Option (List ℕ) → Option Remark
+association_place_remark None follows (Some rest) = remark_if (not follows) remarks.LateAssociation
+association_place_remark missing follows rest = None

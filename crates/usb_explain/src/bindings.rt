@@ -1,25 +1,32 @@
 //! Which association binds each interface.
-ghost use Rattle.std.specs.Prelude.{◌≡◌, ◌<◌, ℕ, length, None, Some, if◌then◌else◌, replicate};
+ghost use Rattle.std.specs.Prelude.{◌≡◌, ◌<◌, ◌≤◌, ◌+◌, ◌^◌, ◌∷◌, ℕ, List, length, None, Some, if◌then◌else◌, replicate, slice_index};
 ghost use Rattle.std.specs.Option.{option_or};
 ghost use Rattle.usb_explain.specs.Bindings.{binds, bound_at};
+ghost use Rattle.usb_explain.specs.inside.Walking.{bound_first, bound_with};
 
+use crate::role::is_association;
 use std::marker::Model;
+use usb_fields::byte_at;
+
+/// In a cell of a number that no association binds.
+const UNBOUND: u16 = u16::MAX;
 
 /// For each interface number of a set the number of the first association that binds it.
 #[derive(Clone, Debug, Drop)]
 pub(crate) struct Bindings {
-    /// There is no table before the first association, so that a set without one fills none.
-    numbers: Option<[Option<u64>; 256]>,
+    /// Two bytes a number, so that several are bound at once.
+    cells: [u16; 256],
 }
 
 impl Model for Bindings {
-    ghost use Rattle.std.specs.Prelude.{◌≡◌, IfSome, List, ℕ, None, Option, length, replicate, unwrap_or};
+    ghost use Rattle.std.specs.Prelude.{◌≡◌, List, ℕ, Option, length, map};
+    ghost use Rattle.usb_explain.specs.inside.Walking.{bound_cell};
 
     ghost Value = { List (Option ℕ) };
 
-    ghost view = { λ b. unwrap_or b.numbers (replicate 256 None) };
+    ghost view = { λ b. map bound_cell b.cells };
 
-    ghost invariant = { λ b. IfSome b.numbers (λ numbers. length numbers ≡ 256) };
+    ghost invariant = { λ b. length b.cells ≡ 256 };
 }
 
 impl Bindings {
@@ -27,41 +34,68 @@ impl Bindings {
     pub(crate) fn new() -> Bindings
         ensures { result ≡ replicate 256 None }
     {
-        Bindings { numbers: None }
+        Bindings {
+            cells: [UNBOUND; 256],
+        }
+    }
+
+    /// Forgets all associations.
+    pub(crate) fn clear(&mut self)
+        ensures { self.new ≡ replicate 256 None }
+    {
+        self.cells = [UNBOUND; 256];
     }
 
     /// The number of the association that binds an interface of this number.
     pub(crate) fn of(&self, interface: u8) -> Option<u64>
         ensures { result ≡ bound_at self.now interface }
     {
-        match &self.numbers {
-            None => None,
-            Some(numbers) => numbers[usize::from(interface)],
+        let cell = self.cells[usize::from(interface)];
+        if cell == UNBOUND {
+            None
+        } else {
+            Some(u64::from(cell))
         }
+    }
+
+    /// Adds a descriptor after so many associations, which binds interfaces where it is one. Answers how many there are then.
+    pub(crate) fn add(&mut self, count: u16, d: &[u8]) -> u16
+        requires { count + 1 < 2 ^ 16 }
+        ensures cells { length self.old ≡ 256 → length self.new ≡ 256 }
+        ensures binds { (n : ℕ) → n < 256 → (ds : List (List ℕ)) → bound_with self.old count n (d.now ∷ ds) ≡ bound_with self.new result n ds }
+        ensures count { result ≤ count + 1 }
+    {
+        if !is_association(d) {
+            return count;
+        }
+        self.bind(count, byte_at(d, 2), byte_at(d, 3));
+        count + 1
     }
 
     /// Binds those of so many numbers that no earlier association binds.
-    pub(crate) fn bind(&mut self, association: u64, first: u8, count: u8)
+    #[tactic(auto, using(crate::proofs::Tables::cell_at, crate::proofs::Tables::cell_bound))]
+    fn bind(&mut self, association: u16, first: u8, count: u8)
+        requires { association + 1 < 2 ^ 16 }
         ensures cells { length self.new ≡ 256 }
         ensures bound { (n : ℕ) → n < 256 → bound_at self.new n ≡ option_or (bound_at self.old n) (if binds first count n then Some association else None) }
     {
-        if self.numbers.is_none() {
-            self.numbers = Some([None; 256]);
-        }
-        if let Some(numbers) = &mut self.numbers {
-            bind_numbers(numbers, association, first, count);
-        }
+        bind_cells(&mut self.cells, association, first, count);
     }
 }
 
-fn bind_numbers(numbers: &mut [Option<u64>; 256], association: u64, first: u8, count: u8)
-    ensures cells { length numbers.new ≡ 256 }
-    ensures bound { (n : ℕ) → n < 256 → bound_at numbers.new n ≡ option_or (bound_at numbers.old n) (if binds first count n then Some association else None) }
+fn bind_cells(cells: &mut [u16; 256], association: u16, first: u8, count: u8)
+    ensures cells { length cells.new ≡ 256 }
+    ensures bound { (n : ℕ) → n < 256 → slice_index cells.new n ≡ (if binds first count n then bound_first (slice_index cells.old n) association else slice_index cells.old n) }
 {
     let end = (usize::from(first) + usize::from(count)).min(256);
     for number in usize::from(first)..end {
-        if numbers[number].is_none() {
-            numbers[number] = Some(association);
-        }
+        cells[number] = bound_first(cells[number], association);
     }
+}
+
+/// What is in a cell after this association.
+fn bound_first(cell: u16, association: u16) -> u16
+    ensures { result ≡ bound_first cell association }
+{
+    if cell == UNBOUND { association } else { cell }
 }

@@ -1,7 +1,7 @@
 //! What is known of a descriptor at its place beside its bytes.
 ghost use Rattle.std.specs.Prelude.{◌≡◌, ◌-◌, length, take};
 ghost use Rattle.std.specs.Option.{option_copied};
-ghost use Rattle.usb_explain.specs.Contexts.{codes_of, depth_of, is_super, rest_of_set, speed_of};
+ghost use Rattle.usb_explain.specs.Contexts.{codes_of, depth_of, interface_number, is_super, rest_of_set, speed_of};
 
 use crate::position::Position;
 use crate::role::Role;
@@ -37,6 +37,16 @@ impl Position {
             Role::Association => 2,
             Role::Raw => self.below,
             _ => 0,
+        }
+    }
+
+    /// The number of the interface that a descriptor of this role is or names first, or else of the last one before it.
+    pub(crate) fn interface_number(&self, role: Role, d: &[u8]) -> u8
+        ensures { result ≡ interface_number self.now role d.now }
+    {
+        match role {
+            Role::Interface | Role::Association => byte_at(d, 2),
+            _ => self.interface,
         }
     }
 

@@ -31,6 +31,9 @@ pub struct Descriptor<'b> {
     pub association: Option<u64>,
     /// The first interface that it names and its set lacks: it is a union functional descriptor, or an association.
     pub missing: Option<u8>,
+    /// Whether an interface of its number follows in its set, where all of that is there: of the number that it has if it is an
+    /// interface, that it names first if it is an association, and else of that of the interface that it follows.
+    pub follows: bool,
     /// The codes of the interface that it follows.
     pub interface: Option<ClassCodes>,
     /// The codes of the device, or of the qualifier in the sets after it.

@@ -18,6 +18,7 @@ use usb_text::Page;
 /// # Errors
 ///
 /// Out of memory.
+#[inline(always)]
 #[tactic(auto, using(usb_text::proofs::ShownLines::showing_joined), unfolding(crate::specs::Descriptors::lines_of))]
 pub(crate) fn put_descriptor<P: Page>(
     page: &mut P,

@@ -46,7 +46,7 @@ pub fn explain<W: Write>(
 {
     let found = found_of(alloc, read)?;
     let subject = Subject::of(alloc, manner, read)?;
-    let mut lines = Lines::new(alloc, manner.look.utf8);
+    let mut lines = Lines::with_room(alloc, manner.look.utf8)?;
     put_first_line(&mut lines, read, bytes)?;
     let outline = Outline::of(before_fault(read, bytes), manner.speed, &found);
     let place = write_descriptors(&mut lines, &subject, outline, w)?;

@@ -158,6 +158,7 @@ impl FragmentPosition {
             associations: self.associations,
             association: None,
             missing: None,
+            follows: false,
             interface: self.interface.or(class_alone(d)),
             device: None,
             string: 0,

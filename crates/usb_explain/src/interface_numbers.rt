@@ -30,6 +30,13 @@ impl InterfaceNumbers {
         InterfaceNumbers { has: [false; 256] }
     }
 
+    /// Forgets all of them.
+    pub(crate) fn clear(&mut self)
+        ensures { self.new ≡ replicate 256 false }
+    {
+        self.has = [false; 256];
+    }
+
     /// Adds a descriptor, which has a number where it is an interface.
     pub(crate) fn add(&mut self, d: &[u8])
         ensures cells { length self.old ≡ 256 → length self.new ≡ 256 }

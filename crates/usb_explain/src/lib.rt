@@ -39,6 +39,7 @@ mod header;
 mod heading;
 mod interface_numbers;
 mod interval;
+mod later_interfaces;
 pub mod laws;
 mod line;
 mod manner;

@@ -1,12 +1,15 @@
 //! The descriptors of an input, one after another.
-ghost use Rattle.std.specs.Prelude.{◌≡◌, ◌≤◌, ◌<◌, ◌+◌, ◌^◌, drop, length, take};
+ghost use Rattle.std.specs.Prelude.{◌≡◌, ◌≤◌, ◌<◌, ◌+◌, ◌-◌, ◌^◌, drop, length, take};
 ghost use Rattle.usb_explain.specs.Findings.{found_at};
 ghost use Rattle.usb_explain.specs.Outline.{describe, described, outline};
 ghost use Rattle.usb_explain.specs.SetStart.{entered};
 ghost use Rattle.usb_explain.specs.Standings.{passed};
+ghost use Rattle.usb_explain.specs.Positions.{position_at};
+ghost use Rattle.usb_explain.specs.inside.Coming.{Awaits};
 ghost use Rattle.usb_explain.specs.inside.Walking.{Counted};
 
 use crate::descriptor::Descriptor;
+use crate::later_interfaces::LaterInterfaces;
 use crate::role::Role;
 use crate::speed::SetSpeed;
 use crate::standing::Standing;
@@ -30,18 +33,20 @@ pub struct Outline<'b> {
     standing: Standing,
     found: &'b [Found],
     ahead: &'b [u8],
+    later: LaterInterfaces,
 }
 
 impl<'b> Model for Outline<'b> {
     ghost use Rattle.std.specs.Prelude.{◌+◌, ◌<◌, ◌^◌, List, length};
     ghost use Rattle.usb_explain.specs.Outline.{Described, outline_from};
+    ghost use Rattle.usb_explain.specs.inside.Coming.{Awaits};
     ghost use Rattle.usb_explain.specs.inside.Walking.{Counted};
 
     ghost Value = { List Described };
 
     ghost view = { λ o. outline_from o.running o.standing o.found.now o.ahead.now };
 
-    ghost invariant = { λ o. Counted o.standing.position × (o.standing.position.at + length o.ahead.now < 2 ^ 63) };
+    ghost invariant = { λ o. Counted o.standing.position × (o.standing.position.at + length o.ahead.now < 2 ^ 63) × Awaits o.later o.standing.position.left o.ahead.now };
 }
 
 impl<'b> Outline<'b> {
@@ -56,6 +61,7 @@ impl<'b> Outline<'b> {
             standing: Standing::start(),
             found,
             ahead: bytes,
+            later: LaterInterfaces::none(),
         }
     }
 }
@@ -75,9 +81,15 @@ impl<'b> Iterator for Outline<'b> {
             self.ahead = &[];
             return None;
         };
-        let (here, left) = self
-            .standing
-            .step_over(role, self.running, self.found, self.ahead, count);
+        self.later.pass(role, self.ahead, count);
+        let (here, left) = self.standing.step_over(
+            role,
+            self.running,
+            self.found,
+            self.ahead,
+            count,
+            &self.later,
+        );
         self.found = left;
         self.ahead = after(self.ahead, count);
         Some(here)
@@ -93,23 +105,25 @@ impl Standing {
         found: &'b [Found],
         ahead: &'b [u8],
         count: usize,
+        later: &LaterInterfaces,
     ) -> (Descriptor<'b>, &'b [Found])
         requires counted { Counted self.old.position }
         requires room { self.old.position.at + length ahead.now < 2 ^ 63 }
         requires most { count ≤ length ahead.now }
+        requires later { Awaits later.now ((position_at role ahead.now self.old.position).left - count) (drop count ahead.now) }
         ensures here { described result.0 ≡ describe running (record { standing = entered role running ahead.now self.old; role = role; bytes = take count ahead.now; after = drop count ahead.now; found = found.now }) }
         ensures left { result.1.now ≡ drop (length (found_at (entered role running ahead.now self.old) role found.now)) found.now }
         ensures standing { self.new ≡ passed role (take count ahead.now) (entered role running ahead.now self.old) }
     {
         self.enter(role, running, ahead);
         let bytes = prefix(ahead, count);
-        let (here, left) = self.descriptor(role, running, found, bytes, after(ahead, count));
+        let (here, left) = self.descriptor(role, running, found, bytes, after(ahead, count), later);
         self.pass(role, bytes);
         (here, left)
     }
 
     /// The descriptor of this role and these bytes, with the bytes after it; and the findings that are left after it.
-    #[tactic(auto, unfolding(crate::specs::Outline::describe))]
+    #[tactic(auto, using(crate::proofs::Coming::rest_counts), unfolding(crate::specs::Outline::describe))]
     fn descriptor<'b>(
         &self,
         role: Role,
@@ -117,11 +131,14 @@ impl Standing {
         found: &'b [Found],
         bytes: &'b [u8],
         behind: &'b [u8],
+        later: &LaterInterfaces,
     ) -> (Descriptor<'b>, &'b [Found])
+        requires { Awaits later.now (self.now.position.left - length bytes.now) behind.now }
         ensures here { described result.0 ≡ describe running (record { standing = self.now; role = role; bytes = bytes.now; after = behind.now; found = found.now }) }
         ensures left { result.1.now ≡ drop (length (found_at self.now role found.now)) found.now }
     {
         let (findings, left) = self.split_found(role, found);
+        let rest = self.position.rest_of_set(bytes, behind);
         let here = Descriptor {
             at: self.position.at,
             place: self.position.place(role),
@@ -134,10 +151,11 @@ impl Standing {
             associations: self.position.associations,
             association: self.bindings.of(byte_at(bytes, 2)),
             missing: self.interfaces.missing(self.position.codes(), bytes),
+            follows: later.follows(self.position.interface_number(role, bytes), rest),
             interface: self.position.codes(),
             device: self.codes,
             string: self.position.strings,
-            rest: self.position.rest_of_set(bytes, behind),
+            rest,
         };
         (here, left)
     }

@@ -46,6 +46,7 @@ fn put_remark<P: Page>(page: &mut P, depth: u8, remark: Option<Remark>) -> Resul
     }
 }
 
+#[inline(never)]
 #[tactic(auto, using(usb_text::proofs::ShownLines::showing_joined), unfolding(crate::specs::RemarkLines::remark_line))]
 fn put_line<P: Page>(page: &mut P, depth: u8, remark: Remark) -> Result<(), AllocError>
     ensures { OnOk result (P.seen page.new ≡ showing_all P.showing (remark_line depth remark) (P.seen page.old)) }

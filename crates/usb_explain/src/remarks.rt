@@ -56,7 +56,7 @@ impl Descriptor<'_> {
             Role::Association => three(
                 association_class_remark(byte_at(b, 4)),
                 association_remark(self.device),
-                association_place_remark(b, self.missing, self.rest),
+                association_place_remark(self.missing, self.follows, self.rest),
             ),
             Role::Interface => three(
                 class_remark(byte_at(b, 5)),
@@ -84,7 +84,7 @@ impl Descriptor<'_> {
             multiple_remark(speed, transfer, max_packet),
             attributes_remark(speed, transfer, byte_at(b, 3)),
             default_remark(speed, transfer, self.owner, max_packet % 2048),
-            empty_remark(self.owner, max_packet % 2048, self.rest),
+            empty_remark(self.owner, max_packet % 2048, self.follows, self.rest),
         ]
     }
 

@@ -7,8 +7,9 @@ use crate::device_facts::DeviceFacts;
 use crate::role::Role;
 use crate::set_speed::{Background, other_speed, speed_by};
 use crate::speed::SetSpeed;
+use crate::speed_evidence::Evidence;
 use crate::standing::Standing;
-use crate::survey::Survey;
+use crate::survey::survey;
 use usb_fields::{after, byte_at, descriptor_type, prefix, word_at};
 use usb_file_data::after_sets;
 
@@ -41,11 +42,13 @@ impl Standing {
         ensures { self.new ≡ surveyed running ahead.now self.old }
     {
         let total = usize::from(word_at(ahead, 2));
-        let survey = Survey::of(prefix(ahead, total));
         let background = self.background(running);
-        self.speed = speed_by(background, survey.spoken);
-        self.bindings = survey.bindings;
-        self.interfaces = survey.interfaces;
+        let spoken = survey(
+            prefix(ahead, total),
+            &mut self.bindings,
+            &mut self.interfaces,
+        );
+        self.speed = speed_by(background, spoken);
     }
 
     /// What is known of a set beside its descriptors, by its device, which may have a qualifier before the set.
@@ -130,10 +133,11 @@ fn own_ahead(running: Option<SetSpeed>, ahead: &[u8]) -> SetSpeed
 }
 
 /// The speed that sets have together, by what is known of them and by their bytes.
+#[tactic(auto, unfolding(crate::specs::SetSpeeds::survey_of))]
 fn speed_together(background: Background, sets: &[u8]) -> SetSpeed
     ensures { result ≡ speed_together background sets.now }
 {
-    speed_by(background, Survey::of(sets).spoken)
+    speed_by(background, Evidence::of(sets))
 }
 
 /// The bytes of the sets of the device with which these bytes begin.

@@ -1,7 +1,7 @@
 //! What is remarked of an interface by the descriptors of its setting, and of an endpoint by its setting.
 ghost use Rattle.std.specs.Prelude.{◌≡◌};
 ghost use Rattle.std.specs.Option.{option_copied};
-ghost use Rattle.usb_explain.specs.SettingRemarks.{association_place_remark, default_remark, empty_remark, has_functions, has_setting, has_wanted, in_default_setting, is_bulk_endpoint, is_default, is_interrupt_in, is_last_default, is_numbered, is_wanted, lack_remark, pipe_remark, setting_remark};
+ghost use Rattle.usb_explain.specs.SettingRemarks.{association_place_remark, default_remark, empty_remark, has_functions, has_wanted, in_default_setting, is_bulk_endpoint, is_default, is_interrupt_in, is_wanted, lack_remark, pipe_remark, setting_remark};
 ghost use Rattle.usb_explain.specs.Trees.{descriptors};
 
 use crate::owner::{DescriptorOwner, InterfaceSetting};
@@ -161,65 +161,34 @@ pub(crate) fn default_remark(
     }
 }
 
-fn is_numbered(number: u8, d: &[u8]) -> bool
-    ensures { result ≡ is_numbered number d.now }
-{
-    is_interface(d) && byte_at(d, 2) == number
-}
-
-/// Whether one of the descriptors is an interface of this number.
-fn has_setting(number: u8, set: &[u8]) -> bool
-    ensures { result ≡ has_setting number (descriptors set.now) }
-{
-    let mut rest = set;
-    while let Some(length) = descriptor_length(rest) {
-        if is_numbered(number, prefix(rest, length)) {
-            return true;
-        }
-        rest = after(rest, length);
-    }
-    false
-}
-
-/// Whether a setting is alternate setting 0, and none of its interface follows.
-fn is_last_default(setting: Option<InterfaceSetting>, rest: &[u8]) -> bool
-    ensures { result ≡ is_last_default setting (descriptors rest.now) }
-{
-    match setting {
-        None => false,
-        Some(setting) => setting.alternate == 0 && !has_setting(setting.interface, rest),
-    }
-}
-
 /// A remark on packets of 0 bytes where no further setting has greater ones.
 pub(crate) fn empty_remark(
     owner: Option<DescriptorOwner>,
     size: u16,
+    follows: bool,
     rest: Option<&[u8]>,
 ) -> Option<Remark>
-    ensures { result ≡ empty_remark owner size (option_copied rest.entry) }
+    ensures { result ≡ empty_remark owner size follows (option_copied rest.entry) }
 {
-    let owner = owner?;
-    let rest = rest?;
-    if size != 0 {
-        return None;
+    match rest {
+        None => None,
+        Some(_) => remark_if(
+            size == 0 && in_default_setting(owner) && !follows,
+            Remark::EmptyPackets,
+        ),
     }
-    remark_if(is_last_default(owner.setting, rest), Remark::EmptyPackets)
 }
 
 /// A remark on an association whose first interface is there and doesn't follow (its ECN, 9.X.Y).
 pub(crate) fn association_place_remark(
-    d: &[u8],
     missing: Option<u8>,
+    follows: bool,
     rest: Option<&[u8]>,
 ) -> Option<Remark>
-    ensures { result ≡ association_place_remark d.now missing (option_copied rest.entry) }
+    ensures { result ≡ association_place_remark missing follows (option_copied rest.entry) }
 {
     match (missing, rest) {
-        (None, Some(rest)) => {
-            let follows = has_setting(byte_at(d, 2), rest);
-            remark_if(!follows, Remark::LateAssociation)
-        }
+        (None, Some(_)) => remark_if(!follows, Remark::LateAssociation),
         _ => None,
     }
 }

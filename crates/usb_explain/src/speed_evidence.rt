@@ -1,11 +1,16 @@
 //! Evidence of the speed of a set, in its descriptors.
-ghost use Rattle.std.specs.Prelude.{◌≡◌, ◌∷◌, ℕ, List, false};
-ghost use Rattle.usb_explain.specs.SetSpeeds.{excludes_low, has_multiple, hints_low_or_full, is_above_low, is_companion, is_full, is_high, is_hub_interface, is_slow, is_within, proves_full, proves_high};
-ghost use Rattle.usb_explain.specs.inside.Walking.{Hears};
+ghost use Rattle.std.specs.Prelude.{◌≡◌, false, slice_index};
+ghost use Rattle.usb_explain.specs.SetSpeeds.{evidence_of, has_multiple, is_above_low, is_full, is_high, is_hub_interface, is_slow, is_within};
+ghost use Rattle.usb_explain.specs.Trees.{descriptors};
+ghost use Rattle.usb_explain.specs.inside.Walking.{heard};
 
+use crate::rest_lines::descriptor_length;
 use crate::role::{is_endpoint, is_interface};
-use usb_fields::{byte_at, word_at};
+use usb_fields::{after, byte_at, descriptor_type, prefix, word_at};
 use usb_set::TransferType;
+
+/// The type of a SuperSpeed endpoint companion (USB 3.2, 9.6.7).
+const COMPANION: u8 = 48;
 
 /// Evidence of a set's speed: for each kind, whether a descriptor shows it.
 #[derive(Clone, Copy, Debug, PartialEq, Eq, Hash)]
@@ -36,42 +41,45 @@ impl Evidence {
         }
     }
 
+    /// What these descriptors say together, as far as they go.
+    pub(crate) fn of(sets: &[u8]) -> Evidence
+        ensures { result ≡ evidence_of (descriptors sets.now) }
+    {
+        let mut evidence = Evidence::none();
+        let mut rest = sets;
+        while let Some(length) = descriptor_length(rest) {
+            evidence.add(prefix(rest, length));
+            rest = after(rest, length);
+        }
+        evidence
+    }
+
     /// Adds what a descriptor says.
     pub(crate) fn add(&mut self, d: &[u8])
-        ensures { (all ds : List (List ℕ)) → Hears all self.old (d.now ∷ ds) → Hears all self.new ds }
+        ensures { self.new ≡ heard d.now self.old }
     {
-        self.companion = self.companion || is_companion(d);
-        self.high = self.high || proves_high(d);
-        self.full = self.full || proves_full(d);
-        self.above_low = self.above_low || excludes_low(d);
-        self.slow = self.slow || hints_low_or_full(d);
+        match byte_at(d, 1) {
+            descriptor_type::ENDPOINT => self.add_endpoint(d),
+            descriptor_type::INTERFACE => self.above_low = self.above_low || is_hub_interface(d),
+            COMPANION => self.companion = true,
+            _ => {}
+        }
     }
-}
 
-/// A SuperSpeed endpoint companion (USB 3.2, 9.6.7).
-fn is_companion(d: &[u8]) -> bool
-    ensures { result ≡ is_companion d.now }
-{
-    byte_at(d, 1) == 48
-}
-
-fn proves_high(d: &[u8]) -> bool
-    ensures { result ≡ proves_high d.now }
-{
-    is_endpoint(d) && is_high(TransferType::of(byte_at(d, 3)), word_at(d, 4))
-}
-
-fn proves_full(d: &[u8]) -> bool
-    ensures { result ≡ proves_full d.now }
-{
-    is_endpoint(d) && is_full(TransferType::of(byte_at(d, 3)), word_at(d, 4))
-}
-
-fn excludes_low(d: &[u8]) -> bool
-    ensures { result ≡ excludes_low d.now }
-{
-    is_hub_interface(d)
-        || is_endpoint(d) && is_above_low(TransferType::of(byte_at(d, 3)), word_at(d, 4))
+    /// The same of a descriptor of an endpoint's type.
+    fn add_endpoint(&mut self, d: &[u8])
+        requires { slice_index d.now 1 ≡ 5 }
+        ensures { self.new ≡ heard d.now self.old }
+    {
+        if is_endpoint(d) {
+            let transfer = TransferType::of(byte_at(d, 3));
+            let max_packet = word_at(d, 4);
+            self.high = self.high || is_high(transfer, max_packet);
+            self.full = self.full || is_full(transfer, max_packet);
+            self.above_low = self.above_low || is_above_low(transfer, max_packet);
+            self.slow = self.slow || is_slow(transfer, byte_at(d, 6));
+        }
+    }
 }
 
 /// An interface of a hub, which is never of low speed (USB 2.0, chapter 11).
@@ -79,12 +87,6 @@ fn is_hub_interface(d: &[u8]) -> bool
     ensures { result ≡ is_hub_interface d.now }
 {
     is_interface(d) && byte_at(d, 5) == 9
-}
-
-fn hints_low_or_full(d: &[u8]) -> bool
-    ensures { result ≡ hints_low_or_full d.now }
-{
-    is_endpoint(d) && is_slow(TransferType::of(byte_at(d, 3)), byte_at(d, 6))
 }
 
 fn is_high(transfer: TransferType, max_packet: u16) -> bool

@@ -1,6 +1,6 @@
 -- Descriptors of classes by name, and their fields. They stand in a set after the interface or the endpoint whose class
 -- defines them. The rows are those of src/rows.rt.
-use Rattle.std.specs.Prelude.{ℕ, List, [], ◌++◌, Option, Some, None, option_map, ◌==◌, if◌then◌else◌, ◌&&◌, slice_get, Bool, true, false, map}
+use Rattle.std.specs.Prelude.{ℕ, List, [], ◌++◌, Option, Some, None, option_map, ◌==◌, if◌then◌else◌, ◌&&◌, ◌||◌, slice_get, Bool, true, false, map}
 use Rattle.std.specs.List.{find}
 use Rattle.usb_names.specs.declared.codes.ClassCodes.{ClassCodes}
 use Rattle.usb_names.specs.declared.row.ClassDescriptor.{ClassDescriptor}
@@ -84,6 +84,10 @@ rows_of_class (Some codes) = class_rows codes.class
 abbrev pub further_rows_of_class : Option ClassCodes → List Row
 further_rows_of_class None = []
 further_rows_of_class (Some codes) = further_rows codes.class
+
+-- the types that classes define, which other rows don't have and these alone
+abbrev pub is_class_type : ℕ → Bool
+is_class_type type = (type == 0x21) || (type == 0x24) || (type == 0x25)
 
 -- the rows after an interface of these codes, in their order
 abbrev pub rows_behind : Option ClassCodes → List Row

@@ -1,7 +1,7 @@
 //! Class descriptors by name.
 ghost use Rattle.std.specs.Prelude.{◌≡◌, find, map, option_map};
 ghost use Rattle.std.specs.Option.{option_copied};
-ghost use Rattle.usb_names.specs.Rows.{agrees, first_row, has_zero, holds, further_rows_of_class, rows_behind, rows_of_class};
+ghost use Rattle.usb_names.specs.Rows.{agrees, first_row, has_zero, holds, further_rows_of_class, is_class_type, rows_behind, rows_of_class};
 ghost use Rattle.usb_names.specs.Shown.{row_of};
 
 use crate::codes::ClassCodes;
@@ -91,6 +91,13 @@ fn first_row(
     find_row(rows, interface, descriptor_type, body)
 }
 
+/// Whether a type is one that classes define. No standard row has such a type, and each other row has one.
+fn is_class_type(descriptor_type: u8) -> bool
+    ensures { result ≡ is_class_type descriptor_type }
+{
+    matches!(descriptor_type, 0x21 | 0x24 | 0x25)
+}
+
 /// The descriptor of this type and of a body that begins with these bytes, after an interface of these codes; before any
 /// interface there are none. It is the first row of the table that holds.
 ///
@@ -100,7 +107,7 @@ fn first_row(
 ///     assert_eq!(rt; descriptor.name, "HID");
 /// }
 /// ```
-#[tactic(auto, using(crate::proofs::RowLemmas::find_in_four))]
+#[tactic(auto, using(crate::proofs::RowTypes::of_class_type, crate::proofs::RowTypes::of_other_type))]
 pub fn class_descriptor(
     interface: Option<ClassCodes>,
     descriptor_type: u8,
@@ -108,8 +115,8 @@ pub fn class_descriptor(
 ) -> Option<&'static ClassDescriptor>
     ensures { option_map row_of (option_copied result) ≡ first_row (rows_behind interface) interface descriptor_type body.now }
 {
-    if let Some(row) = first_row(standard_rows(), interface, descriptor_type, body) {
-        return Some(row);
+    if !is_class_type(descriptor_type) {
+        return first_row(standard_rows(), interface, descriptor_type, body);
     }
     if let Some(row) = first_row(rows_of_class(interface), interface, descriptor_type, body) {
         return Some(row);

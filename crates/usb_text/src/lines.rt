@@ -19,6 +19,9 @@ use usb_fields::known_bytes;
 /// Lines of so many bytes are passed on to the writer.
 const FULL: usize = 32 * 1024;
 
+/// What `with_room` has room for: as many, and the lines of one descriptor more.
+const ROOM: usize = FULL + 16 * 1024;
+
 /// Lines of printable ASCII and, with `utf8`, characters beyond it. A line feed ends a line, and nothing else does. In a
 /// contract they are their bytes; a [`Page`], as which they are put, shows none of the words. Out of memory, those that
 /// no writer has yet are gone.
@@ -50,7 +53,7 @@ impl Model for Lines {
 }
 
 impl Lines {
-    ghost use Rattle.std.specs.Prelude.{◌≡◌, ◌==◌, ◌⊎◌, length, IfErr, IsTrue, OnErr, OnOk};
+    ghost use Rattle.std.specs.Prelude.{◌≡◌, ◌==◌, ◌⊎◌, length, IfErr, IfOk, IsTrue, OnErr, OnOk};
     ghost use Rattle.std.specs.List.{list_all};
     ghost use Rattle.usb_text.specs.Output.{AppendsFront};
     ghost use Rattle.usb_text.specs.Written.{PutsLines, WritesLess, WritesLines, is_of_lines, no_lines, written};
@@ -63,6 +66,20 @@ impl Lines {
             text: Text::new(alloc),
             utf8,
         }
+    }
+
+    /// No lines, with room for as many as are written at once.
+    ///
+    /// # Errors
+    ///
+    /// Out of memory.
+    pub fn with_room(alloc: Global, utf8: bool) -> Result<Lines, AllocError>
+        ensures { IfOk result (λ lines. lines ≡ no_lines utf8) }
+    {
+        Ok(Lines {
+            text: Text::with_capacity(alloc, ROOM)?,
+            utf8,
+        })
     }
 
     /// Their bytes, with those of a line that is begun.

@@ -89,10 +89,18 @@ pub(crate) fn put_escaped(text: &mut Text, units: &[u16]) -> Result<(), AllocErr
 }
 
 /// Puts the units of bytes, each as in a listing.
+#[tactic(auto, unfolding(crate::specs::Characters::written_unit))]
 pub(crate) fn put_escaped_in(text: &mut Text, b: &[u8]) -> Result<(), AllocError>
     ensures { OnOk result (text.new ≡ text.old ++ flat_map written_unit (units_in b.now)) }
 {
     match b {
+        // Most units are characters, and two of them cost less than one and one.
+        [one, 0, other, 0, rest @ ..] if is_plain(u16::from(*one)) && is_plain(u16::from(*other)) =>
+            {
+                text.put_character(*one)?;
+                text.put_character(*other)?;
+                put_escaped_in(text, rest)
+            }
         [low, high, rest @ ..] => {
             put_unit(text, u16::from_le_bytes([*low, *high]))?;
             put_escaped_in(text, rest)

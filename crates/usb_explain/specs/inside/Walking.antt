@@ -1,5 +1,5 @@
 -- What a walk keeps.
-use Rattle.std.specs.Prelude.{◌≡◌, ℕ, List, ◌||◌, ◌<◌, ◌∷◌, length, Option, map, ◌≤◌, Some, None}
+use Rattle.std.specs.Prelude.{◌≡◌, ℕ, List, Bool, ◌==◌, ◌||◌, ◌<◌, ◌∷◌, if◌then◌else◌, length, Option, map, ◌≤◌, Some, None}
 use Rattle.std.specs.List.{list_any}
 use Rattle.usb_explain.specs.SetSpeeds.{excludes_low, hints_low_or_full, is_companion, proves_full, proves_high}
 use Rattle.usb_explain.specs.declared.speed_evidence.Evidence.{Evidence}
@@ -7,8 +7,6 @@ use Rattle.std.specs.Option.{option_or}
 use Rattle.usb_explain.specs.Bindings.{binding, bound_at}
 use Rattle.usb_explain.specs.InterfaceNumbers.{has_number}
 use Rattle.usb_explain.specs.SettingRemarks.{has_setting}
-use Rattle.usb_explain.specs.declared.survey.Gathering.{Gathering}
-use Rattle.usb_explain.specs.declared.survey.Binders.{Binders}
 use Rattle.usb_names.specs.Shown.{field_of}
 use Rattle.usb_explain.specs.declared.standard_layouts.DescriptorLayout.{DescriptorLayout}
 use Rattle.usb_explain.specs.Layouts.{Layout}
@@ -24,23 +22,37 @@ pub record Hears (all : List (List ℕ)) (e : Evidence) (ds : List (List ℕ)) :
   pub above_low : list_any excludes_low all ≡ e.above_low || list_any excludes_low ds
   pub slow : list_any hints_low_or_full all ≡ e.slow || list_any hints_low_or_full ds
 
+-- with what one descriptor more says
+abbrev pub heard : List ℕ → Evidence → Evidence
+heard d e = record {
+  companion = e.companion || is_companion d;
+  high = e.high || proves_high d;
+  full = e.full || proves_full d;
+  above_low = e.above_low || excludes_low d;
+  slow = e.slow || hints_low_or_full d;
+}
+
 -- What is gathered of a set, descriptor by descriptor.
 
--- the association that binds a number, with these descriptors
-abbrev pub bound_with : Binders → ℕ → List (List ℕ) → Option ℕ
-bound_with binders n ds = option_or (bound_at binders.bindings n) (binding n binders.count ds)
+-- what a cell of a number says: the number of an association, or that there is none
+abbrev pub bound_cell : ℕ → Option ℕ
+bound_cell cell = if cell == 65535 then None else Some cell
 
--- a descriptor was taken that came before others
-abbrev pub BindsOn : Binders → Binders → ℕ → List ℕ → List (List ℕ) → Type 0
-BindsOn old new n d ds = bound_with old n (d ∷ ds) ≡ bound_with new n ds
+-- what is in a cell after an association that binds its number
+abbrev pub bound_first : ℕ → ℕ → ℕ
+bound_first cell association = if cell == 65535 then association else cell
+
+-- the association that binds a number, with these descriptors after so many associations
+abbrev pub bound_with : List (Option ℕ) → ℕ → ℕ → List (List ℕ) → Option ℕ
+bound_with table count n ds = option_or (bound_at table n) (binding n count ds)
 
 -- with what was gathered of the descriptors before, these descriptors make up all
-pub record Gathers (all : List (List ℕ)) (g : Gathering) (ds : List (List ℕ)) : Type 0 where
-  pub cells : length g.associations.bindings ≡ 256
-  pub evidence : Hears all g.evidence ds
-  pub bindings : (n : ℕ) → n < 256 → binding n 0 all ≡ bound_with g.associations n ds
-  pub number_cells : length g.interfaces ≡ 256
-  pub numbers : (n : ℕ) → n < 256 → has_setting n all ≡ has_number g.interfaces n || has_setting n ds
+pub record Gathers (all : List (List ℕ)) (e : Evidence) (table : List (Option ℕ)) (count : ℕ) (there : List Bool) (ds : List (List ℕ)) : Type 0 where
+  pub cells : length table ≡ 256
+  pub evidence : Hears all e ds
+  pub bindings : (n : ℕ) → n < 256 → binding n 0 all ≡ bound_with table count n ds
+  pub number_cells : length there ≡ 256
+  pub numbers : (n : ℕ) → n < 256 → has_setting n all ≡ has_number there n || has_setting n ds
 
 -- A layout of the code.
 

@@ -15,6 +15,9 @@ returns-in_err-found-clause-err g c = on_err _ (explains_nothing c.args.manner c
 pub returns-in_err-subject-clause-err : goal.returns-in_err-subject-clause-err
 returns-in_err-subject-clause-err g c = on_err _ (explains_nothing c.args.manner c.args.read.now c.args.bytes.now _)
 
+pub returns-in_err-lines-clause-err : goal.returns-in_err-lines-clause-err
+returns-in_err-lines-clause-err g c = on_err _ (explains_nothing c.args.manner c.args.read.now c.args.bytes.now _)
+
 pub returns-in_err-put_first_line-clause-err : goal.returns-in_err-put_first_line-clause-err
 returns-in_err-put_first_line-clause-err g c = on_err _ (explains_nothing c.args.manner c.args.read.now c.args.bytes.now _)
 
@@ -31,7 +34,7 @@ returns-in_err-place-clause-err g c =
     let ds : c.of-outline.result ≡ descriptors_of c.args.manner c.args.read.now c.args.bytes.now =
     c.of-outline.ensures ∙ ap (λ (fs : List Found). outline speed fs c.before_fault.result.now) (c.deref.ensures.value ∙ c.in_ok-found.ensures)
     ∙ ap (λ (b : List ℕ). outline speed (found_of c.args.read.now) b) c.before_fault.ensures in
-    let first = c.in_ok-put_first_line.ensures ∙ ap (λ (l : LineBytes). more_lines 1 (written l)) c.new-lines.ensures in
+    let first = c.in_ok-put_first_line.ensures ∙ ap (λ (l : LineBytes). more_lines 1 (written l)) c.in_ok-lines.ensures in
     on_err _ (explains_less c.args.manner c.args.read.now c.args.bytes.now _ _ _ c.in_ok-subject.ensures ds first _ _ c.in_err-place.ensures.err)
 
 pub returns-in_err-place-clause-memory : goal.returns-in_err-place-clause-memory
@@ -40,7 +43,7 @@ returns-in_err-place-clause-memory g c =
     let ds : c.of-outline.result ≡ descriptors_of c.args.manner c.args.read.now c.args.bytes.now =
     c.of-outline.ensures ∙ ap (λ (fs : List Found). outline speed fs c.before_fault.result.now) (c.deref.ensures.value ∙ c.in_ok-found.ensures)
     ∙ ap (λ (b : List ℕ). outline speed (found_of c.args.read.now) b) c.before_fault.ensures in
-    let first = c.in_ok-put_first_line.ensures ∙ ap (λ (l : LineBytes). more_lines 1 (written l)) c.new-lines.ensures in
+    let first = c.in_ok-put_first_line.ensures ∙ ap (λ (l : LineBytes). more_lines 1 (written l)) c.in_ok-lines.ensures in
     same_memory _ _ _ c.from_residual-in_err-place.ensures.1 (λ is. explains_between c.args.manner c.args.read.now c.args.bytes.now _ _ _ c.in_ok-subject.ensures ds first _ _ (c.in_err-place.ensures.memory is))
 
 pub returns-in_err-put_ending-clause-err : goal.returns-in_err-put_ending-clause-err
@@ -49,7 +52,7 @@ returns-in_err-put_ending-clause-err g c =
     let ds : c.of-outline.result ≡ descriptors_of c.args.manner c.args.read.now c.args.bytes.now =
     c.of-outline.ensures ∙ ap (λ (fs : List Found). outline speed fs c.before_fault.result.now) (c.deref.ensures.value ∙ c.in_ok-found.ensures)
     ∙ ap (λ (b : List ℕ). outline speed (found_of c.args.read.now) b) c.before_fault.ensures in
-    let first = c.in_ok-put_first_line.ensures ∙ ap (λ (l : LineBytes). more_lines 1 (written l)) c.new-lines.ensures in
+    let first = c.in_ok-put_first_line.ensures ∙ ap (λ (l : LineBytes). more_lines 1 (written l)) c.in_ok-lines.ensures in
     on_err _ (explains_no_end c.args.manner c.args.read.now c.args.bytes.now _ _ _ c.in_ok-subject.ensures ds first _ _ _ _ c.in_ok-place.ensures.ok)
 
 pub returns-in_err-put_ending-clause-memory : goal.returns-in_err-put_ending-clause-memory
@@ -58,7 +61,7 @@ returns-in_err-put_ending-clause-memory g c =
     let ds : c.of-outline.result ≡ descriptors_of c.args.manner c.args.read.now c.args.bytes.now =
     c.of-outline.ensures ∙ ap (λ (fs : List Found). outline speed fs c.before_fault.result.now) (c.deref.ensures.value ∙ c.in_ok-found.ensures)
     ∙ ap (λ (b : List ℕ). outline speed (found_of c.args.read.now) b) c.before_fault.ensures in
-    let first = c.in_ok-put_first_line.ensures ∙ ap (λ (l : LineBytes). more_lines 1 (written l)) c.new-lines.ensures in
+    let first = c.in_ok-put_first_line.ensures ∙ ap (λ (l : LineBytes). more_lines 1 (written l)) c.in_ok-lines.ensures in
     if_memory _ _ (explains_between c.args.manner c.args.read.now c.args.bytes.now _ _ _ c.in_ok-subject.ensures ds first _ _ c.in_ok-place.ensures.ok.between)
 
 pub returns-clause-ok : goal.returns-clause-ok
@@ -67,7 +70,7 @@ returns-clause-ok g c =
     let ds : c.of-outline.result ≡ descriptors_of c.args.manner c.args.read.now c.args.bytes.now =
     c.of-outline.ensures ∙ ap (λ (fs : List Found). outline speed fs c.before_fault.result.now) (c.deref.ensures.value ∙ c.in_ok-found.ensures)
     ∙ ap (λ (b : List ℕ). outline speed (found_of c.args.read.now) b) c.before_fault.ensures in
-    let first = c.in_ok-put_first_line.ensures ∙ ap (λ (l : LineBytes). more_lines 1 (written l)) c.new-lines.ensures in
+    let first = c.in_ok-put_first_line.ensures ∙ ap (λ (l : LineBytes). more_lines 1 (written l)) c.in_ok-lines.ensures in
     on_ok_weaker c.finish.result (explains_whole c.args.manner c.args.read.now c.args.bytes.now _ _ _ c.in_ok-subject.ensures ds first _ _ _ _ _ c.put_ending.new.page c.write_descriptors.new.lines refl c.in_ok-place.ensures.ok c.in_ok-put_ending.ensures) c.finish.ensures.ok
 
 pub returns-clause-err : goal.returns-clause-err
@@ -76,5 +79,5 @@ returns-clause-err g c =
     let ds : c.of-outline.result ≡ descriptors_of c.args.manner c.args.read.now c.args.bytes.now =
     c.of-outline.ensures ∙ ap (λ (fs : List Found). outline speed fs c.before_fault.result.now) (c.deref.ensures.value ∙ c.in_ok-found.ensures)
     ∙ ap (λ (b : List ℕ). outline speed (found_of c.args.read.now) b) c.before_fault.ensures in
-    let first = c.in_ok-put_first_line.ensures ∙ ap (λ (l : LineBytes). more_lines 1 (written l)) c.new-lines.ensures in
+    let first = c.in_ok-put_first_line.ensures ∙ ap (λ (l : LineBytes). more_lines 1 (written l)) c.in_ok-lines.ensures in
     on_err_weaker c.finish.result (explains_cut c.args.manner c.args.read.now c.args.bytes.now _ _ _ c.in_ok-subject.ensures ds first _ _ _ _ _ c.put_ending.new.page c.write_descriptors.new.lines refl c.in_ok-place.ensures.ok c.in_ok-put_ending.ensures) c.finish.ensures.err

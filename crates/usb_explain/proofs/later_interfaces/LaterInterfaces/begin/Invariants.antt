@@ -1,0 +1,14 @@
+use Rattle.std.proofs.Common.{◌≡◌, ◌≤◌, ◌<◌, ◌+◌, ℕ, length, slice_index}
+use Rattle.usb_explain.specs.Trees.{descriptors}
+use Rattle.usb_explain.specs.inside.Coming.{interfaces_of}
+use Rattle.usb_explain.proofs.later_interfaces.LaterInterfaces.begin.Given as goal
+
+abbrev pub invariant-loop-length : goal.invariant-loop-length
+invariant-loop-length l = record {
+  cells : length l.self ≡ 256;
+  each : (n : ℕ) → n < 256 → slice_index l.self n + interfaces_of n (descriptors l.rest) ≡ interfaces_of n (descriptors l.set);
+  room : (n : ℕ) → n < 256 → slice_index l.self n + length l.rest ≤ length l.set;
+}
+
+abbrev pub decreases-loop-length : goal.decreases-loop-length
+decreases-loop-length l = length l.rest
