@@ -850,6 +850,7 @@ class Explanation:
         """What bytes that are no input look like, which are not read as a set: in words, if they look like anything."""
         b, (place, line) = self.data, self.fault
         if b[1:2] in (b"\x02", b"\x07"):
+            yield from self.frame()
             return
         if not b:
             yield "there are no bytes"
@@ -861,6 +862,8 @@ class Explanation:
         ):
             follow = len(b) - place
             yield f"the dump ends here, and {count(follow, 'byte')} follow{'s' if follow == 1 else ''}"
+        elif any(self.frame()):
+            yield from self.frame()
         elif len(b) >= 5 and b[:2] == bytes([5, 15]):
             yield "this looks like a BOS descriptor alone"
         elif b[:2] == bytes([len(b) % 256, 3]) and len(b) < 256 and len(b) % 2 == 0 and not names_languages(b):
@@ -869,6 +872,14 @@ class Explanation:
             yield "this looks like a report descriptor"
         elif begins_inside(b) or is_standard_request(b):
             yield "this begins like a fragment of an input, or a setup packet; --loose explains it"
+
+    def frame(self):
+        """A frame of usbmon or a packet of the bus, in words, where the bytes look like one."""
+        b, follow = self.data, len(self.data) - 64
+        if follow >= 0 and chr(b[8]) in "SCE" and b[9] < 4 and int.from_bytes(b[36:40], "little") == follow < 65536:
+            yield f"this looks like a frame of usbmon: a header, and {count(follow, 'byte')} at its end"
+        elif len(b) > 4 and b[:1] in (b"\xc3", b"\x4b") and b[1] == len(b) - 3:
+            yield f"this looks like a packet of the bus: a PID, {count(b[1], 'byte')} and a CRC"
 
     def put_rest(self, at):
         rest = self.data[at:]

@@ -21,10 +21,11 @@ fault_shown (faults.Set fault) = Number (set_why_number fault.why) ∷ Number fa
 fault_shown (faults.Trailing at) = Number at ∷ []
 fault_shown (faults.File fault) = Number (why_number fault.why) ∷ Number fault.at ∷ []
 
--- what bytes look like: how many follow a dump, or are the data of a frame
+-- what bytes look like: how many follow a dump, or are the data of a frame or a packet
 abbrev pub likeness_shown : Likeness → List Shown
 likeness_shown (likes.DumpAndMore n) = Number n ∷ []
 likeness_shown (likes.UsbmonFrame n) = Number n ∷ []
+likeness_shown (likes.Packet n) = Number n ∷ []
 likeness_shown _ = []
 
 -- the line that says so, if they look like anything

@@ -126,6 +126,11 @@ fn put_likeness_words<P: Page>(page: &mut P, likeness: Likeness) -> Result<(), A
             page.put_count(count as u64, "byte")?;
             page.put(" at its end")
         }
+        Likeness::Packet(count) => {
+            page.put("this looks like a packet of the bus: a PID, ")?;
+            page.put_count(u64::from(count), "byte")?;
+            page.put(" and a CRC")
+        }
         Likeness::Bos => page.put("this looks like a BOS descriptor alone"),
         Likeness::StringDescriptor => page.put("this looks like a string descriptor alone"),
         Likeness::Report => page.put("this looks like a report descriptor"),

@@ -24,7 +24,7 @@ use Rattle.usb_file_data.specs.declared.likeness.Likeness.{Likeness}
 use Rattle.usb_file_data.specs.declared.likeness.Likeness.TheVariants as likes
 use Rattle.usb_file_data.specs.Inputs.{Dump}
 use Rattle.usb_file_data.specs.FileFaults.{FaultyPart, FileFaulty, IsNext, LanguagesAreNext, MissesString, NextPart, PartFaulty, QualifierIsNext, a_qualifier, a_set, a_string, is_no_string, the_end, the_languages}
-use Rattle.usb_file_data.specs.Likeness.{DumpGoesOn, DumpsAreSeen, DumpsEndAtFaults, IsDumpBefore, after_sets, file_likeness, goes_on_after_dump, is_bos, is_empty_string, is_fragment, is_report, is_string, is_text, is_usbmon_frame}
+use Rattle.usb_file_data.specs.Likeness.{DumpGoesOn, DumpsAreSeen, DumpsEndAtFaults, IsDumpBefore, after_sets, file_likeness, goes_on_after_dump, is_bos, is_empty_string, is_fragment, is_packet, is_report, is_string, is_text, is_usbmon_frame}
 use Rattle.usb_file.proofs.Dumps.{is_dump}
 use Rattle.usb_file.proofs.Ends.{is_file}
 use Rattle.usb_file.proofs.Paths.{behind, device_first}
@@ -282,20 +282,21 @@ qualifier_goes_on b at fits y =
 
 -- ---- the likeness
 
-chosen : (t g u k s r p : Bool) (m j n : ℕ)
-    → (if t then Some likes.Text else if g then Some (likes.DumpAndMore m) else if u then Some (likes.UsbmonFrame j) else if k then Some likes.Bos else if s then Some likes.StringDescriptor else if r then Some likes.Report else if p then Some likes.Fragment else None) ≡ Some (likes.DumpAndMore n)
+chosen : (t g u q k s r p : Bool) (m j i n : ℕ)
+    → (if t then Some likes.Text else if g then Some (likes.DumpAndMore m) else if u then Some (likes.UsbmonFrame j) else if q then Some (likes.Packet i) else if k then Some likes.Bos else if s then Some likes.StringDescriptor else if r then Some likes.Report else if p then Some likes.Fragment else None) ≡ Some (likes.DumpAndMore n)
     → (g ≡ true) × (m ≡ n)
-chosen true g u k s r p m j n e = absurd (text_apart e)
+chosen true g u q k s r p m j i n e = absurd (text_apart e)
   where
     text_apart : Some likes.Text ≡ Some (likes.DumpAndMore n) → ⊥
     text_apart e = cc
-chosen false true u k s r p m j n e = (refl, cc)
-chosen false false true k s r p m j n e = (cc, cc)
-chosen false false false true s r p m j n e = (cc, cc)
-chosen false false false false true r p m j n e = (cc, cc)
-chosen false false false false false true p m j n e = (cc, cc)
-chosen false false false false false false true m j n e = (cc, cc)
-chosen false false false false false false false m j n e = (cc, cc)
+chosen false true u q k s r p m j i n e = (refl, cc)
+chosen false false true q k s r p m j i n e = (cc, cc)
+chosen false false false true k s r p m j i n e = (cc, cc)
+chosen false false false false true s r p m j i n e = (cc, cc)
+chosen false false false false false true r p m j i n e = (cc, cc)
+chosen false false false false false false true p m j i n e = (cc, cc)
+chosen false false false false false false false true m j i n e = (cc, cc)
+chosen false false false false false false false false m j i n e = (cc, cc)
 
 likened : (fault : FileFault) (b : List ℕ) (n : ℕ) → file_likeness fault b ≡ Some (likes.DumpAndMore n)
     → (goes_on_after_dump fault.why fault.at b ≡ true) × (length (drop fault.at b) ≡ n)
@@ -305,7 +306,7 @@ likened fault [] n e = absurd (nothing_apart e)
     nothing_apart e = cc
 likened fault (x ∷ rest) n e =
     let b = x ∷ rest in
-    chosen (is_text b) (goes_on_after_dump fault.why fault.at b) (is_usbmon_frame b) (is_bos b) (is_string b) (is_report b) (is_fragment b) (length (drop fault.at b)) (length (drop 64 b)) n e
+    chosen (is_text b) (goes_on_after_dump fault.why fault.at b) (is_usbmon_frame b) (is_packet b) (is_bos b) (is_string b) (is_report b) (is_fragment b) (length (drop fault.at b)) (length (drop 64 b)) (slice_index b 1) n e
 
 untrue : false ≡ true → ⊥
 untrue e = cc

@@ -83,6 +83,11 @@ is_usbmon_frame b =
     nat_le 64 (length b) && ((slice_index b 8 == 0x53) || (slice_index b 8 == 0x43) || (slice_index b 8 == 0x45))
     && nat_le (slice_index b 9) 3 && (little_endian_at b 36 == length (drop 64 b)) && (little_endian_at b 38 == 0)
 
+-- A packet of the bus is its PID, DATA0 or DATA1 (USB 2.0, table 8-1), its data, here one descriptor, and two bytes of CRC (8.4.4).
+abbrev pub is_packet : List ℕ → Bool
+is_packet b =
+    ((slice_index b 0 == 0xc3) || (slice_index b 0 == 0x4b)) && nat_le 2 (slice_index b 1) && (length b == slice_index b 1 + 3)
+
 -- The type of a descriptor that stands in an input behind others: interface, endpoint, qualifier, association (USB 2.0, table
 -- 9-5, and the association's ECN), HID (HID 1.11, 7.1), those of a class for an interface and an endpoint, and hub (11.23.2).
 abbrev pub is_inner_type : ℕ → Bool
@@ -102,9 +107,12 @@ is_standard_request b = (length b == 8) && nat_le (slice_index b 0 % 128) 2 && n
 abbrev pub is_fragment : List ℕ → Bool
 is_fragment b = begins_inside b || is_standard_request b
 
--- such a frame, where the bytes look like one
+-- such a frame or packet, where the bytes look like one
 abbrev pub frame_likeness : List ℕ → Option Likeness
-frame_likeness b = if is_usbmon_frame b then Some (likes.UsbmonFrame (length (drop 64 b))) else None
+frame_likeness b =
+    if is_usbmon_frame b then Some (likes.UsbmonFrame (length (drop 64 b)))
+    else if is_packet b then Some (likes.Packet (slice_index b 1))
+    else None
 
 -- what bytes look like that are read as a file
 abbrev pub file_likeness : FileFault → List ℕ → Option Likeness
@@ -114,13 +122,14 @@ file_likeness fault (x ∷ rest) =
     if is_text b then Some likes.Text
     else if goes_on_after_dump fault.why fault.at b then Some (likes.DumpAndMore (length (drop fault.at b)))
     else if is_usbmon_frame b then Some (likes.UsbmonFrame (length (drop 64 b)))
+    else if is_packet b then Some (likes.Packet (slice_index b 1))
     else if is_bos b then Some likes.Bos
     else if is_string b then Some likes.StringDescriptor
     else if is_report b then Some likes.Report
     else if is_fragment b then Some likes.Fragment
     else None
 
--- What bytes with this fault look like: a frame or nothing, where they are read as a set by their second byte.
+-- What bytes with this fault look like: a frame, a packet or nothing, where they are read as a set by their second byte.
 abbrev pub likeness_of : InputFault → List ℕ → Option Likeness
 likeness_of (faults.File fault) b = file_likeness fault b
 likeness_of fault b = frame_likeness b

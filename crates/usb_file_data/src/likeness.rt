@@ -1,7 +1,7 @@
 //! What bytes that are no input look like.
 ghost use Rattle.std.specs.Prelude.{◌≡◌};
 ghost use Rattle.std.specs.List.{list_all};
-ghost use Rattle.usb_file_data.specs.Likeness.{after_sets, are_languages, begins_inside, begins_usage, file_likeness, frame_likeness, goes_on_after_dump, is_bos, is_empty_string, is_fragment, is_inner_type, is_of_language, is_of_text, is_report, is_standard_request, is_string, is_text, is_usbmon_frame, likeness_of, names_languages};
+ghost use Rattle.usb_file_data.specs.Likeness.{after_sets, are_languages, begins_inside, begins_usage, file_likeness, frame_likeness, goes_on_after_dump, is_bos, is_empty_string, is_fragment, is_inner_type, is_of_language, is_of_text, is_packet, is_report, is_standard_request, is_string, is_text, is_usbmon_frame, likeness_of, names_languages};
 
 use crate::fault::{FileFault, FileWhy, InputFault};
 use usb_fields::{after, byte_at, descriptor_length, descriptor_type, word_at};
@@ -24,6 +24,12 @@ const WIDE_USAGE: u8 = 0x0a;
 /// The length of the header of a frame of usbmon (Linux, Documentation/usb/usbmon.rst).
 const USBMON_HEADER: usize = 64;
 
+/// The PID of DATA0, with its check bits (USB 2.0, table 8-1).
+const DATA0: u8 = 0xc3;
+
+/// The PID of DATA1.
+const DATA1: u8 = 0x4b;
+
 /// What bytes that are no input look like.
 #[derive(Clone, Copy, Debug, Drop, PartialEq, Eq, Hash)]
 pub enum Likeness {
@@ -36,6 +42,8 @@ pub enum Likeness {
     /// A frame of usbmon as Wireshark copies it: a header of 64 bytes, with `S`, `C` or `E` at 8, 0 to 3 at 9, and at 36 how many
     /// bytes follow it, below 65536.
     UsbmonFrame(usize),
+    /// A packet of the bus: DATA0 or DATA1, a descriptor of so many bytes, and two bytes of CRC (USB 2.0, 8.4.4).
+    Packet(u8),
     /// A BOS descriptor alone (USB 3.2, 9.6.2).
     Bos,
     /// A string descriptor alone that is no language list (USB 2.0, 9.6.7).
@@ -47,8 +55,8 @@ pub enum Likeness {
     Fragment,
 }
 
-/// What bytes with this fault look like: a frame of usbmon where they are read as a set, and else the first of the likenesses
-/// that they have.
+/// What bytes with this fault look like: a frame of usbmon or a packet where they are read as a set, and else the first of the
+/// likenesses that they have.
 ///
 /// ```rust
 /// let bos = [5, 15, 5, 0, 0];
@@ -77,6 +85,8 @@ fn file_likeness(fault: FileFault, b: &[u8]) -> Option<Likeness>
         Some(Likeness::DumpAndMore(after(b, fault.at).len()))
     } else if is_usbmon_frame(b) {
         Some(Likeness::UsbmonFrame(after(b, USBMON_HEADER).len()))
+    } else if is_packet(b) {
+        Some(Likeness::Packet(byte_at(b, 1)))
     } else if is_bos(b) {
         Some(Likeness::Bos)
     } else if is_string(b) {
@@ -90,15 +100,26 @@ fn file_likeness(fault: FileFault, b: &[u8]) -> Option<Likeness>
     }
 }
 
-/// A frame of usbmon, where the bytes look like one.
+/// A frame of usbmon or a packet of the bus, where the bytes look like one.
 fn frame_likeness(b: &[u8]) -> Option<Likeness>
     ensures { result ≡ frame_likeness b.now }
 {
     if is_usbmon_frame(b) {
         Some(Likeness::UsbmonFrame(after(b, USBMON_HEADER).len()))
+    } else if is_packet(b) {
+        Some(Likeness::Packet(byte_at(b, 1)))
     } else {
         None
     }
+}
+
+/// Whether the bytes are a packet of the bus with one descriptor (USB 2.0, 8.4.4).
+fn is_packet(b: &[u8]) -> bool
+    ensures { result ≡ is_packet b.now }
+{
+    matches!(byte_at(b, 0), DATA0 | DATA1)
+        && byte_at(b, 1) >= 2
+        && b.len() == usize::from(byte_at(b, 1)) + 3
 }
 
 /// Whether the bytes are a frame of usbmon: its header has the event at 8, the type of transfer at 9 and the count of the bytes
