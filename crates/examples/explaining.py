@@ -959,8 +959,8 @@ class Fragment(Explanation):
             self.of_association(d, at, ("main", 0, self.associations), (), None)
             self.associations += 1
         else:
-            hid = kind == 0x21 and n == 6 + 3 * sum(d[5:6])
-            self.of_raw(d, at, 3, self.codes or ((3, 0, 0) if hid else None), (), None)
+            hid, hub = kind == 0x21 and n == 6 + 3 * sum(d[5:6]), kind == 0x29 and n == 7 + 2 * (sum(d[2:3]) // 8 + 1)
+            self.of_raw(d, at, 3, self.codes or ((3, 0, 0) if hid else (9, 0, 0) if hub else None), (), None)
 
     def of_setup(self, b):
         ways, types = ("OUT", "IN"), ("standard", "class", "vendor", "reserved")

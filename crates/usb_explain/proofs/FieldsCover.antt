@@ -6,7 +6,7 @@ use Rattle.std.proofs.lemmas.Bool.Decides.{nat_tests}
 use Rattle.std.proofs.lemmas.Nat.{div-add-mod'}
 use Rattle.std.proofs.lemmas.List.{drop-drop, length-take-le, take-append-drop}
 use Rattle.usb_names.specs.declared.codes.ClassCodes.{ClassCodes}
-use Rattle.usb_names.specs.Rows.{application_rows, audio_rows, cdc_data_rows, communications_rows, further_video_rows, hid_rows, mass_storage_rows, newer_audio_rows, other_rows, smart_card_rows, standard_rows, video_rows}
+use Rattle.usb_names.specs.Rows.{application_rows, audio_rows, cdc_data_rows, communications_rows, further_video_rows, hid_rows, hub_rows, mass_storage_rows, newer_audio_rows, other_rows, smart_card_rows, standard_rows, video_rows}
 use Rattle.usb_names.specs.Shown.{Field, Row}
 use Rattle.usb_explain.specs.declared.role.Role.TheVariants.{Device, Qualifier, Configuration, Association, Interface, Endpoint, Raw, Languages, Text}
 use Rattle.usb_explain.specs.FieldLaws.{AllFieldsHaveAllBytes, span_of_field}
@@ -160,7 +160,7 @@ abbrev row_has_bytes : Row → Bool
 row_has_bytes row = layout_has_bytes (class_layout (Some row))
 
 all_bytes : AllRows row_has_bytes
-unfolding standard_rows newer_audio_rows audio_rows communications_rows hid_rows mass_storage_rows cdc_data_rows smart_card_rows video_rows further_video_rows application_rows other_rows
+unfolding standard_rows newer_audio_rows audio_rows communications_rows hid_rows mass_storage_rows hub_rows cdc_data_rows smart_card_rows video_rows further_video_rows application_rows other_rows
 all_bytes = record {
   standard = refl;
   newer_audio = refl;
@@ -168,6 +168,7 @@ all_bytes = record {
   communications = refl;
   hid = refl;
   mass_storage = refl;
+  hub = refl;
   cdc_data = refl;
   smart_card = refl;
   video = refl;

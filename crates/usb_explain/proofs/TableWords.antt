@@ -8,7 +8,7 @@ use Rattle.usb_names.specs.Bits.{abstract_control_bits, call_management_bits, fi
 use Rattle.usb_names.specs.Classes.{ClassRow, class_name, class_row, classes, protocol_name, subclass_name}
 use Rattle.usb_names.specs.declared.codes.ClassCodes.{ClassCodes}
 use Rattle.usb_names.specs.Named.{Named, name_of, name_where}
-use Rattle.usb_names.specs.Rows.{application_rows, audio_rows, cdc_data_rows, class_rows, communications_rows, first_row, further_rows, further_rows_of_class, further_video_rows, hid_rows, mass_storage_rows, newer_audio_rows, other_rows, rows_behind, rows_of_class, smart_card_rows, standard_rows, video_rows}
+use Rattle.usb_names.specs.Rows.{application_rows, audio_rows, cdc_data_rows, class_rows, communications_rows, first_row, further_rows, further_rows_of_class, further_video_rows, hid_rows, hub_rows, mass_storage_rows, newer_audio_rows, other_rows, rows_behind, rows_of_class, smart_card_rows, standard_rows, video_rows}
 use Rattle.usb_names.specs.Shown.{Row}
 use Rattle.usb_names.specs.Terminals.{audio_terminals, video_terminals}
 use Rattle.usb_text.specs.Written.{is_words}
@@ -149,6 +149,7 @@ pub record AllRows (p : Row → Bool) : Type 0 where
   pub communications : list_all p communications_rows ≡ true
   pub hid : list_all p hid_rows ≡ true
   pub mass_storage : list_all p mass_storage_rows ≡ true
+  pub hub : list_all p hub_rows ≡ true
   pub cdc_data : list_all p cdc_data_rows ≡ true
   pub smart_card : list_all p smart_card_rows ≡ true
   pub video : list_all p video_rows ≡ true
@@ -158,7 +159,7 @@ pub record AllRows (p : Row → Bool) : Type 0 where
 
 all_of_class : (p : Row → Bool) → AllRows p → (class : ℕ) → list_all p (class_rows class) ≡ true
 all_of_class p all class =
-    simp (either_all p, all.newer_audio, all.communications, all.hid, all.mass_storage, all.cdc_data, all.smart_card, all.video, all.application, same) refl
+    simp (either_all p, all.newer_audio, all.communications, all.hid, all.mass_storage, all.hub, all.cdc_data, all.smart_card, all.video, all.application, same) refl
 
 all_of_interface : (p : Row → Bool) → AllRows p → (interface : Option ClassCodes) → list_all p (rows_of_class interface) ≡ true
 all_of_interface p all None = refl
@@ -182,7 +183,7 @@ abbrev row_has_words : Row → Bool
 row_has_words row = is_words row.name && layout_has_words (row_layout row)
 
 all_words : AllRows row_has_words
-unfolding standard_rows newer_audio_rows audio_rows communications_rows hid_rows mass_storage_rows cdc_data_rows smart_card_rows video_rows further_video_rows application_rows other_rows
+unfolding standard_rows newer_audio_rows audio_rows communications_rows hid_rows mass_storage_rows hub_rows cdc_data_rows smart_card_rows video_rows further_video_rows application_rows other_rows
 all_words = record {
   standard = refl;
   newer_audio = refl;
@@ -190,6 +191,7 @@ all_words = record {
   communications = refl;
   hid = refl;
   mass_storage = refl;
+  hub = refl;
   cdc_data = refl;
   smart_card = refl;
   video = refl;

@@ -1,6 +1,6 @@
 -- The explanation of a fragment: descriptors one after another, each as long as its first byte says (USB 2.0, 9.5), with no owner
 -- asked for; or a setup packet (9.3).
-use Rattle.std.specs.Prelude.{ℕ, ◌+◌, ◌/◌, ◌%◌, List, [], ◌∷◌, ◌++◌, length, drop, flat_map, slice_index, Bool, nat_le, ◌==◌, ◌&&◌, ◌||◌, Option, Some, None, false, not, unwrap_or, if◌then◌else◌, codes}
+use Rattle.std.specs.Prelude.{ℕ, ◌+◌, ◌*◌, ◌/◌, ◌%◌, List, [], ◌∷◌, ◌++◌, length, drop, flat_map, slice_index, Bool, nat_le, ◌==◌, ◌&&◌, ◌||◌, Option, Some, None, false, not, unwrap_or, if◌then◌else◌, codes}
 use Rattle.std.specs.Option.{option_or}
 use Rattle.usb_fields.specs.Bytes.{little_endian_at}
 use Rattle.usb_file_data.specs.Likeness.{names_languages}
@@ -46,10 +46,16 @@ role_alone d =
     else if kind == 11 then typed_role (nat_le 8 (length d)) Association
     else Raw
 
--- a HID descriptor is one by its type and its length (HID 1.11, 6.2.1 and 7.1)
+-- the length of a hub descriptor by its number of ports: at its end are two fields with a bit for each port above a reserved bit
+-- (USB 2.0, 11.23.2.1)
+abbrev pub hub_length : List ℕ → ℕ
+hub_length d = 7 + 2 * (slice_index d 2 / 8 + 1)
+
+-- a HID descriptor is one by its type and its length (HID 1.11, 6.2.1 and 7.1), and so is one of a hub
 abbrev pub class_alone : List ℕ → Option ClassCodes
 class_alone d =
     if (slice_index d 1 == 0x21) && (length d == hid_length d) then Some (record { class = 0x03; subclass = 0; protocol = 0 })
+    else if (slice_index d 1 == 0x29) && (length d == hub_length d) then Some (record { class = 0x09; subclass = 0; protocol = 0 })
     else None
 
 -- the codes of an interface (USB 2.0, 9.6.5)

@@ -5,7 +5,7 @@ ghost use Rattle.usb_text.specs.Shown.{ends, showing_all};
 ghost use Rattle.usb_text.specs.Written.{WritesLess, WritesLines};
 ghost use Rattle.usb_explain.specs.Descriptors.{lines_of};
 ghost use Rattle.usb_explain.specs.Explanations.{first_line};
-ghost use Rattle.usb_explain.specs.Fragments.{class_alone, described_alone, descriptors_lines, fragment, fragment_lines, fragment_start, interface_codes, position_past, role_alone, speed_alone, string_alone};
+ghost use Rattle.usb_explain.specs.Fragments.{class_alone, described_alone, descriptors_lines, fragment, fragment_lines, fragment_start, hub_length, interface_codes, position_past, role_alone, speed_alone, string_alone};
 ghost use Rattle.usb_explain.specs.Outline.{bytes_of, described};
 
 use crate::class_remark::hid_length;
@@ -199,13 +199,26 @@ fn interface_codes(d: &[u8]) -> ClassCodes
     }
 }
 
-/// The class of a HID descriptor, which is one by its type and its length (HID 1.11, 6.2.1 and 7.1).
+/// The length of a hub descriptor by its number of ports (USB 2.0, 11.23.2.1).
+fn hub_length(d: &[u8]) -> usize
+    ensures { result ≡ hub_length d.now }
+{
+    7 + 2 * (usize::from(byte_at(d, 2)) / 8 + 1)
+}
+
+/// The class of a HID or a hub descriptor, which is one by its type and its length (HID 1.11, 6.2.1 and 7.1; USB 2.0, 11.23.2.1).
 fn class_alone(d: &[u8]) -> Option<ClassCodes>
     ensures { result ≡ class_alone d.now }
 {
     if byte_at(d, 1) == 0x21 && d.len() == hid_length(d) {
         Some(ClassCodes {
             class: 0x03,
+            subclass: 0,
+            protocol: 0,
+        })
+    } else if byte_at(d, 1) == 0x29 && d.len() == hub_length(d) {
+        Some(ClassCodes {
+            class: 0x09,
             subclass: 0,
             protocol: 0,
         })

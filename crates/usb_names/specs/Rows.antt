@@ -4,7 +4,7 @@ use Rattle.std.specs.Prelude.{ℕ, List, [], ◌++◌, Option, Some, None, optio
 use Rattle.std.specs.List.{find}
 use Rattle.usb_names.specs.declared.codes.ClassCodes.{ClassCodes}
 use Rattle.usb_names.specs.declared.row.ClassDescriptor.{ClassDescriptor}
-use Rattle.usb_names.specs.declared.rows.TheConstants.{STANDARD_ROWS, NEWER_AUDIO_ROWS, AUDIO_ROWS, COMMUNICATIONS_ROWS, HID_ROWS, MASS_STORAGE_ROWS, CDC_DATA_ROWS, SMART_CARD_ROWS, VIDEO_ROWS, FURTHER_VIDEO_ROWS, APPLICATION_ROWS, OTHER_ROWS}
+use Rattle.usb_names.specs.declared.rows.TheConstants.{STANDARD_ROWS, NEWER_AUDIO_ROWS, AUDIO_ROWS, COMMUNICATIONS_ROWS, HID_ROWS, MASS_STORAGE_ROWS, HUB_ROWS, CDC_DATA_ROWS, SMART_CARD_ROWS, VIDEO_ROWS, FURTHER_VIDEO_ROWS, APPLICATION_ROWS, OTHER_ROWS}
 use Rattle.usb_names.specs.Shown.{Row, of_constant}
 
 -- standard types of USB 2.0 (9.4, table 9-5), OTG 2.0 and USB 3.2 (9.6.7, 9.6.8), wherever they are
@@ -30,6 +30,10 @@ hid_rows = map of_constant HID_ROWS
 -- mass storage: USB Attached SCSI
 unfoldable pub mass_storage_rows : List Row
 mass_storage_rows = map of_constant MASS_STORAGE_ROWS
+
+-- hubs: USB 2.0, 11.23.2.1
+unfoldable pub hub_rows : List Row
+hub_rows = map of_constant HUB_ROWS
 
 -- CDC data: CDC 1.2
 unfoldable pub cdc_data_rows : List Row
@@ -62,6 +66,7 @@ class_rows class =
     else if class == 2 then communications_rows
     else if class == 3 then hid_rows
     else if class == 8 then mass_storage_rows
+    else if class == 9 then hub_rows
     else if class == 10 then cdc_data_rows
     else if class == 11 then smart_card_rows
     else if class == 14 then video_rows

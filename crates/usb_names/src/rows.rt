@@ -77,6 +77,13 @@ pub(crate) fn mass_storage_rows() -> &'static [ClassDescriptor]
     &MASS_STORAGE_ROWS
 }
 
+#[tactic(auto, unfolding(crate::specs::Rows::hub_rows))]
+pub(crate) fn hub_rows() -> &'static [ClassDescriptor]
+    ensures { map row_of result.now ≡ tables.hub_rows }
+{
+    &HUB_ROWS
+}
+
 #[tactic(auto, unfolding(crate::specs::Rows::cdc_data_rows))]
 pub(crate) fn cdc_data_rows() -> &'static [ClassDescriptor]
     ensures { map row_of result.now ≡ tables.cdc_data_rows }
@@ -128,6 +135,7 @@ pub(crate) fn class_rows(class: u8) -> &'static [ClassDescriptor]
         0x02 => communications_rows(),
         0x03 => hid_rows(),
         0x08 => mass_storage_rows(),
+        0x09 => hub_rows(),
         0x0a => cdc_data_rows(),
         0x0b => smart_card_rows(),
         0x0e => video_rows(),
@@ -246,6 +254,11 @@ static HID_ROWS: [ClassDescriptor; 1] = [
 /// Mass storage: USB Attached SCSI.
 static MASS_STORAGE_ROWS: [ClassDescriptor; 1] = [
     row!(0x06 0x62 0x24 _ _ _ "UAS pipe usage" ["bPipeID" Decimal 1, "bReserved" Hexadecimal 1] []),
+];
+
+/// Hubs: USB 2.0, 11.23.2.1.
+static HUB_ROWS: [ClassDescriptor; 1] = [
+    row!(_ _ 0x29 _ _ _ "hub" ["bNbrPorts" Decimal 1, "wHubCharacteristics" Hexadecimal 2, "bPwrOn2PwrGood" Decimal 1, "bHubContrCurrent" Decimal 1] []),
 ];
 
 /// CDC data: CDC 1.2.
