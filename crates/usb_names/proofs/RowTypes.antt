@@ -4,7 +4,7 @@ use Rattle.std.specs.List.{list_all}
 use Rattle.std.specs.Option.{option_or}
 use Rattle.std.proofs.lemmas.Bool.{and_parts, eqb-true}
 use Rattle.usb_names.specs.declared.codes.ClassCodes.{ClassCodes}
-use Rattle.usb_names.specs.Rows.{application_rows, audio_rows, cdc_data_rows, class_rows, communications_rows, first_row, further_rows, further_rows_of_class, further_video_rows, hid_rows, holds, is_class_type, mass_storage_rows, newer_audio_rows, other_rows, rows_behind, rows_of_class, smart_card_rows, standard_rows, video_rows}
+use Rattle.usb_names.specs.Rows.{application_rows, audio_rows, cdc_data_rows, class_rows, communications_rows, first_row, further_rows, further_rows_of_class, further_video_rows, hid_rows, holds, hub_rows, is_class_type, mass_storage_rows, newer_audio_rows, other_rows, rows_behind, rows_of_class, smart_card_rows, standard_rows, video_rows}
 use Rattle.usb_names.specs.Shown.{Row}
 use Rattle.usb_names.proofs.RowLemmas.{find_in_four}
 
@@ -41,6 +41,7 @@ record ClassTypes : Type 0 where
   communications : list_all of_class communications_rows ≡ true
   hid : list_all of_class hid_rows ≡ true
   mass_storage : list_all of_class mass_storage_rows ≡ true
+  hub : list_all of_class hub_rows ≡ true
   cdc_data : list_all of_class cdc_data_rows ≡ true
   smart_card : list_all of_class smart_card_rows ≡ true
   video : list_all of_class video_rows ≡ true
@@ -49,13 +50,14 @@ record ClassTypes : Type 0 where
   other : list_all of_class other_rows ≡ true
 
 class_types : ClassTypes
-unfolding newer_audio_rows audio_rows communications_rows hid_rows mass_storage_rows cdc_data_rows smart_card_rows video_rows further_video_rows application_rows other_rows
+unfolding newer_audio_rows audio_rows communications_rows hid_rows mass_storage_rows hub_rows cdc_data_rows smart_card_rows video_rows further_video_rows application_rows other_rows
 class_types = record {
   newer_audio = refl;
   audio = refl;
   communications = refl;
   hid = refl;
   mass_storage = refl;
+  hub = refl;
   cdc_data = refl;
   smart_card = refl;
   video = refl;
@@ -67,7 +69,7 @@ class_types = record {
 first_all : (class : ℕ) → list_all of_class (class_rows class) ≡ true
 first_all class =
     let all = class_types in
-    simp (either_all of_class, all.newer_audio, all.communications, all.hid, all.mass_storage, all.cdc_data, all.smart_card, all.video, all.application, same) refl
+    simp (either_all of_class, all.newer_audio, all.communications, all.hid, all.mass_storage, all.hub, all.cdc_data, all.smart_card, all.video, all.application, same) refl
 
 further_all : (class : ℕ) → list_all of_class (further_rows class) ≡ true
 further_all class = let all = class_types in simp (either_all of_class, all.audio, all.further_video, same) refl

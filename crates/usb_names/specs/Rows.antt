@@ -92,7 +92,7 @@ further_rows_of_class (Some codes) = further_rows codes.class
 
 -- the types that classes define, which other rows don't have and these alone
 abbrev pub is_class_type : ℕ → Bool
-is_class_type type = (type == 0x21) || (type == 0x24) || (type == 0x25)
+is_class_type type = (type == 0x21) || (type == 0x24) || (type == 0x25) || (type == 0x29)
 
 -- the rows after an interface of these codes, in their order
 abbrev pub rows_behind : Option ClassCodes → List Row

@@ -95,7 +95,7 @@ fn first_row(
 fn is_class_type(descriptor_type: u8) -> bool
     ensures { result ≡ is_class_type descriptor_type }
 {
-    matches!(descriptor_type, 0x21 | 0x24 | 0x25)
+    matches!(descriptor_type, 0x21 | 0x24 | 0x25 | 0x29)
 }
 
 /// The descriptor of this type and of a body that begins with these bytes, after an interface of these codes; before any
