@@ -34,6 +34,7 @@ pub fn run_build<R: Read, W: Write>(alloc: Global, r: &mut R, w: &mut W) -> Resu
 {
     let text = read_all(alloc, r, LISTING_LIMIT)?;
     let file = assemble(alloc, &text)?;
+    drop(text);
     put_file(alloc, &file, w)
 }
 
@@ -60,6 +61,7 @@ pub fn run_build_commented<R: Read, W: Write>(
 {
     let text = read_all(alloc, r, LISTING_LIMIT)?;
     let file = assemble_commented(alloc, &text)?;
+    drop(text);
     put_file(alloc, &file, w)
 }
 

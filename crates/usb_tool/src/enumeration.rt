@@ -117,23 +117,25 @@ pub fn run_enumeration<R: Read, W: Write>(
     ensures err { IfErr result (EnumerateFails (under l s fates.now flags) (R.remaining r.old) (R.remaining r.new) (W.contents w.old) (W.contents w.new)) }
 {
     let bytes = read_all(alloc, r, FILE_LIMIT)?;
-    enumerate_bytes(alloc, &bytes, w, l, s, fates, flags)
+    enumerate_bytes(alloc, bytes, w, l, s, fates, flags)
 }
 
-/// Writes what comes of the file that the bytes are, and flushes the writer.
+/// Writes what comes of the file that the bytes are, and flushes the writer. The bytes are let go before the enumeration, in
+/// which the file is there twice: the device's, and what the host has read.
 fn enumerate_bytes<W: Write>(
     alloc: Global,
-    bytes: &[u8],
+    bytes: Vec<u8>,
     w: &mut W,
     l: Limits,
     s: Speed,
     fates: &[Fate],
     flags: EnumerateFlags,
 ) -> Result<EnumerationEnd, ToolFault>
-    ensures ok { IfOk result (WritesResult (under l s fates.now flags) bytes.now (W.contents w.old) (W.contents w.new)) }
-    ensures err { IfErr result (RefusesToEnumerate (under l s fates.now flags) bytes.now (W.contents w.old) (W.contents w.new)) }
+    ensures ok { IfOk result (WritesResult (under l s fates.now flags) bytes.items (W.contents w.old) (W.contents w.new)) }
+    ensures err { IfErr result (RefusesToEnumerate (under l s fates.now flags) bytes.items (W.contents w.old) (W.contents w.new)) }
 {
-    let file = file_of(alloc, bytes, flags.with_strings)?;
+    let file = file_of(alloc, &bytes, flags.with_strings)?;
+    drop(bytes);
     let description = match Description::new(alloc, file, s) {
         Ok(description) => description,
         Err(fault) => {

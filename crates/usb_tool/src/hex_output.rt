@@ -40,7 +40,8 @@ pub fn run_build_hex<R: Read, W: Write>(
 {
     let text = read_all(alloc, r, LISTING_LIMIT)?;
     let file = file_of(alloc, &text, comments)?;
-    put_hex(alloc, &file, w)
+    drop(text);
+    put_hex(alloc, file, w)
 }
 
 /// The file that the text lists, with comments or without.
@@ -56,12 +57,13 @@ fn file_of(alloc: Global, text: &[u8], comments: bool) -> Result<DescriptorFile,
 }
 
 /// Writes the bytes of a file as hexadecimal text, and flushes the writer.
-fn put_hex<W: Write>(alloc: Global, f: &DescriptorFile, w: &mut W) -> Result<u8, ToolFault>
-    requires { (b : List ℕ) × File f.now b }
-    ensures ok { IfOk result (EndsWith (hex_text (file_bytes f.now)) 0 (W.contents w.old) (W.contents w.new)) }
-    ensures err { IfErr result (IsCut AppendsNone (hex_text (file_bytes f.now)) (W.contents w.old) (W.contents w.new)) }
+fn put_hex<W: Write>(alloc: Global, f: DescriptorFile, w: &mut W) -> Result<u8, ToolFault>
+    requires { (b : List ℕ) × File f b }
+    ensures ok { IfOk result (EndsWith (hex_text (file_bytes f)) 0 (W.contents w.old) (W.contents w.new)) }
+    ensures err { IfErr result (IsCut AppendsNone (hex_text (file_bytes f)) (W.contents w.old) (W.contents w.new)) }
 {
-    let bytes = bytes_of(alloc, f)?;
+    let bytes = bytes_of(alloc, &f)?;
+    drop(f);
     write_hex(alloc, &bytes, w)
 }
 

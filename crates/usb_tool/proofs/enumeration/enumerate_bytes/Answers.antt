@@ -2,7 +2,7 @@ use Rattle.std.proofs.Common.{◌≢◌, rules, subst}
 use Rattle.usb_device.specs.Descriptors.{Described}
 use Rattle.usb_device.specs.declared.acceptance.DescriptionFault.TheVariants.{Memory}
 use Rattle.usb_text.proofs.Pages.{appends_nothing, keeps_refl}
-use Rattle.usb_tool.specs.Enumerations.{RefusesToEnumerate, under}
+use Rattle.usb_tool.specs.Enumerations.{IsTaken, RefusesToEnumerate, under}
 use Rattle.usb_tool.specs.inside.Telling.{BreaksRun, MakesRun}
 use Rattle.usb_tool.proofs.Telling.{first_reason, refusal_told, refused_some, result_cut, result_written, run_broken, run_text_some, run_told, same_broken}
 use Rattle.usb_tool.proofs.enumeration.enumerate_bytes.Goals as goal
@@ -12,7 +12,7 @@ returns-in-Err g c =
     let known : c.in-Err.fault ≢ Memory = search rules in
     let why = first_reason c.in_ok-file.file c.args.s c.in-Err.fault c.in-Err.ensures.err known in
     let set = under c.args.l c.args.s c.args.fates.now c.args.flags in
-    let told = refusal_told set c.in_ok-file.file c.args.bytes.now c.in-Err.fault c.in_ok-file.ensures.ok why in
+    let told = refusal_told set c.in_ok-file.file c.args.bytes.items c.in-Err.fault (subst (IsTaken c.args.flags.with_strings c.in_ok-file.file) c.deref.ensures.value c.in_ok-file.ensures.ok) why in
     let held = g.W.Write.contents c.args.w.now in
     let unlogged = appends_nothing held held (keeps_refl held) in
     record {
@@ -30,7 +30,7 @@ returns g c =
     subst (λ (d : Described). MakesRun (under c.args.l d.speed c.args.fates.now c.args.flags) d.file held mid run) c.in-Ok.ensures.ok
     c.in_ok-run.ensures.ok
     in
-    let told = run_told set c.in_ok-file.file c.args.bytes.now run made.log c.in_ok-file.ensures.ok
+    let told = run_told set c.in_ok-file.file c.args.bytes.items run made.log (subst (IsTaken c.args.flags.with_strings c.in_ok-file.file) c.deref.ensures.value c.in_ok-file.ensures.ok)
     c.in-Ok.ensures.accepted made.enumerated in
     record {
       ok = result_written _ _ _ _ _ _ _ _ told made.written _ c.tell_run.ensures.ok;
@@ -46,5 +46,5 @@ returns-in_err-run-clause-err g c =
     subst (λ (d : Described). BreaksRun (under c.args.l d.speed c.args.fates.now c.args.flags) d.file held mid c.in_err-run.field-0.0) c.in-Ok.ensures.ok
     c.in_err-run.ensures.err
     in
-    same_broken (RefusesToEnumerate set c.args.bytes.now held mid) c.from_residual-in_err-run.result c.in_err-run.field-0.0 c.from_residual-in_err-run.ensures.1
-    (run_broken set c.in_ok-file.file c.args.bytes.now held mid c.in_err-run.field-0.0 c.in_ok-file.ensures.ok c.in-Ok.ensures.accepted broke)
+    same_broken (RefusesToEnumerate set c.args.bytes.items held mid) c.from_residual-in_err-run.result c.in_err-run.field-0.0 c.from_residual-in_err-run.ensures.1
+    (run_broken set c.in_ok-file.file c.args.bytes.items held mid c.in_err-run.field-0.0 (subst (IsTaken c.args.flags.with_strings c.in_ok-file.file) c.deref.ensures.value c.in_ok-file.ensures.ok) c.in-Ok.ensures.accepted broke)
