@@ -17,7 +17,7 @@ def is_taken(run):
     """Whether plain Rust takes a run: it explains whole inputs alone, and no text that has their digits."""
     is_whole = run.status == 0 and run.output and not run.output.startswith(b"hexadecimal text")
     is_explained = run.words == ["explain"] and is_whole
-    return run.read is None and (is_explained or run.words in COMMANDS or run.words[:1] in OWN)
+    return run.read is None and not run.terminal and (is_explained or run.words in COMMANDS or run.words[:1] in OWN)
 
 
 def wanted_runs():
