@@ -37,6 +37,7 @@ pub(crate) fn read_in(alloc: Global, form: Form, text: &[u8]) -> Result<Vec<u8>,
         Form::Plain => read_items(alloc, Form::Plain, text),
         Form::Colons => read_items(alloc, Form::Colons, text),
         Form::Spaces => read_items(alloc, Form::Spaces, text),
+        Form::Source(style) => read_items(alloc, Form::Source(style), text),
         _ => read_items(alloc, form, text),
     }
 }
