@@ -7,7 +7,7 @@ use Rattle.usb_text.specs.declared.hex_text.Form.{Form}
 use Rattle.usb_text.specs.declared.hex_text.Form.TheVariants.{Plain, Words}
 use Rattle.usb_text.specs.HexDigits.{Item, is_gap, joined}
 use Rattle.usb_text.specs.Columns.{after_all, at_start, begins_zeros, column_form, ends_address, has_columns, is_blank, is_offset, is_zero}
-use Rattle.usb_text.specs.HexText.{Reads, begins_byte, begins_directive, bytes_of, digits_in, ends, form_of, goes_on, in_line, item, line_item, plain_item}
+use Rattle.usb_text.specs.HexText.{Reads, begins_byte, begins_directive, bytes_of, digits_in, ends, form_of, goes_on, in_line, item, line_item, mark_or_byte, plain_item}
 use Rattle.usb_text.specs.TwoReadings.{has_two_readings}
 use Rattle.usb_text.specs.Hexadecimal.{HexAsIs, IsApart, IsNoDescriptor, is_of_source}
 
@@ -30,17 +30,17 @@ moved {form = form} {count = count} {left = left} rest (goes_on {rest = tail} {b
 
 -- the characters that begin no item
 eighteen : (count : ℕ) (rest : List ℕ) → item Plain count (18 ∷ rest) ≡ None
-unfolding line_item plain_item digits_in
+unfolding line_item plain_item mark_or_byte digits_in
 eighteen count [] = refl
 eighteen count (d ∷ rest) = refl
 
 two : (count : ℕ) (rest : List ℕ) → item Plain count (2 ∷ rest) ≡ None
-unfolding line_item plain_item digits_in
+unfolding line_item plain_item mark_or_byte digits_in
 two count [] = refl
 two count (d ∷ rest) = refl
 
 seven : (count : ℕ) (rest : List ℕ) → item Plain count (7 ∷ rest) ≡ None
-unfolding line_item plain_item digits_in
+unfolding line_item plain_item mark_or_byte digits_in
 seven count [] = refl
 seven count (d ∷ rest) = refl
 
@@ -63,11 +63,11 @@ gap_or_none false true taken other none = inl refl
 gap_or_none false false taken other none = inr none
 
 before_two : (count c : ℕ) (rest : List ℕ) → (item Plain count (c ∷ 2 ∷ rest) ≡ Some (None, 2 ∷ rest)) ⊎ (item Plain count (c ∷ 2 ∷ rest) ≡ None)
-unfolding line_item plain_item digits_in
+unfolding line_item plain_item mark_or_byte digits_in
 before_two count c rest = gap_or_none (c == 10) (is_gap c) _ _ (no_mark ((c == 48) || (c == 92)) (begins_byte rest) (Some (None, rest)) (hex_digit_value c) rest)
 
 before_seven : (count c : ℕ) (rest : List ℕ) → (item Plain count (c ∷ 7 ∷ rest) ≡ Some (None, 7 ∷ rest)) ⊎ (item Plain count (c ∷ 7 ∷ rest) ≡ None)
-unfolding line_item plain_item digits_in
+unfolding line_item plain_item mark_or_byte digits_in
 before_seven count c rest = gap_or_none (c == 10) (is_gap c) _ _ (no_mark ((c == 48) || (c == 92)) (begins_byte rest) (Some (None, rest)) (hex_digit_value c) rest)
 
 not_whole : (c : ℕ) (rest : List ℕ) → [] ≡ c ∷ rest → ⊥

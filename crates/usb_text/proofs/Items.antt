@@ -2,9 +2,8 @@
 use Rattle.std.proofs.Common.{◌≡◌, ℕ, ◌++◌, List, [], Option, Some, None, append_assoc, append-nil, length, subst, sym}
 use Rattle.std.proofs.lemmas.List.{length-append}
 use Rattle.usb_text.specs.declared.hex_text.Form.{Form}
-use Rattle.usb_text.specs.declared.hex_text.Form.TheVariants.{Plain}
 use Rattle.usb_text.specs.HexText.{in_line}
-use Rattle.usb_text.specs.HexText.{Reads, bytes_of, ends, goes_on, item, line_item}
+use Rattle.usb_text.specs.HexText.{Reads, bytes_of, ends, goes_on, item}
 use Rattle.usb_text.specs.Hexadecimal.{ReadsText}
 
 -- the bytes of what is left go on those of the text
@@ -28,15 +27,3 @@ pub leads_to : (form : Form) (text rest done : List ℕ) → item form (length d
 leads_to form text rest done is leads =
     let P : List ℕ → Type 0 = λ bytes. ReadsText form text bytes rest in
     subst P (append-nil done) (leads.on [] rest (ends is))
-
--- the same of a text without columns
-
-pub freely_from : (text : List ℕ) → Leads Plain text text []
-freely_from text = leads_from Plain text
-
-pub freely_on : (text rest done tail : List ℕ) (byte : Option ℕ) → line_item Plain (length done) rest ≡ Some (byte, tail)
-    → Leads Plain text rest done → Leads Plain text tail (done ++ bytes_of byte)
-freely_on text rest done tail byte is leads = leads_on Plain text rest done tail byte is leads
-
-pub freely_to : (text rest done : List ℕ) → line_item Plain (length done) rest ≡ None → Leads Plain text rest done → Reads Plain 0 text done rest
-freely_to text rest done is leads = leads_to Plain text rest done is leads

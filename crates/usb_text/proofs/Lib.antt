@@ -11,3 +11,7 @@ pub mod Items
 pub mod Apart
 pub mod OneReading
 pub mod InOrder
+pub mod DigitValues
+pub mod DigitItems
+pub mod Feeds
+pub mod Offsets

@@ -2,7 +2,7 @@
 --
 -- An offset is four digits or more. It is zero where the text begins, as `xxd`, `hexdump -C`, `od`, `objdump -s` and
 -- Wireshark have it, or an address before a colon, as a debugger has it. Each other one is the count of the bytes before it.
-use Rattle.std.specs.Prelude.{◌≡◌, ℕ, ◌+◌, ◌-◌, ◌*◌, ◌==◌, ◌||◌, ◌&&◌, Bool, false, not, zero, suc, nat_le, nat_lt, true, if◌then◌else◌, List, [], ◌∷◌, length, slice_index, Option, Some, None}
+use Rattle.std.specs.Prelude.{ℕ, ◌+◌, ◌*◌, ◌==◌, ◌||◌, ◌&&◌, Bool, false, not, zero, suc, nat_le, nat_lt, true, if◌then◌else◌, List, [], ◌∷◌, length, slice_index, Option, Some, None}
 use Rattle.hex.specs.Hex.{hex_digit_value, is_hex_digit}
 use Rattle.usb_text.specs.Comments.{is_before_line, is_fence}
 use Rattle.usb_text.specs.HexDigits.{byte_of, is_gap}
@@ -147,11 +147,15 @@ abbrev pub or_later : Option Bool → Option Bool → Option Bool
 or_later None later = later
 or_later (Some is) later = Some is
 
+-- a line's bytes end at this character: at its end, or at two spaces
+abbrev pub ends_bytes : ℕ → List ℕ → Bool
+ends_bytes c rest = (c == 10) || has_two_spaces (c ∷ rest)
+
 -- The first visible character of a line is that of its byte. Its high digit may be the character before the text.
 unfoldable pub order_of : Bool → ℕ → List ℕ → List ℕ → Option Bool
 order_of begun high [] characters = None
 order_of begun high (c ∷ rest) characters =
-    if (c == 10) || has_two_spaces (c ∷ rest) then None
+    if ends_bytes c rest then None
     else if begun then or_later (tells (byte_of high c) (slice_index characters 0)) (order_of false c rest (after_one characters))
     else order_of (is_hex_digit c) c rest characters
 

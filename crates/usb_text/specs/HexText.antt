@@ -47,16 +47,16 @@ gap_or form count c rest other =
     else if is_gap c then Some (None, rest)
     else other
 
-abbrev pub mark_or : ℕ → ℕ → List ℕ → Item → Item
-mark_or c d rest other = if is_mark c d && begins_byte rest then Some (None, rest) else other
-
 unfoldable pub digits_in : Form → ℕ → ℕ → List ℕ → Item
 digits_in form c d rest = if is_too_long form rest then None else digits c d rest
 
+unfoldable pub mark_or_byte : Form → ℕ → List ℕ → Item
+mark_or_byte form c [] = None
+mark_or_byte form c (d ∷ rest) = if is_mark c d && begins_byte rest then Some (None, rest) else digits_in form c d rest
+
 unfoldable pub plain_item : Form → ℕ → List ℕ → Item
 plain_item form count [] = None
-plain_item form count (c ∷ []) = gap_or form count c [] None
-plain_item form count (c ∷ d ∷ rest) = gap_or form count c (d ∷ rest) (mark_or c d rest (digits_in form c d rest))
+plain_item form count (c ∷ rest) = gap_or form count c rest (mark_or_byte form c rest)
 
 abbrev pub is_none : Item → Bool
 is_none None = true

@@ -1,5 +1,5 @@
 -- Labels of lines, which are no bytes: `Device: 12 01`, `"Data"=hex:12,01`, `db 12h` and `char d[] = "\x12"`.
-use Rattle.std.specs.Prelude.{ℕ, ◌+◌, ◌==◌, ◌||◌, ◌&&◌, Bool, false, not, true, if◌then◌else◌, List, [], ◌∷◌, slice_index}
+use Rattle.std.specs.Prelude.{ℕ, ◌+◌, ◌==◌, ◌||◌, ◌&&◌, Bool, false, not, if◌then◌else◌, List, [], ◌∷◌, slice_index}
 use Rattle.hex.specs.Hex.{is_hex_digit}
 use Rattle.usb_text.specs.Columns.{after_all, after_one, is_blank}
 use Rattle.usb_text.specs.SourceItems.{begins_escape, begins_line_end, is_decimal, is_letter, is_quote}

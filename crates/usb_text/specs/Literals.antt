@@ -1,7 +1,7 @@
 -- Literals of Python and Rust, as `b'\x12\x01 @'`, in which a printable character is its own byte.
-use Rattle.std.specs.Prelude.{ℕ, ◌==◌, ◌||◌, ◌&&◌, Bool, false, not, nat_le, if◌then◌else◌, List, [], ◌∷◌, slice_index, Option, Some, None, option_map}
+use Rattle.std.specs.Prelude.{ℕ, ◌==◌, ◌||◌, ◌&&◌, Bool, false, not, if◌then◌else◌, List, [], ◌∷◌, slice_index, Option, Some, None, option_map}
 use Rattle.usb_text.specs.Columns.{after_all, after_one, at_start}
-use Rattle.usb_text.specs.HexDigits.{Item, digits, no_byte}
+use Rattle.usb_text.specs.HexDigits.{Item, digits}
 use Rattle.usb_text.specs.Labels.{ends_declaration}
 use Rattle.usb_text.specs.Lines.{is_printable}
 use Rattle.usb_text.specs.SourceItems.{byte_before, closing_item, is_decimal, is_of_word, is_quote}

@@ -1,5 +1,5 @@
 -- Texts that two readings would take differently. None is read of them.
-use Rattle.std.specs.Prelude.{ℕ, ◌+◌, ◌/◌, ◌==◌, ◌||◌, ◌&&◌, Bool, false, true, not, nat_lt, if◌then◌else◌, List, [], ◌∷◌, length, slice_index}
+use Rattle.std.specs.Prelude.{ℕ, ◌+◌, ◌/◌, ◌==◌, ◌||◌, ◌&&◌, Bool, nat_lt, if◌then◌else◌, List, [], ◌∷◌, length, slice_index}
 use Rattle.hex.specs.Hex.{is_hex_digit}
 use Rattle.usb_text.specs.Columns.{after_all, after_one, at_start, begins_gap, begins_numbers, is_blank, is_offset, next_line, offset_value}
 use Rattle.usb_text.specs.Labels.{are_pairs}

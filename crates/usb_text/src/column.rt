@@ -10,9 +10,10 @@ use crate::in_order::colon_form;
 use crate::named::after_label;
 use crate::numbers::digit;
 use crate::offset::{
-    after_digits, after_mark, after_name, after_offset, ends_address, has_digits, has_offset,
-    is_offset, offset_value,
+    after_digits, after_mark, after_name, after_offset_of, ends_address, has_digits, is_offset,
+    offset_value,
 };
+use memchr::memchr;
 
 /// What is left after all leading zeros.
 #[tactic(auto, unfolding(crate::specs::Columns::after_all))]
@@ -57,19 +58,15 @@ pub(crate) fn after_blanks(text: &[u8]) -> &[u8]
 }
 
 /// What is left after the rest of a line, from its line feed on.
-#[tactic(auto, unfolding(crate::specs::Columns::after_all))]
+#[tactic(auto, using(crate::proofs::Feeds::feed_found, crate::proofs::Feeds::feed_nowhere))]
 pub(crate) fn after_line(text: &[u8]) -> &[u8]
     ensures is { result.now ≡ after_all is_in_line text.now }
     ensures within { length result.now ≤ length text.now }
 {
-    let mut rest = text;
-    while let [c, tail @ ..] = rest {
-        if *c == b'\n' {
-            break;
-        }
-        rest = tail;
+    match memchr(b'\n', text) {
+        Some(length) => &text[length..],
+        None => &[],
     }
-    rest
 }
 
 /// What is left from the first character of a line on that is neither white space nor before a line in a mail.
@@ -287,18 +284,22 @@ fn at_offset(place: u128, text: &[u8]) -> Option<&[u8]>
     ensures within { IfSome result (λ rest. length rest.now ≤ length text.now) }
 {
     let line = at_start(text);
-    if has_offset(place, line) {
-        Some(after_offset(line))
-    } else if is_empty_line(line) {
-        Some(line)
-    } else if begins_fence(line) {
-        Some(after_line(line))
-    } else {
-        None
+    match after_offset_of(place, line) {
+        Some(rest) => Some(rest),
+        None => {
+            if is_empty_line(line) {
+                Some(line)
+            } else if begins_fence(line) {
+                Some(after_line(line))
+            } else {
+                None
+            }
+        }
     }
 }
 
 /// What is left after the start of a line that isn't the first, after so many bytes.
+#[inline(always)]
 pub(crate) fn at_line(form: Form, count: usize, text: &[u8]) -> Option<&[u8]>
     ensures is { MatchOption result (at_line form count text.now ≡ None) (λ rest. at_line form count text.now ≡ Some rest.now) }
     ensures within { IfSome result (λ rest. length rest.now ≤ length text.now) }
@@ -312,6 +313,7 @@ pub(crate) fn at_line(form: Form, count: usize, text: &[u8]) -> Option<&[u8]>
 }
 
 /// Whether the group of a byte goes on after it for longer than the form has it.
+#[inline(always)]
 pub(crate) fn is_too_long(form: Form, rest: &[u8]) -> bool
     ensures { result ≡ is_too_long form rest.now }
 {

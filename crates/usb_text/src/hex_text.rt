@@ -8,7 +8,7 @@ ghost use Rattle.usb_text.specs.Columns.{after_all};
 ghost use Rattle.usb_text.specs.HexText.{begins_directive, begins_mark, form_of, is_digit_letter};
 ghost use Rattle.std.specs.Prelude.{◌≡◌, ◌<◌, IfSome, MatchOption, None, Some, length, slice_index, ◌&&◌, ◌==◌};
 ghost use Rattle.usb_text.specs.HexDigits.{is_gap};
-ghost use Rattle.usb_text.specs.HexText.{begins_byte, digits_in, has_characters, has_no_item, is_mark, item, line_item, plain_item};
+ghost use Rattle.usb_text.specs.HexText.{begins_byte, has_characters, has_no_item, is_mark, item, line_item, mark_or_byte, plain_item};
 
 use crate::column::{
     after_blanks, after_line, after_one, at_line, at_start, begins_blank, begins_digit,
@@ -185,31 +185,17 @@ pub(crate) fn item(form: Form, count: usize, text: &[u8]) -> Option<(Option<u8>,
     }
 }
 
-/// The same in a text with or without columns.
+/// The same in a text with or without columns. Most items begin with a digit, which tells them from the others.
 #[inline(always)]
-#[tactic(auto, unfolding(crate::specs::HexText::line_item, crate::specs::HexText::plain_item))]
+#[tactic(auto, unfolding(crate::specs::HexText::line_item))]
 fn line_item(form: Form, count: usize, text: &[u8]) -> Option<(Option<u8>, &[u8])>
     ensures is { MatchOption result (line_item form count text.now ≡ None) (λ p. line_item form count text.now ≡ Some (p.0, p.1.now)) }
     ensures less { IfSome result (λ p. length p.1.now < length text.now) }
 {
     match text {
+        [c, rest @ ..] if digit(*c).is_some() => mark_or_byte(form, *c, rest),
         [_, rest @ ..] if has_characters(form, count, text) => Some((None, after_line(rest))),
         _ => plain_item(form, count, text),
-    }
-}
-
-/// The item at the start of a text without columns.
-#[inline(always)]
-#[tactic(auto, unfolding(crate::specs::HexText::line_item, crate::specs::HexText::plain_item, crate::specs::HexText::digits_in))]
-pub(crate) fn free_item(count: usize, text: &[u8]) -> Option<(Option<u8>, &[u8])>
-    ensures is { MatchOption result (item Form.Plain count text.now ≡ None) (λ p. item Form.Plain count text.now ≡ Some (p.0, p.1.now)) }
-    ensures less { IfSome result (λ p. length p.1.now < length text.now) }
-{
-    match text {
-        [c, rest @ ..] if is_gap(*c) => Some((None, rest)),
-        [c, d, rest @ ..] if marks_byte(*c, *d, rest) => Some((None, rest)),
-        [c, d, rest @ ..] => Some((Some(byte_of(*c, *d)?), rest)),
-        _ => None,
     }
 }
 
@@ -223,26 +209,25 @@ fn plain_item(form: Form, count: usize, text: &[u8]) -> Option<(Option<u8>, &[u8
     match text {
         [b'\n', rest @ ..] => Some((None, at_line(form, count, rest)?)),
         [c, rest @ ..] if is_gap(*c) => Some((None, rest)),
-        [c, d, rest @ ..] if marks_byte(*c, *d, rest) => Some((None, rest)),
-        [c, d, rest @ ..] => {
-            let (byte, left) = digits_in(form, *c, *d, rest)?;
-            Some((byte, left))
-        }
-        _ => None,
+        [c, rest @ ..] => mark_or_byte(form, *c, rest),
+        [] => None,
     }
 }
 
-/// The byte of two digits, where their group isn't too long.
+/// The item that begins with this character: a mark, or a byte whose group isn't too long.
 #[inline(always)]
-#[tactic(auto, unfolding(crate::specs::HexText::digits_in))]
-fn digits_in(form: Form, c: u8, d: u8, rest: &[u8]) -> Option<(Option<u8>, &[u8])>
-    ensures is { MatchOption result (digits_in form c d rest.now ≡ None) (λ p. digits_in form c d rest.now ≡ Some (p.0, p.1.now)) }
-    ensures within { IfSome result (λ p. length p.1.now ≤ length rest.now) }
+fn mark_or_byte(form: Form, c: u8, text: &[u8]) -> Option<(Option<u8>, &[u8])>
+    ensures is { MatchOption result (mark_or_byte form c text.now ≡ None) (λ p. mark_or_byte form c text.now ≡ Some (p.0, p.1.now)) }
+    ensures within { IfSome result (λ p. length p.1.now ≤ length text.now) }
 {
-    if is_too_long(form, rest) {
-        None
-    } else {
-        Some((Some(byte_of(c, d)?), rest))
+    let [d, rest @ ..] = text else {
+        return None;
+    };
+    match byte_of(c, *d) {
+        Some(_) if is_too_long(form, rest) => None,
+        Some(byte) => Some((Some(byte), rest)),
+        None if marks_byte(c, *d, rest) => Some((None, rest)),
+        None => None,
     }
 }
 
@@ -282,6 +267,7 @@ pub(crate) fn is_gap(c: u8) -> bool
 }
 
 /// Whether the characters are a mark, and a byte is after them.
+#[inline(always)]
 fn marks_byte(c: u8, d: u8, rest: &[u8]) -> bool
     ensures { result ≡ (is_mark c d && begins_byte rest.now) }
 {
@@ -296,6 +282,7 @@ fn is_mark(c: u8, d: u8) -> bool
 }
 
 /// Whether two digits are at the start of a text, and no third one.
+#[inline(always)]
 fn begins_byte(text: &[u8]) -> bool
     ensures { result ≡ begins_byte text.now }
 {

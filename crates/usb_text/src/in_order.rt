@@ -1,8 +1,9 @@
 //! Whether the characters of lines are those of their bytes.
 ghost use Rattle.std.specs.Prelude.{◌≡◌, false, slice_index};
-ghost use Rattle.usb_text.specs.Columns.{are_in_order, characters_of, colon_form, is_visible, line_order, order_of, tells};
+ghost use Rattle.usb_text.specs.HexDigits.{byte_of};
+ghost use Rattle.usb_text.specs.Columns.{are_in_order, characters_of, colon_form, ends_bytes, is_visible, line_order, order_of, tells};
 
-use crate::column::{after_one, has_three_spaces, has_two_spaces, next_line};
+use crate::column::{after_one, has_three_spaces, next_line};
 use crate::hex_text::Form;
 use crate::numbers::{byte_of, digit};
 use crate::offset::after_offset;
@@ -42,18 +43,27 @@ fn line_order(line: &[u8]) -> Option<bool>
     order_of(line, characters_of(line))
 }
 
+/// Whether the bytes of a line end at this character: at its end, or at two spaces.
+#[inline(always)]
+fn ends_bytes(c: u8, rest: &[u8]) -> bool
+    ensures { result ≡ ends_bytes c rest.now }
+{
+    c == b'\n' || (c == b' ' && matches!(rest, [b' ', ..]))
+}
+
 /// What is left of a line after its first two spaces. Nothing is where there are more.
-#[tactic(auto, unfolding(crate::specs::Columns::characters_of))]
+#[tactic(auto, using(crate::proofs::InOrder::characters_on), unfolding(crate::specs::Columns::characters_of))]
 fn characters_of(text: &[u8]) -> &[u8]
     ensures { result.now ≡ characters_of text.now }
 {
     let mut rest = text;
     while let [c, tail @ ..] = rest {
-        if *c == b'\n' || has_three_spaces(rest) {
-            return &[];
-        }
-        if has_two_spaces(rest) {
-            return after_one(tail);
+        if ends_bytes(*c, tail) {
+            return if *c == b'\n' || has_three_spaces(rest) {
+                &[]
+            } else {
+                after_one(tail)
+            };
         }
         rest = tail;
     }
@@ -61,43 +71,42 @@ fn characters_of(text: &[u8]) -> &[u8]
 }
 
 /// The same of a line with these characters.
-#[tactic(auto, unfolding(crate::specs::Columns::order_of))]
+#[tactic(auto, using(crate::proofs::InOrder::order_ends, crate::proofs::InOrder::order_on, crate::proofs::InOrder::order_alone, crate::proofs::InOrder::order_stops, crate::proofs::InOrder::order_told, crate::proofs::InOrder::order_next), unfolding(crate::specs::Columns::order_of))]
 fn order_of(text: &[u8], characters: &[u8]) -> Option<bool>
     ensures { result ≡ order_of false 0 text.now characters.now }
 {
-    let mut begun = false;
-    let mut high = 0;
     let mut rest = text;
     let mut shown = characters;
     while let [c, tail @ ..] = rest {
-        if *c == b'\n' || has_two_spaces(rest) {
+        if ends_bytes(*c, tail) {
             return None;
         }
-        if begun {
-            if let Some(is) = tells(byte_of(high, *c), shown) {
+        rest = tail;
+        if digit(*c).is_some() {
+            let [d, left @ ..] = tail else {
+                return None;
+            };
+            if ends_bytes(*d, left) {
+                return None;
+            }
+            if let Some(is) = tells(*c, *d, shown) {
                 return Some(is);
             }
-            begun = false;
             shown = after_one(shown);
-        } else {
-            begun = digit(*c).is_some();
+            rest = left;
         }
-        high = *c;
-        rest = tail;
     }
     None
 }
 
-/// Whether the character at the start of a text is this byte, if it is visible.
-fn tells(byte: Option<u8>, characters: &[u8]) -> Option<bool>
-    ensures { result ≡ tells byte (slice_index characters.now 0) }
+/// Whether the character at the start of a text is the byte of these digits, if it is visible.
+#[inline(always)]
+fn tells(high: u8, low: u8, characters: &[u8]) -> Option<bool>
+    ensures { result ≡ tells (byte_of high low) (slice_index characters.now 0) }
 {
-    match byte {
-        None => None,
-        Some(byte) => match characters {
-            [c, ..] if is_visible(*c) => Some(*c == byte),
-            _ => None,
-        },
+    match characters {
+        [c, ..] if is_visible(*c) => Some(*c == byte_of(high, low)?),
+        _ => None,
     }
 }
 

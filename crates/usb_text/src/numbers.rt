@@ -1,5 +1,5 @@
 //! Numbers in words, and hexadecimal digits of either case.
-ghost use Rattle.std.specs.Prelude.{◌≡◌};
+ghost use Rattle.std.specs.Prelude.{◌≡◌, slice_index};
 ghost use Rattle.hex.specs.Hex.{hex_digit_value};
 ghost use Rattle.usb_text.specs.HexDigits.{byte_of};
 ghost use Rattle.std.specs.Prelude.{◌≡◌, ◌++◌, codes, OnOk};
@@ -11,19 +11,33 @@ use crate::digits::digits_of;
 use crate::text::Text;
 use std::alloc::AllocError;
 
+/// The values of all characters as digits, `@` of those that are none.
+const VALUES: [u8; 256] =
+    *b"@@@@@@@@@@@@@@@@@@@@@@@@@@@@@@@@@@@@@@@@@@@@@@@@\x00\x01\x02\x03\x04\x05\x06\x07\x08\x09@@@@@@\
+    @\x0a\x0b\x0c\x0d\x0e\x0f@@@@@@@@@@@@@@@@@@@@@@@@@@\x0a\x0b\x0c\x0d\x0e\x0f@@@@@@@@@@@@@@@@@@@@@@@@@\
+    @@@@@@@@@@@@@@@@@@@@@@@@@@@@@@@@@@@@@@@@@@@@@@@@@@@@@@@@@@@@@@@@\
+    @@@@@@@@@@@@@@@@@@@@@@@@@@@@@@@@@@@@@@@@@@@@@@@@@@@@@@@@@@@@@@@@";
+
+/// What a table says of a character. It is apart, since an index straight into the constant stalls the proof.
+#[inline(always)]
+fn at(values: &[u8; 256], c: u8) -> u8
+    ensures { result ≡ slice_index values.now c }
+{
+    values[usize::from(c)]
+}
+
 /// The value of a digit.
+#[inline(always)]
+#[tactic(auto, using(crate::proofs::DigitValues::is_digit, crate::proofs::DigitValues::is_no_digit))]
 pub(crate) fn digit(c: u8) -> Option<u8>
     ensures { result ≡ hex_digit_value c }
 {
-    match c {
-        b'A'..=b'F' => Some(c - 55),
-        b'a'..=b'f' => Some(c - 87),
-        b'0'..=b'9' => Some(c - 48),
-        _ => None,
-    }
+    let value = at(&VALUES, c);
+    if value < 16 { Some(value) } else { None }
 }
 
 /// The byte of two digits.
+#[inline(always)]
 pub(crate) fn byte_of(high: u8, low: u8) -> Option<u8>
     ensures { result ≡ byte_of high low }
 {

@@ -1,5 +1,6 @@
 //! Offsets and addresses at the start of lines.
-ghost use Rattle.std.specs.Prelude.{◌≡◌, ◌≤◌, length};
+ghost use Rattle.std.specs.Prelude.{◌≡◌, ◌≤◌, ◌==◌, ◌||◌, ◌&&◌, false, IfSome, MatchOption, length, true};
+ghost use Rattle.hex.specs.Hex.{is_hex_digit};
 ghost use Rattle.usb_text.specs.Columns.{after_all, after_colon, after_digits, after_mark, after_name, after_offset, ends_address, grown, has_digits, has_offset, is_in_name, is_octal, is_offset, offset_value};
 
 use crate::column::{after_blanks, after_hex_digits, after_one};
@@ -89,8 +90,10 @@ pub(crate) fn after_offset(text: &[u8]) -> &[u8]
     ensures is { result.now ≡ after_offset text.now }
     ensures within { length result.now ≤ length text.now }
 {
-    if has_digits(text) {
-        after_blanks(after_colon(after_name(after_digits(text))))
+    let digits = after_mark(text);
+    let rest = after_hex_digits(digits);
+    if is_offset(digits, rest) {
+        after_blanks(after_colon(after_name(rest)))
     } else {
         text
     }
@@ -135,11 +138,44 @@ fn is_octal(text: &[u8]) -> bool
     text.len() - rest.len() == 7 && !matches!(rest, [b':', ..])
 }
 
-/// Whether a line begins with the offset of this place.
-pub(crate) fn has_offset(place: u128, text: &[u8]) -> bool
-    ensures { result ≡ has_offset place text.now }
+/// The value of the hexadecimal digits at the start of a text, and what is left after them.
+#[inline(always)]
+#[tactic(auto, using(crate::proofs::Offsets::value_ends, crate::proofs::Offsets::value_on), unfolding(crate::specs::Columns::after_all, crate::specs::Columns::offset_value))]
+fn number(text: &[u8]) -> (u64, &[u8])
+    ensures value { result.0 ≡ offset_value 16 0 text.now }
+    ensures is { result.1.now ≡ after_all is_hex_digit text.now }
+    ensures within { length result.1.now ≤ length text.now }
 {
-    has_digits(text)
-        && (u128::from(offset_value(16, after_mark(text))) == place
-            || (is_octal(text) && u128::from(offset_value(8, text)) == place))
+    let mut value = 0;
+    let mut rest = text;
+    while let [c, tail @ ..] = rest {
+        let Some(digit) = digit(*c) else {
+            break;
+        };
+        value = grown(16, value, digit);
+        rest = tail;
+    }
+    (value, rest)
+}
+
+/// What is left after the offset of a line, where it is that of this place.
+pub(crate) fn after_offset_of(place: u128, text: &[u8]) -> Option<&[u8]>
+    ensures is { MatchOption result (has_offset place text.now ≡ false) (λ rest. (has_offset place text.now ≡ true) × (rest.now ≡ after_offset text.now)) }
+    ensures within { IfSome result (λ rest. length rest.now ≤ length text.now) }
+{
+    let digits = after_mark(text);
+    let (value, rest) = number(digits);
+    if is_offset(digits, rest) && is_place(place, value, text) {
+        Some(after_blanks(after_colon(after_name(rest))))
+    } else {
+        None
+    }
+}
+
+/// Whether an offset of this value, or an octal one, is that of this place.
+#[inline(always)]
+fn is_place(place: u128, value: u64, text: &[u8]) -> bool
+    ensures { result ≡ ((value == place) || (is_octal text.now && (offset_value 8 0 text.now == place))) }
+{
+    u128::from(value) == place || (is_octal(text) && u128::from(offset_value(8, text)) == place)
 }

@@ -4,7 +4,7 @@ ghost use Rattle.usb_text.specs.HexText.{bytes_of, in_line};
 ghost use Rattle.usb_text.specs.Hexadecimal.{FaultyIn, HexIn, ReadsText};
 
 use crate::column::columns_of;
-use crate::hex_text::{Form, HexFault, fault_at, free_item, item};
+use crate::hex_text::{Form, HexFault, fault_at, item};
 use crate::literal::after_opening;
 use crate::named::after_label;
 use crate::offset::after_offset;
@@ -28,37 +28,22 @@ fn in_line(form: Form, text: &[u8]) -> &[u8]
     }
 }
 
-/// The bytes of a text in a form, one at least.
+/// The bytes of a text in a form, one at least. Reading is compiled apart for the forms that most texts have.
 pub(crate) fn read_in(alloc: Global, form: Form, text: &[u8]) -> Result<Vec<u8>, HexFault>
     ensures ok { IfOk result (λ bytes. HexIn form text.now bytes.items) }
     ensures err { IfErr result (λ fault. (fault ≡ HexFault.Memory) ⊎ FaultyIn form text.now fault) }
 {
     match form {
-        Form::Plain => read_freely(alloc, text),
+        Form::Plain => read_items(alloc, Form::Plain, text),
+        Form::Colons => read_items(alloc, Form::Colons, text),
+        Form::Spaces => read_items(alloc, Form::Spaces, text),
+        Form::Source(style) => read_items(alloc, Form::Source(style), text),
         _ => read_items(alloc, form, text),
     }
 }
 
-/// The same of a text without columns, which is read twice as fast so.
-#[tactic(auto, using(crate::proofs::Items::freely_from, crate::proofs::Items::freely_on, crate::proofs::Items::freely_to))]
-fn read_freely(alloc: Global, text: &[u8]) -> Result<Vec<u8>, HexFault>
-    ensures ok { IfOk result (λ bytes. HexIn Form.Plain text.now bytes.items) }
-    ensures err { IfErr result (λ fault. (fault ≡ HexFault.Memory) ⊎ FaultyIn Form.Plain text.now fault) }
-{
-    let mut bytes = Vec::new(alloc);
-    let mut rest = text;
-    'items: loop {
-        match free_item(bytes.len(), rest) {
-            Some((byte, tail)) => {
-                keep(&mut bytes, byte)?;
-                rest = tail;
-            }
-            None => return ended(Form::Plain, text, rest, bytes),
-        }
-    }
-}
-
 /// The bytes of a text in a form, item by item.
+#[inline(always)]
 #[tactic(auto, using(crate::proofs::Items::leads_from, crate::proofs::Items::leads_on, crate::proofs::Items::leads_to))]
 fn read_items(alloc: Global, form: Form, text: &[u8]) -> Result<Vec<u8>, HexFault>
     ensures ok { IfOk result (λ bytes. HexIn form text.now bytes.items) }

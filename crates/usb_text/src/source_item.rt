@@ -29,6 +29,7 @@ pub(crate) enum Style {
 }
 
 /// The item at the start of a text of a style.
+#[inline(always)]
 pub(crate) fn source_item(style: Style, text: &[u8]) -> Option<(Option<u8>, &[u8])>
     ensures is { MatchOption result (source_item style text.now ≡ None) (λ p. source_item style text.now ≡ Some (p.0, p.1.now)) }
     ensures less { IfSome result (λ p. length p.1.now < length text.now) }

@@ -1,4 +1,4 @@
-use Rattle.std.proofs.Common.{◌≡◌, ◌*◌, ◌++◌, drop, length, take}
+use Rattle.std.proofs.Common.{◌≡◌, ◌*◌, ◌++◌, drop, take}
 use Rattle.hex.specs.Hex.{encode_lower}
 use Rattle.usb_text.proofs.digits.write_digits.Given as goal
 
