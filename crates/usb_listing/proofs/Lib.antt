@@ -22,7 +22,11 @@ pub mod LessLemmas
 pub mod NamedLemmas
 pub mod DraftLemmas
 pub mod CountLemmas
+pub mod ThinLemmas
 pub mod WholeLemmas
+pub mod LikeLemmas
+pub mod LetGoLemmas
+pub mod OntoLemmas
 pub mod FileLineLemmas
 pub mod CommentLemmas
 pub mod FormLemmas
@@ -30,6 +34,8 @@ pub mod WalkLemmas
 pub mod ReadingLemmas
 pub mod StepLemmas
 pub mod FeedLemmas
+pub mod TakenLemmas
 pub mod AnswerLemmas
 pub mod LawLemmas
+pub mod BytesLemmas
 pub mod CommentLawLemmas

@@ -21,6 +21,12 @@ pub record Lists (text : List ℕ) (f : DescriptorFile) : Type 0 where
   pub bytes : List ℕ
   pub file : File f bytes
 
+-- The bytes are those of the file that the text lists.
+pub record IsBytesOf (text b : List ℕ) : Type 0 where
+  pub file : DescriptorFile
+  pub lists : Lists text file
+  pub bytes : File file b
+
 -- ---- the lines before the first one at fault
 
 -- no line yet, or those of a file in order of which no set is too long

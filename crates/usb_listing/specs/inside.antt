@@ -4,3 +4,4 @@ pub mod Fields
 pub mod Growing
 pub mod Walking
 pub mod Drafts
+pub mod Thinning

@@ -103,7 +103,7 @@ fn first_reason(line: &[u8], why: ListWhy) -> ListWhy
 }
 
 /// Reads the first line into the draft, or drops it, and gives what is after it.
-fn read_next<'a>(
+pub(crate) fn read_next<'a>(
     alloc: Global,
     form: Form,
     draft: &mut Option<Draft>,
@@ -190,7 +190,7 @@ fn is_whole(draft: &Draft) -> bool
 }
 
 /// The file of a draft, where nothing is due any more.
-fn finish(draft: Option<Draft>, line: usize) -> Result<DescriptorFile, ListFault>
+pub(crate) fn finish(draft: Option<Draft>, line: usize) -> Result<DescriptorFile, ListFault>
     requires { AreHeld draft }
     ensures ok { IfOk result (λ f. so_far draft ≡ Some f) }
     ensures whole { IfOk result (λ f. is_whole (Some f) ≡ true) }

@@ -58,7 +58,7 @@ fn first_set(alloc: Global, bytes: &[u8]) -> Result<Configuration, AllocError>
     begin_set(alloc, bytes)
 }
 
-fn push_set(f: &mut DescriptorFile, c: Configuration) -> Result<(), AllocError>
+pub(crate) fn push_set(f: &mut DescriptorFile, c: Configuration) -> Result<(), AllocError>
     ensures { OnOk result (f.new ≡ with_sets (open_sets f.old f.old.other ++ c ∷ []) f.old f.old.other) }
 {
     match &mut f.other {

@@ -5,11 +5,13 @@
 //!   descriptors, and how long a listing can be.
 //! - [`assemble`] gives the file that a listing lists, or the first line at fault (`specs/Listings.antt`), and
 //!   [`assemble_commented`] takes comments, empty lines and carriage returns too (`specs/Comments.antt`). A line
-//!   becomes the bytes of its descriptor, which usb_set and usb_fields read. [`reader_laws`] and [`comment_laws`] state
-//!   what holds of texts, files and faults, whoever reads them.
+//!   becomes the bytes of its descriptor, which usb_set and usb_fields read. [`assemble_bytes`] and
+//!   [`assemble_bytes_commented`] give the bytes of that file, of which they hold no more than two sets at a time.
+//!   [`reader_laws`] and [`comment_laws`] state what holds of texts, files and faults, whoever reads them.
 #![tactic(auto)]
 
 mod assembly;
+mod byte_assembly;
 pub mod comment_laws;
 mod draft;
 mod fault;
@@ -23,9 +25,11 @@ mod row;
 mod set_listing;
 mod step;
 mod string_listing;
+mod thinning;
 mod word;
 
 pub use assembly::{assemble, assemble_commented};
+pub use byte_assembly::{assemble_bytes, assemble_bytes_commented};
 pub use fault::{ListFault, ListWhy};
 pub use laws::LISTING_LIMIT;
 pub use listing::{list, list_input};

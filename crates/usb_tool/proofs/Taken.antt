@@ -8,14 +8,12 @@ use Rattle.usb_file_data.specs.declared.fault.FileWhy.{FileWhy}
 use Rattle.usb_file_data.specs.declared.fault.FileWhy.TheVariants as files
 use Rattle.usb_file_data.specs.declared.fault.InputFault.{InputFault}
 use Rattle.usb_file_data.specs.declared.fault.InputFault.TheVariants as inputs
-use Rattle.usb_file_data.specs.File.{File, file_bytes}
 use Rattle.usb_file_data.specs.FindingLine.{check_text}
 use Rattle.usb_file_data.specs.Findings.{input_findings}
 use Rattle.usb_file_data.specs.declared.file.DescriptorFile.{DescriptorFile}
 use Rattle.usb_file_data.specs.declared.file.Input.{Input}
 use Rattle.usb_file_data.specs.declared.laws.TheConstants.{FILE_LIMIT}
-use Rattle.usb_listing.specs.Comments.{CommentedFaulty, CommentedRefused, uncommented}
-use Rattle.usb_listing.specs.Listings.{ListFaulty, ListRefused}
+use Rattle.usb_listing.specs.Listings.{IsBytesOf}
 use Rattle.usb_listing.specs.declared.fault.ListFault.{ListFault}
 use Rattle.usb_listing.specs.declared.fault.ListWhy.{ListWhy}
 use Rattle.usb_listing.specs.declared.fault.ListWhy.TheVariants as lists
@@ -33,7 +31,7 @@ use Rattle.usb_tool.specs.declared.fault.ToolFault.{ToolFault}
 use Rattle.usb_tool.specs.declared.fault.ToolFault.TheVariants as faults
 use Rattle.usb_tool.proofs.Reading.{when_err}
 use Rattle.usb_tool.proofs.Refusals.{IsTold, as_told, cut_short, is_told}
-use Rattle.usb_listing.specs.Listing.{input_lines}
+use Rattle.usb_listing.specs.Listing.{file_lines, input_lines}
 
 none_shown : (shows : Faulty) (b : List ℕ) (e : InputFault) → shows b e → IsNone shows b (as_told e)
 none_shown shows b (inputs.Set fault) h = h
@@ -101,14 +99,6 @@ module _ (extent : Extent) (tells : Telling) (limit : ℕ) (from to : Left) (byt
 
 -- ---- listings
 
-pub not_listed : (text : List ℕ) (line : ℕ) (why : ListWhy) → ListRefused text line why → why ≢ lists.Memory → ListFaulty text line why
-not_listed text line lists.Memory h known = absurd (known refl)
-not_listed text line why h known = h
-
-pub not_commented : (text : List ℕ) (line : ℕ) (why : ListWhy) → CommentedRefused text line why → why ≢ lists.Memory → CommentedFaulty text line why
-not_commented text line why h known =
-    record { kept = h.kept; holds = not_listed (uncommented text) (h.kept + 1) why h.holds known; line_is = h.line_is }
-
 -- a text that lists no file
 pub not_built : (tells : Telling) (from to : Left) (shows : List ℕ → ℕ → ListWhy → Type 0) (held : Held) (text : List ℕ) (read : ReadsAll LISTING_LIMIT from to text)
     (e : ListFault) (r : Result ℕ ToolFault) → IsErrAnd r (λ fault. fault ≡ fault_of_list e) → (e.why ≢ lists.Memory → shows text e.line e.why)
@@ -120,13 +110,14 @@ not_built tells from to shows held text read e r is shown =
     by lists.Memory same = inl (keeps_refl held)
     by why same = (shown (λ memory. let clash = sym same ∙ memory in cc), keeps_refl held)
 
--- what is told of a listing
-pub bytes_told : (lists : Listing) (text : List ℕ) (f : DescriptorFile) → lists text f → (b : List ℕ) → File f b → TellsBytes lists text (file_bytes f) 0
-bytes_told lists text f listing b layout = record { file = f; listing = listing; layout = subst (File f) layout.bytes layout; ended = refl }
+-- what is told of a listing, by what is read of it
+pub bytes_told : {B E : Type 0} (items : B → List ℕ) (r : Result B E) (lists : Listing) (text read : List ℕ) → ((f : DescriptorFile) → read ≡ file_lines f → lists text f)
+    → IfOk r (λ b. IsBytesOf read (items b)) → IfOk r (λ b. TellsBytes lists text (items b) 0)
+bytes_told items (Err e) lists text read same h = tt
+bytes_told items (Ok b) lists text read same h = record { file = h.file; listing = same h.file h.lists.lines; layout = h.bytes; ended = refl }
 
-pub hex_told : (lists : Listing) (text : List ℕ) (f : DescriptorFile) → lists text f → (b : List ℕ) → File f b
-    → TellsHex lists text (hex_text (file_bytes f)) 0
-hex_told lists text f listing b layout = record { bytes = file_bytes f; built = bytes_told lists text f listing b layout; digits = refl }
+pub hex_told : (lists : Listing) (text b : List ℕ) → TellsBytes lists text b 0 → TellsHex lists text (hex_text b) 0
+hex_told lists text b built = record { bytes = b; built = built; digits = refl }
 
 -- what is told of an input
 pub listing_told : (is : Form) (b : List ℕ) (input : Input) → is input b → TellsListing is b (input_lines input) 0

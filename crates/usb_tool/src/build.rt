@@ -1,17 +1,17 @@
 //! The command `build`.
-ghost use Rattle.std.specs.Prelude.{List, ℕ, IfErr, IfOk};
-ghost use Rattle.usb_file_data.specs.File.{File, file_bytes};
+ghost use Rattle.std.specs.Prelude.{◌≢◌, IfErr, IfOk};
+ghost use Rattle.usb_listing.specs.declared.fault.ListWhy.TheVariants as whys;
 ghost use Rattle.usb_tool.specs.Endings.{AppendsNone};
 ghost use Rattle.usb_tool.specs.inside.Telling.{EndsWith, IsCut};
-ghost use Rattle.usb_tool.specs.Commands.{BuildCommentedFails, BuildFails, Built, BuiltCommented};
+ghost use Rattle.usb_tool.specs.Commands.{BuildCommentedFails, BuildFails, Built, BuiltCommented, TellsBytes};
+ghost use Rattle.usb_tool.specs.HexOutputs.{faulty_by, listing_by};
 
 use crate::fault::ToolFault;
 use crate::input::read_all;
 use crate::output::write_flushed;
-use std::alloc::{AllocError, Global};
+use std::alloc::Global;
 use std::io::{Read, Write};
-use usb_file::{DescriptorFile, WriteFault, write_file};
-use usb_listing::{LISTING_LIMIT, assemble, assemble_commented};
+use usb_listing::{LISTING_LIMIT, ListFault, assemble_bytes, assemble_bytes_commented};
 
 /// Reads a listing of a descriptor file to its end, and writes the bytes of that file. The number in `Ok` is 0.
 ///
@@ -33,9 +33,9 @@ pub fn run_build<R: Read, W: Write>(alloc: Global, r: &mut R, w: &mut W) -> Resu
     ensures err { IfErr result (BuildFails (R.remaining r.old) (R.remaining r.new) (W.contents w.old) (W.contents w.new)) }
 {
     let text = read_all(alloc, r, LISTING_LIMIT)?;
-    let file = assemble(alloc, &text)?;
+    let bytes = bytes_listed(alloc, &text, false)?;
     drop(text);
-    put_file(alloc, &file, w)
+    put_bytes(bytes, w)
 }
 
 /// Does what [`run_build`] does, and drops empty lines, those that begin with `#`, and a carriage return at the end of a
@@ -60,30 +60,27 @@ pub fn run_build_commented<R: Read, W: Write>(
     ensures err { IfErr result (BuildCommentedFails (R.remaining r.old) (R.remaining r.new) (W.contents w.old) (W.contents w.new)) }
 {
     let text = read_all(alloc, r, LISTING_LIMIT)?;
-    let file = assemble_commented(alloc, &text)?;
+    let bytes = bytes_listed(alloc, &text, true)?;
     drop(text);
-    put_file(alloc, &file, w)
+    put_bytes(bytes, w)
 }
 
-/// Writes the bytes of a file, and flushes the writer.
-fn put_file<W: Write>(alloc: Global, f: &DescriptorFile, w: &mut W) -> Result<u8, ToolFault>
-    requires { (b : List ℕ) × File f.now b }
-    ensures ok { IfOk result (EndsWith (file_bytes f.now) 0 (W.contents w.old) (W.contents w.new)) }
-    ensures err { IfErr result (IsCut AppendsNone (file_bytes f.now) (W.contents w.old) (W.contents w.new)) }
+/// The bytes of the file that the text lists, with comments or without.
+pub(crate) fn bytes_listed(alloc: Global, text: &[u8], comments: bool) -> Result<Vec<u8>, ListFault>
+    ensures ok { IfOk result (λ b. TellsBytes (listing_by comments) text.now b.items 0) }
+    ensures err { IfErr result (λ fault. fault.why ≢ whys.Memory → faulty_by comments text.now fault.line fault.why) }
 {
-    let bytes = bytes_of(alloc, f)?;
+    match comments {
+        true => assemble_bytes_commented(alloc, text),
+        false => assemble_bytes(alloc, text),
+    }
+}
+
+/// Writes bytes, and flushes the writer.
+fn put_bytes<W: Write>(bytes: Vec<u8>, w: &mut W) -> Result<u8, ToolFault>
+    ensures ok { IfOk result (EndsWith bytes.items 0 (W.contents w.old) (W.contents w.new)) }
+    ensures err { IfErr result (IsCut AppendsNone bytes.items (W.contents w.old) (W.contents w.new)) }
+{
     write_flushed(w, &bytes)?;
     Ok(0)
-}
-
-/// The bytes of a file that has some.
-pub(crate) fn bytes_of(alloc: Global, f: &DescriptorFile) -> Result<Vec<u8>, AllocError>
-    requires { (b : List ℕ) × File f.now b }
-    ensures { IfOk result (λ b. File f.now b.items) }
-{
-    match write_file(alloc, f) {
-        Ok(bytes) => Ok(bytes),
-        Err(WriteFault::Memory) => Err(AllocError),
-        Err(_) => unreachable!(),
-    }
 }

@@ -1,19 +1,16 @@
 //! The command `build --hex`.
-ghost use Rattle.std.specs.Prelude.{◌≡◌, ◌≢◌, ◌≤◌, ℕ, List, IfErr, IfOk};
-ghost use Rattle.usb_file_data.specs.File.{File, file_bytes};
-ghost use Rattle.usb_listing.specs.declared.fault.ListWhy.TheVariants as whys;
+ghost use Rattle.std.specs.Prelude.{◌≡◌, ◌≤◌, IfErr, IfOk};
 ghost use Rattle.usb_tool.specs.Endings.{AppendsNone};
-ghost use Rattle.usb_tool.specs.HexOutputs.{BuildHexFails, BuiltHex, column_after, faulty_by, hex_from, hex_text, listing_by, part_after};
+ghost use Rattle.usb_tool.specs.HexOutputs.{BuildHexFails, BuiltHex, column_after, hex_from, hex_text, part_after};
 ghost use Rattle.usb_tool.specs.inside.Telling.{EndsWith, IsCut};
 
-use crate::build::bytes_of;
+use crate::build::bytes_listed;
 use crate::fault::ToolFault;
 use crate::input::read_all;
 use crate::output::write_flushed;
 use std::alloc::{AllocError, Global};
 use std::io::{Read, Write};
-use usb_file::DescriptorFile;
-use usb_listing::{LISTING_LIMIT, ListFault, assemble, assemble_commented};
+use usb_listing::LISTING_LIMIT;
 use usb_text::Text;
 
 /// Does what [`run_build`](crate::run_build) does, or with `comments` [`run_build_commented`](crate::run_build_commented), and
@@ -39,40 +36,18 @@ pub fn run_build_hex<R: Read, W: Write>(
     ensures err { IfErr result (BuildHexFails comments (R.remaining r.old) (R.remaining r.new) (W.contents w.old) (W.contents w.new)) }
 {
     let text = read_all(alloc, r, LISTING_LIMIT)?;
-    let file = file_of(alloc, &text, comments)?;
+    let bytes = bytes_listed(alloc, &text, comments)?;
     drop(text);
-    put_hex(alloc, file, w)
-}
-
-/// The file that the text lists, with comments or without.
-fn file_of(alloc: Global, text: &[u8], comments: bool) -> Result<DescriptorFile, ListFault>
-    ensures listing { IfOk result (λ f. listing_by comments text.now f) }
-    ensures bytes { IfOk result (λ f. (b : List ℕ) × File f b) }
-    ensures err { IfErr result (λ fault. fault.why ≢ whys.Memory → faulty_by comments text.now fault.line fault.why) }
-{
-    match comments {
-        true => assemble_commented(alloc, text),
-        false => assemble(alloc, text),
-    }
-}
-
-/// Writes the bytes of a file as hexadecimal text, and flushes the writer.
-fn put_hex<W: Write>(alloc: Global, f: DescriptorFile, w: &mut W) -> Result<u8, ToolFault>
-    requires { (b : List ℕ) × File f b }
-    ensures ok { IfOk result (EndsWith (hex_text (file_bytes f)) 0 (W.contents w.old) (W.contents w.new)) }
-    ensures err { IfErr result (IsCut AppendsNone (hex_text (file_bytes f)) (W.contents w.old) (W.contents w.new)) }
-{
-    let bytes = bytes_of(alloc, &f)?;
-    drop(f);
-    write_hex(alloc, &bytes, w)
+    write_hex(alloc, bytes, w)
 }
 
 /// Writes bytes as hexadecimal text, and flushes the writer.
-fn write_hex<W: Write>(alloc: Global, bytes: &[u8], w: &mut W) -> Result<u8, ToolFault>
-    ensures ok { IfOk result (EndsWith (hex_text bytes.now) 0 (W.contents w.old) (W.contents w.new)) }
-    ensures err { IfErr result (IsCut AppendsNone (hex_text bytes.now) (W.contents w.old) (W.contents w.new)) }
+fn write_hex<W: Write>(alloc: Global, bytes: Vec<u8>, w: &mut W) -> Result<u8, ToolFault>
+    ensures ok { IfOk result (EndsWith (hex_text bytes.items) 0 (W.contents w.old) (W.contents w.new)) }
+    ensures err { IfErr result (IsCut AppendsNone (hex_text bytes.items) (W.contents w.old) (W.contents w.new)) }
 {
-    let text = hex_text(alloc, bytes)?;
+    let text = hex_text(alloc, &bytes)?;
+    drop(bytes);
     write_flushed(w, text.as_bytes())?;
     Ok(0)
 }
