@@ -1,17 +1,18 @@
 -- What is gathered of a set, and its survey.
-use Rattle.std.proofs.Common.{◌≡◌, ◌<◌, ◌||◌, ℕ, Bool, true, false, List, [], ◌∷◌, length, if◌then◌else◌, map, replicate, slice_index, Option, Some, None, refl, sym, ap, ◌∙◌, arith, zero-add}
+use Rattle.std.proofs.Common.{◌≡◌, ◌≢◌, ◌≤◌, ◌<◌, ◌+◌, ◌==◌, ◌||◌, ◌⊎◌, inl, inr, absurd, nat_le, nat_lt, ℕ, Bool, true, false, List, [], ◌∷◌, length, if◌then◌else◌, map, replicate, slice_index, Option, Some, None, refl, sym, ap, ◌∙◌, arith, zero-add}
 use Rattle.std.proofs.Math.Bool.{or-false}
 use Rattle.std.specs.List.{list_any, range_with_len}
 use Rattle.std.specs.Option.{option_or}
+use Rattle.std.proofs.lemmas.Bool.{and_from, and_parts, cases_lt, eqb-false, le-leb, lt-ltb, ltb-true, ne_eqb}
 use Rattle.std.proofs.lemmas.Bool.Decides.{nat_tests}
 use Rattle.std.proofs.lemmas.List.{ext_get_or, get_or-map, get_or-replicate, length-replicate}
 use Rattle.std.proofs.lemmas.List.FromFn.{get_or-map-range_with_len, length-map-range_with_len}
 use Rattle.usb_explain.specs.declared.speed_evidence.Evidence.{Evidence}
-use Rattle.usb_explain.specs.Bindings.{binding, bindings, bound_at}
+use Rattle.usb_explain.specs.Bindings.{binding, bindings, binds, bound_at}
 use Rattle.usb_explain.specs.InterfaceNumbers.{has_number, interface_numbers}
 use Rattle.usb_explain.specs.SettingRemarks.{has_setting, is_numbered}
 use Rattle.usb_explain.specs.SetSpeeds.{Survey, evidence_of, excludes_low, hints_low_or_full, is_companion, proves_full, proves_high, survey_of}
-use Rattle.usb_explain.specs.inside.Walking.{Gathers, Hears, bound_cell, bound_first, bound_with, heard}
+use Rattle.usb_explain.specs.inside.Walking.{AllBound, Gathers, Hears, bound_cell, bound_first, bound_with, heard}
 
 -- the first of two, of which there is one alone
 or_none : (x : Option ℕ) → option_or x None ≡ x
@@ -34,6 +35,54 @@ cell_at cells n len within = get_or-map bound_cell cells n 0 None (omega (arith,
 pub cell_bound : (cell association : ℕ) (binds : Bool) → association < 65535
     → bound_cell (if binds then bound_first cell association else cell) ≡ option_or (bound_cell cell) (if binds then Some association else None)
 cell_bound cell association binds below = grind (arith, nat_tests)
+
+none_more : (cell association : ℕ) (binds : Bool) → (binds ≡ true → cell ≢ 65535)
+    → bound_cell cell ≡ option_or (bound_cell cell) (if binds then Some association else None)
+none_more cell association false is = sym (or_none (bound_cell cell))
+none_more cell association true is =
+    let other : (cell == 65535) ≡ false = ne_eqb cell 65535 (is refl) in rw other refl
+
+-- an association of numbers that are bound binds none
+pub none_bound : (cells : List ℕ) (bound association first count n : ℕ) → AllBound bound cells → first + count ≤ bound
+    → bound_cell (slice_index cells n) ≡ option_or (bound_cell (slice_index cells n)) (if binds first count n then Some association else None)
+none_bound cells bound association first count n all end =
+    none_more (slice_index cells n) association (binds first count n)
+    (λ is. let below : n < first + count = ltb-true n (first + count) (and_parts (nat_le first n) (nat_lt n (first + count)) is).1 in all n (omega (arith, below, end)))
+
+first_stays : (cell association : ℕ) (is : Bool) → (cell == 65535) ≡ is → association < 65535 → bound_first cell association ≢ 65535
+first_stays cell association true e below = rw e (λ same. absurd (omega (arith, same, below)))
+first_stays cell association false e below = rw e (eqb-false cell 65535 e)
+
+either_stays : (cell association : ℕ) (binds : Bool) → association < 65535 → cell ≢ 65535 ⊎ (binds ≡ true) → (if binds then bound_first cell association else cell) ≢ 65535
+either_stays cell association true below why = first_stays cell association (cell == 65535) refl below
+either_stays cell association false below (inl is) = is
+either_stays cell association false below (inr e) = cc
+
+-- each number of an association is bound before it, or by it
+bound_or_binds : (old : List ℕ) (bound first count n : ℕ) → AllBound bound old → first ≤ bound → n < first + count
+    → slice_index old n ≢ 65535 ⊎ (binds first count n ≡ true)
+bound_or_binds old bound first count n all before within =
+    elim (cases_lt n bound)
+    [ inl below ↦ inl (all n below)
+    | inr above ↦ inr (and_from (nat_le first n) (nat_lt n (first + count)) (le-leb first n (omega (arith, above, before))) (lt-ltb n (first + count) within))
+    ]
+
+-- what was bound still is
+pub still_bound : (old new : List ℕ) (bound association first count : ℕ) → bound ≤ 256 → association < 65535 → AllBound bound old
+    → ((n : ℕ) → n < 256 → slice_index new n ≡ (if binds first count n then bound_first (slice_index old n) association else slice_index old n))
+    → AllBound bound new
+still_bound old new bound association first count most below all is = λ n within.
+    let n_most : n < 256 = omega (arith, within, most) in
+    rw (is n n_most) (either_stays (slice_index old n) association (binds first count n) below (inl (all n within)))
+
+-- and so are the numbers of the association, where those before it were
+pub now_bound : (old new : List ℕ) (bound association first count end : ℕ) → bound ≤ 256 → association < 65535 → AllBound bound old
+    → first ≤ bound → end ≤ 256 → end ≤ first + count
+    → ((n : ℕ) → n < 256 → slice_index new n ≡ (if binds first count n then bound_first (slice_index old n) association else slice_index old n))
+    → AllBound end new
+now_bound old new bound association first count end most below all before end_most end_within is = λ n within.
+    let n_most : n < 256 = omega (arith, within, end_most) in
+    rw (is n n_most) (either_stays (slice_index old n) association (binds first count n) below (bound_or_binds old bound first count n all before (omega (arith, within, end_within))))
 
 -- no descriptor was heard
 pub hears_none : (all : List (List ℕ)) → Hears all record { companion = false; high = false; full = false; above_low = false; slow = false } all

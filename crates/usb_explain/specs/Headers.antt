@@ -5,6 +5,8 @@ use Rattle.usb_fields.specs.Bytes.{little_endian_at}
 use Rattle.usb_names.specs.declared.codes.ClassCodes.{ClassCodes}
 use Rattle.usb_explain.specs.Trees.{descriptors}
 use Rattle.usb_explain.specs.declared.remark.Remark.{Remark}
+use Rattle.usb_explain.specs.declared.role.Role.{Role}
+use Rattle.usb_explain.specs.declared.role.Role.TheVariants.{Raw}
 use Rattle.usb_explain.specs.declared.remark.Remark.TheVariants as remarks
 use Rattle.usb_names.specs.Rows.{first_row, rows_behind}
 use Rattle.usb_names.specs.Shown.{Row}
@@ -65,6 +67,11 @@ header_remark _ _ _ = None
 -- the row of a descriptor after an interface of these codes
 abbrev pub row_of_bytes : Option ClassCodes → List ℕ → Option Row
 row_of_bytes interface b = first_row (rows_behind interface) interface (slice_index b 1) (drop 2 b)
+
+-- the row of a descriptor of this role: only one that has no type of its own has one
+abbrev pub row_in : Role → Option ClassCodes → List ℕ → Option Row
+row_in Raw interface b = row_of_bytes interface b
+row_in _ interface b = None
 
 -- the layout of a row
 abbrev pub row_layout : Row → Layout

@@ -2,7 +2,7 @@
 ghost use Rattle.std.specs.Prelude.{◌≡◌, ◌<◌, ◌≤◌, ◌+◌, ◌^◌, ◌∷◌, ℕ, List, length, None, Some, if◌then◌else◌, replicate, slice_index};
 ghost use Rattle.std.specs.Option.{option_or};
 ghost use Rattle.usb_explain.specs.Bindings.{binds, bound_at};
-ghost use Rattle.usb_explain.specs.inside.Walking.{bound_first, bound_with};
+ghost use Rattle.usb_explain.specs.inside.Walking.{AllBound, bound_cell, bound_first, bound_with};
 
 use crate::role::is_association;
 use std::marker::Model;
@@ -16,17 +16,19 @@ const UNBOUND: u16 = u16::MAX;
 pub(crate) struct Bindings {
     /// Two bytes a number, so that several are bound at once.
     cells: [u16; 256],
+    /// Each number below this one is bound, so that an association of those alone binds none.
+    bound: usize,
 }
 
 impl Model for Bindings {
-    ghost use Rattle.std.specs.Prelude.{◌≡◌, List, ℕ, Option, length, map};
-    ghost use Rattle.usb_explain.specs.inside.Walking.{bound_cell};
+    ghost use Rattle.std.specs.Prelude.{◌≡◌, ◌≤◌, List, ℕ, Option, length, map};
+    ghost use Rattle.usb_explain.specs.inside.Walking.{AllBound, bound_cell};
 
     ghost Value = { List (Option ℕ) };
 
     ghost view = { λ b. map bound_cell b.cells };
 
-    ghost invariant = { λ b. length b.cells ≡ 256 };
+    ghost invariant = { λ b. (length b.cells ≡ 256) × (b.bound ≤ 256) × AllBound b.bound b.cells };
 }
 
 impl Bindings {
@@ -36,6 +38,7 @@ impl Bindings {
     {
         Bindings {
             cells: [UNBOUND; 256],
+            bound: 0,
         }
     }
 
@@ -44,6 +47,7 @@ impl Bindings {
         ensures { self.new ≡ replicate 256 None }
     {
         self.cells = [UNBOUND; 256];
+        self.bound = 0;
     }
 
     /// The number of the association that binds an interface of this number.
@@ -73,13 +77,42 @@ impl Bindings {
     }
 
     /// Binds those of so many numbers that no earlier association binds.
-    #[tactic(auto, using(crate::proofs::Tables::cell_at, crate::proofs::Tables::cell_bound))]
+    #[tactic(auto, using(crate::proofs::Tables::cell_at))]
     fn bind(&mut self, association: u16, first: u8, count: u8)
         requires { association + 1 < 2 ^ 16 }
         ensures cells { length self.new ≡ 256 }
         ensures bound { (n : ℕ) → n < 256 → bound_at self.new n ≡ option_or (bound_at self.old n) (if binds first count n then Some association else None) }
     {
-        bind_cells(&mut self.cells, association, first, count);
+        self.bound = bind_more(&mut self.cells, self.bound, association, first, count);
+    }
+}
+
+/// Binds those of so many numbers that no earlier association binds, where each number below one is bound. Answers the one
+/// below which each is bound then.
+#[tactic(auto, using(crate::proofs::Tables::none_bound, crate::proofs::Tables::cell_bound, crate::proofs::Tables::still_bound, crate::proofs::Tables::now_bound))]
+fn bind_more(
+    cells: &mut [u16; 256],
+    bound: usize,
+    association: u16,
+    first: u8,
+    count: u8,
+) -> usize
+    requires association { association + 1 < 2 ^ 16 }
+    requires most { bound ≤ 256 }
+    requires before { AllBound bound cells.old }
+    ensures most { result ≤ 256 }
+    ensures before { AllBound result cells.new }
+    ensures bound { (n : ℕ) → n < 256 → bound_cell (slice_index cells.new n) ≡ option_or (bound_cell (slice_index cells.old n)) (if binds first count n then Some association else None) }
+{
+    let end = usize::from(first) + usize::from(count);
+    if end <= bound {
+        return bound;
+    }
+    bind_cells(cells, association, first, count);
+    if usize::from(first) <= bound {
+        end.min(256)
+    } else {
+        bound
     }
 }
 

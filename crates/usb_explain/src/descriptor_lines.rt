@@ -10,6 +10,7 @@ use crate::finding::put_findings;
 use crate::heading::put_heading;
 use crate::remark_line::put_remarks;
 use crate::subject::Subject;
+use crate::table_names::row_in;
 use std::alloc::AllocError;
 use usb_text::Page;
 
@@ -27,8 +28,9 @@ pub(crate) fn put_descriptor<P: Page>(
 ) -> Result<(), AllocError>
     ensures { OnOk result (P.seen page.new ≡ showing_all P.showing (lines_of subject.now (described d.now)) (P.seen page.old)) }
 {
-    put_heading(page, subject, d)?;
+    let row = row_in(d.role, d.interface, d.bytes);
+    put_heading(page, subject, d, row)?;
     put_findings(page, d.depth, d.findings)?;
     put_remarks(page, d)?;
-    put_fields(page, subject, d)
+    put_fields(page, subject, d, row)
 }

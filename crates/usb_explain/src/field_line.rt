@@ -1,9 +1,13 @@
 //! The lines of fields.
-ghost use Rattle.std.specs.Prelude.{◌≡◌, OnOk};
+ghost use Rattle.std.specs.Prelude.{◌≡◌, option_map, IfSome, IsTrue, OnOk};
+ghost use Rattle.std.specs.Option.{option_copied};
+ghost use Rattle.usb_names.specs.Shown.{row_of};
 ghost use Rattle.usb_text.specs.Shown.{showing_all};
 ghost use Rattle.usb_explain.specs.Descriptors.{field_lines, fields, line_of_field};
 ghost use Rattle.usb_explain.specs.Fields.{placed_of};
+ghost use Rattle.usb_explain.specs.Headers.{row_in, row_layout};
 ghost use Rattle.usb_explain.specs.Outline.{described};
+ghost use Rattle.usb_explain.specs.inside.FieldsLeft.{layout_has_words};
 
 use crate::descriptor::Descriptor;
 use crate::field::Field;
@@ -13,9 +17,10 @@ use crate::line::NAME_WIDTH;
 use crate::string_names::Names;
 use crate::subject::Subject;
 use std::alloc::AllocError;
+use usb_names::ClassDescriptor;
 use usb_text::Page;
 
-/// Puts the lines of the fields of a descriptor, as `          bMaxPower              50 (100 mA)`. A brief explanation has none.
+/// Puts the lines of the fields of a descriptor that has this row, as `          bMaxPower              50 (100 mA)`. A brief explanation has none.
 ///
 /// # Errors
 ///
@@ -25,13 +30,16 @@ pub(crate) fn put_fields<P: Page>(
     page: &mut P,
     subject: &Subject,
     d: &Descriptor<'_>,
+    row: Option<&'static ClassDescriptor>,
 ) -> Result<(), AllocError>
+    requires row { option_map row_of (option_copied row.entry) ≡ row_in d.now.role d.now.interface d.now.bytes.now }
+    requires words { IfSome row (λ row. IsTrue (layout_has_words (row_layout (row_of row.now)))) }
     ensures { OnOk result (P.seen page.new ≡ showing_all P.showing (fields subject.now (described d.now)) (P.seen page.old)) }
 {
     if subject.manner().look.brief {
         Ok(())
     } else {
-        put_all_fields(page, subject.names(), d)
+        put_all_fields(page, subject.names(), d, row)
     }
 }
 
@@ -39,10 +47,13 @@ fn put_all_fields<P: Page>(
     page: &mut P,
     names: &Names,
     d: &Descriptor<'_>,
+    row: Option<&'static ClassDescriptor>,
 ) -> Result<(), AllocError>
+    requires row { option_map row_of (option_copied row.entry) ≡ row_in d.now.role d.now.interface d.now.bytes.now }
+    requires words { IfSome row (λ row. IsTrue (layout_has_words (row_layout (row_of row.now)))) }
     ensures { OnOk result (P.seen page.new ≡ showing_all P.showing (field_lines names.now (described d.now)) (P.seen page.old)) }
 {
-    for field in Fields::of(d.role, d.interface, d.bytes) {
+    for field in Fields::of_row(d.role, d.interface, row, d.bytes) {
         put_field(page, names, d, &field)?;
     }
     Ok(())

@@ -3,7 +3,7 @@ ghost use Rattle.std.specs.Prelude.{◌≡◌, ◌≤◌, ◌-◌, ◌∷◌, []
 ghost use Rattle.std.specs.Option.{option_copied};
 ghost use Rattle.usb_names.specs.Shown.{field_of, row_of};
 ghost use Rattle.usb_explain.specs.Fields.{class_layout, fields_of, laid, left_over, placed_of};
-ghost use Rattle.usb_explain.specs.Headers.{row_layout};
+ghost use Rattle.usb_explain.specs.Headers.{row_in, row_layout};
 ghost use Rattle.usb_explain.specs.Layouts.{width_of};
 ghost use Rattle.usb_explain.specs.inside.FieldsLeft.{is_name, layout_has_words, layout_left, left_in, lists_have_words, no_layout, piece_of};
 ghost use Rattle.usb_explain.specs.inside.Walking.{layout_of};
@@ -14,7 +14,7 @@ use crate::standard_layouts::{
     DescriptorLayout, association_layout, configuration_layout, device_layout, endpoint_layout,
     interface_layout, qualifier_layout,
 };
-use crate::table_names::class_row;
+use crate::table_names::row_in;
 use std::marker::Model;
 use usb_fields::{after, prefix};
 use usb_names::{ClassCodes, ClassDescriptor, ClassField, Form};
@@ -57,9 +57,24 @@ impl<'d> Model for Fields<'d> {
 impl<'d> Fields<'d> {
     /// The fields of a descriptor of this role and these bytes, after an interface of these codes. A language list and a
     /// string have none.
-    #[tactic(auto, unfolding(crate::specs::Fields::fields_of))]
     pub fn of(role: Role, interface: Option<ClassCodes>, bytes: &'d [u8]) -> Fields<'d>
         ensures { result ≡ fields_of role interface bytes.now }
+    {
+        Fields::of_row(role, interface, row_in(role, interface, bytes), bytes)
+    }
+
+    /// The same of a descriptor that has this row.
+    #[inline(always)]
+    #[tactic(auto, unfolding(crate::specs::Fields::fields_of))]
+    pub(crate) fn of_row(
+        role: Role,
+        interface: Option<ClassCodes>,
+        row: Option<&'static ClassDescriptor>,
+        bytes: &'d [u8],
+    ) -> Fields<'d>
+        requires row { option_map row_of (option_copied row.entry) ≡ row_in role interface bytes.entry.now }
+        requires words { IfSome row (λ row. IsTrue (layout_has_words (row_layout (row_of row.now)))) }
+        ensures { result ≡ fields_of role interface bytes.entry.now }
     {
         match role {
             Role::Device => Fields::laid(device_layout(), bytes),
@@ -68,7 +83,7 @@ impl<'d> Fields<'d> {
             Role::Association => Fields::laid(association_layout(), bytes),
             Role::Interface => Fields::laid(interface_layout(), bytes),
             Role::Endpoint => Fields::laid(endpoint_layout(interface, bytes.len()), bytes),
-            Role::Raw => Fields::starting(1, Lists::of_class(class_row(interface, bytes)), bytes),
+            Role::Raw => Fields::starting(1, Lists::of_class(row), bytes),
             Role::Languages => Fields::none(),
             Role::Text => Fields::none(),
         }

@@ -1,21 +1,27 @@
 //! Headings.
-ghost use Rattle.std.specs.Prelude.{◌≡◌, OnOk};
+ghost use Rattle.std.specs.Prelude.{◌≡◌, option_map, IfSome, IsTrue, OnOk};
+ghost use Rattle.std.specs.Option.{option_copied};
+ghost use Rattle.usb_names.specs.Shown.{row_of};
 ghost use Rattle.usb_text.specs.Shown.{showing_all};
+ghost use Rattle.usb_text.specs.Written.{is_words};
 ghost use Rattle.usb_explain.specs.Descriptors.{heading, heading_shown};
+ghost use Rattle.usb_explain.specs.Headers.{row_in};
 ghost use Rattle.usb_explain.specs.Outline.{described};
 
 use crate::descriptor::Descriptor;
 use crate::endpoint::put_endpoint_words;
 use crate::line::put_place;
-use crate::raw::{put_device_words, put_qualifier_words, put_raw_words};
+use crate::raw::{put_device_words, put_qualifier_words, put_row_words};
 use crate::role::Role;
 use crate::set::{put_association_words, put_configuration_words, put_interface_words};
 use crate::string::{put_languages_words, put_string_words};
 use crate::subject::Subject;
 use std::alloc::AllocError;
+use usb_fields::byte_at;
+use usb_names::ClassDescriptor;
 use usb_text::Page;
 
-/// Puts the heading of a descriptor, as `    interface 0 alternate 0, HID / boot interface / keyboard, 1 endpoint @27+9`.
+/// Puts the heading of a descriptor that has this row, as `    interface 0 alternate 0, HID / boot interface / keyboard, 1 endpoint @27+9`.
 ///
 /// # Errors
 ///
@@ -25,17 +31,27 @@ pub(crate) fn put_heading<P: Page>(
     page: &mut P,
     subject: &Subject,
     d: &Descriptor<'_>,
+    row: Option<&'static ClassDescriptor>,
 ) -> Result<(), AllocError>
+    requires row { option_map row_of (option_copied row.entry) ≡ row_in d.now.role d.now.interface d.now.bytes.now }
+    requires name { IfSome row (λ r. IsTrue (is_words r.now.name.now)) }
     ensures { OnOk result (P.seen page.new ≡ showing_all P.showing (heading subject.now (described d.now)) (P.seen page.old)) }
 {
     page.put_indent(2 * usize::from(d.depth))?;
-    put_words(page, subject, d)?;
+    put_words(page, subject, d, row)?;
     put_place(page, subject.manner().look, d.at, d.bytes.len())?;
     page.end_line()
 }
 
-#[tactic(auto, unfolding(crate::specs::Descriptors::heading_shown))]
-fn put_words<P: Page>(page: &mut P, subject: &Subject, d: &Descriptor<'_>) -> Result<(), AllocError>
+#[tactic(auto, unfolding(crate::specs::Descriptors::heading_shown, crate::specs::Headers::raw_shown))]
+fn put_words<P: Page>(
+    page: &mut P,
+    subject: &Subject,
+    d: &Descriptor<'_>,
+    row: Option<&'static ClassDescriptor>,
+) -> Result<(), AllocError>
+    requires row { option_map row_of (option_copied row.entry) ≡ row_in d.now.role d.now.interface d.now.bytes.now }
+    requires name { IfSome row (λ r. IsTrue (is_words r.now.name.now)) }
     ensures { OnOk result (P.seen page.new ≡ showing_all P.showing (heading_shown d.now.role subject.now (described d.now)) (P.seen page.old)) }
 {
     match d.role {
@@ -45,7 +61,7 @@ fn put_words<P: Page>(page: &mut P, subject: &Subject, d: &Descriptor<'_>) -> Re
         Role::Association => put_association_words(page, d.associations as u64, d.bytes),
         Role::Interface => put_interface_words(page, d.association, d.bytes),
         Role::Endpoint => put_endpoint_words(page, d.speed, d.bytes),
-        Role::Raw => put_raw_words(page, d.interface, d.bytes),
+        Role::Raw => put_row_words(page, byte_at(d.bytes, 1), row),
         Role::Languages => put_languages_words(page, d.bytes),
         Role::Text => put_string_words(page, subject.place(d.string), d.bytes),
     }

@@ -4,29 +4,17 @@ ghost use Rattle.std.specs.Option.{option_copied};
 ghost use Rattle.usb_names.specs.Shown.{row_of};
 ghost use Rattle.usb_text.specs.Shown.{showing_all};
 ghost use Rattle.usb_text.specs.Written.{is_words};
-ghost use Rattle.usb_explain.specs.Headers.{raw_shown, row_shown};
+ghost use Rattle.usb_explain.specs.Headers.{row_shown};
 ghost use Rattle.usb_explain.specs.Sets.{device_shown, version_shown};
 
 use crate::names::put_class_words;
-use crate::table_names::class_row;
 use std::alloc::AllocError;
 use usb_fields::{byte_at, word_at};
-use usb_names::{ClassCodes, ClassDescriptor};
+use usb_names::ClassDescriptor;
 use usb_text::Page;
 
-/// Puts the name of a descriptor after an interface of these codes, or its type where it has no name.
-#[tactic(auto, unfolding(crate::specs::Headers::raw_shown))]
-pub(crate) fn put_raw_words<P: Page>(
-    page: &mut P,
-    interface: Option<ClassCodes>,
-    b: &[u8],
-) -> Result<(), AllocError>
-    ensures { OnOk result (P.seen page.new ≡ showing_all P.showing (raw_shown interface b.now) (P.seen page.old)) }
-{
-    put_row_words(page, byte_at(b, 1), class_row(interface, b))
-}
-
-fn put_row_words<P: Page>(
+/// Puts the name of a descriptor of this row, or its type where it has none.
+pub(crate) fn put_row_words<P: Page>(
     page: &mut P,
     descriptor_type: u8,
     row: Option<&'static ClassDescriptor>,

@@ -8,6 +8,7 @@ ghost use Rattle.usb_explain.specs.RemarkLines.{length_shown, remark_line, remar
 ghost use Rattle.usb_explain.specs.RemarkValues.{there};
 
 use crate::descriptor::Descriptor;
+use crate::role::Role;
 use crate::remark::{PacketSizes, Remark};
 use crate::speed::SetSpeed;
 use std::alloc::AllocError;
@@ -227,13 +228,23 @@ fn put_sizes<P: Page>(page: &mut P, sizes: PacketSizes) -> Result<(), AllocError
     }
 }
 
-/// Puts the lines of the remarks on a descriptor.
+/// Puts the lines of the remarks on a descriptor. There are none on one of no type of its own and of no class.
 ///
 /// # Errors
 ///
 /// Out of memory.
-#[tactic(auto, unfolding(crate::specs::RemarkLines::remark_lines))]
+#[tactic(auto, using(crate::proofs::RemarksShown::no_lines))]
 pub(crate) fn put_remarks<P: Page>(page: &mut P, d: &Descriptor<'_>) -> Result<(), AllocError>
+    ensures { OnOk result (P.seen page.new ≡ showing_all P.showing (remark_lines (described d.now)) (P.seen page.old)) }
+{
+    match (d.role, d.interface) {
+        (Role::Raw, None) => Ok(()),
+        _ => put_all_remarks(page, d),
+    }
+}
+
+#[tactic(auto, unfolding(crate::specs::RemarkLines::remark_lines))]
+fn put_all_remarks<P: Page>(page: &mut P, d: &Descriptor<'_>) -> Result<(), AllocError>
     ensures { OnOk result (P.seen page.new ≡ showing_all P.showing (remark_lines (described d.now)) (P.seen page.old)) }
 {
     let remarks = d.remarks();

@@ -8,9 +8,10 @@ ghost use Rattle.usb_names.specs.Named.{name_of};
 ghost use Rattle.usb_names.specs.Shown.{row_of};
 ghost use Rattle.usb_names.specs.Terminals.{audio_terminals, video_terminals};
 ghost use Rattle.usb_text.specs.Written.{is_words};
-ghost use Rattle.usb_explain.specs.Headers.{row_layout, row_of_bytes};
+ghost use Rattle.usb_explain.specs.Headers.{row_in, row_layout, row_of_bytes};
 ghost use Rattle.usb_explain.specs.inside.FieldsLeft.{layout_has_words};
 
+use crate::role::Role;
 use usb_fields::{after, byte_at};
 use usb_names::{ClassCodes, ClassDescriptor, class_descriptor};
 
@@ -21,6 +22,22 @@ pub(crate) fn class_row(interface: Option<ClassCodes>, b: &[u8]) -> Option<&'sta
     ensures fields { IfSome result (λ row. IsTrue (layout_has_words (row_layout (row_of row.now)))) }
 {
     class_descriptor(interface, byte_at(b, 1), after(b, 2))
+}
+
+/// That of a descriptor of this role: only one that has no type of its own has one.
+pub(crate) fn row_in(
+    role: Role,
+    interface: Option<ClassCodes>,
+    b: &[u8],
+) -> Option<&'static ClassDescriptor>
+    ensures row { option_map row_of (option_copied result) ≡ row_in role interface b.now }
+    ensures name { IfSome result (λ row. IsTrue (is_words row.now.name.now)) }
+    ensures fields { IfSome result (λ row. IsTrue (layout_has_words (row_layout (row_of row.now)))) }
+{
+    match role {
+        Role::Raw => class_row(interface, b),
+        _ => None,
+    }
 }
 
 /// The name of a class.

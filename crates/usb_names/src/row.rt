@@ -118,6 +118,9 @@ pub fn class_descriptor(
     if !is_class_type(descriptor_type) {
         return first_row(standard_rows(), interface, descriptor_type, body);
     }
+    if let None = interface {
+        return first_row(other_rows(), interface, descriptor_type, body);
+    }
     if let Some(row) = first_row(rows_of_class(interface), interface, descriptor_type, body) {
         return Some(row);
     }

@@ -12,6 +12,9 @@ use std::marker::Model;
 /// As many spaces as the start of a line has.
 const SPACES: [u8; 48] = [b' '; 48];
 
+/// Room is made for so many bytes at least.
+const ROOM: usize = 512;
+
 /// A text that grows at its end. In a contract it is its bytes.
 ///
 /// ```rust
@@ -22,15 +25,20 @@ const SPACES: [u8; 48] = [b' '; 48];
 /// ```
 #[derive(Debug, Drop)]
 pub struct Text {
+    /// Its bytes, and room behind them: to write there costs less than to make a `Vec` longer each time.
     bytes: Vec<u8>,
+    /// How many of them are its own.
+    used: usize,
 }
 
 impl Model for Text {
-    ghost use Rattle.std.specs.Prelude.{ℕ, List};
+    ghost use Rattle.std.specs.Prelude.{ℕ, ◌≤◌, List, length, take};
 
     ghost Value = { List ℕ };
 
-    ghost view = { λ t. t.bytes.items };
+    ghost view = { λ t. take t.used t.bytes.items };
+
+    ghost invariant = { λ t. t.used ≤ length t.bytes.items };
 }
 
 impl Text {
@@ -40,6 +48,7 @@ impl Text {
     {
         Text {
             bytes: Vec::new(alloc),
+            used: 0,
         }
     }
 
@@ -53,6 +62,7 @@ impl Text {
     {
         Ok(Text {
             bytes: Vec::with_capacity(alloc, room)?,
+            used: 0,
         })
     }
 
@@ -60,28 +70,28 @@ impl Text {
     pub fn as_bytes(&self) -> &[u8]
         ensures { result.now ≡ self.now }
     {
-        &self.bytes
+        &self.bytes[..self.used]
     }
 
     /// Its length in bytes.
     pub fn len(&self) -> usize
         ensures { result ≡ length self.now }
     {
-        self.bytes.len()
+        self.used
     }
 
     /// Whether it has no bytes.
     pub fn is_empty(&self) -> bool
         ensures { result ≡ (length self.now == 0) }
     {
-        self.bytes.is_empty()
+        self.used == 0
     }
 
     /// Takes all away. The memory is kept for what is put next.
     pub fn clear(&mut self)
         ensures { self.new ≡ [] }
     {
-        self.bytes.clear();
+        self.used = 0;
     }
 
     /// Puts words as they are.
@@ -98,38 +108,55 @@ impl Text {
 
     /// Puts characters as they are, each of which is one byte.
     #[inline(always)]
+    #[tactic(auto, using(crate::proofs::Columns::written_behind))]
     pub fn put_bytes(&mut self, characters: &[u8]) -> Result<(), AllocError>
         ensures { OnOk result (self.new ≡ self.old ++ characters.now) }
     {
-        self.bytes.extend_from_slice(characters)
+        make_room(&mut self.bytes, self.used, characters.len())?;
+        overwrite(&mut self.bytes, self.used, characters);
+        self.used += characters.len();
+        Ok(())
     }
 
     /// Puts a character, which is one byte.
     #[inline]
+    #[tactic(auto, using(crate::proofs::Columns::character_behind))]
     pub fn put_character(&mut self, character: u8) -> Result<(), AllocError>
         ensures { OnOk result (self.new ≡ self.old ++ character ∷ []) }
     {
-        match self.bytes.push(character) {
-            Ok(()) => Ok(()),
-            Err(_) => Err(AllocError),
-        }
+        make_room(&mut self.bytes, self.used, 1)?;
+        self.bytes[self.used] = character;
+        self.used += 1;
+        Ok(())
     }
 
     /// Puts so many spaces.
     #[inline]
-    #[tactic(auto, using(crate::proofs::Columns::fewer_spaces))]
+    #[tactic(auto, using(crate::proofs::Columns::spaces_behind))]
     pub fn put_spaces(&mut self, count: usize) -> Result<(), AllocError>
         ensures { OnOk result (self.new ≡ self.old ++ replicate count 32) }
     {
-        let Some(end) = self.bytes.len().checked_add(count) else {
-            return Err(AllocError);
-        };
         if count > SPACES.len() {
-            return self.bytes.resize(end, b' ');
+            return self.put_many_spaces(count);
         }
         // So many that their number is known costs less than as many as are wanted.
-        self.bytes.extend_from_slice(&SPACES)?;
-        self.bytes.truncate(end);
+        make_room(&mut self.bytes, self.used, SPACES.len())?;
+        overwrite(&mut self.bytes, self.used, &SPACES);
+        self.used += count;
+        Ok(())
+    }
+
+    /// The same of more than the start of a line has.
+    #[inline(never)]
+    fn put_many_spaces(&mut self, count: usize) -> Result<(), AllocError>
+        ensures { OnOk result (self.new ≡ self.old ++ replicate count 32) }
+    {
+        let Some(end) = self.used.checked_add(count) else {
+            return Err(AllocError);
+        };
+        self.bytes.truncate(self.used);
+        self.bytes.resize(end, b' ')?;
+        self.used = end;
         Ok(())
     }
 
@@ -174,15 +201,16 @@ impl Text {
     }
 
     /// Puts two lower-case hexadecimal digits for each byte.
+    #[tactic(auto, using(crate::proofs::Columns::digits_behind))]
     pub fn put_digits(&mut self, bytes: &[u8]) -> Result<(), AllocError>
         ensures { OnOk result (self.new ≡ self.old ++ encode_lower bytes.now) }
     {
-        let start = self.bytes.len();
-        let Some(end) = with_digits(start, bytes.len()) else {
+        let Some(count) = bytes.len().checked_mul(2) else {
             return Err(AllocError);
         };
-        self.bytes.resize(end, 0)?;
-        write_digits(bytes, &mut self.bytes.as_mut_slice()[start..]);
+        make_room(&mut self.bytes, self.used, count)?;
+        overwrite_by_digits(&mut self.bytes, self.used, bytes);
+        self.used += count;
         Ok(())
     }
 
@@ -213,7 +241,7 @@ impl Text {
     /// assert_eq!(rt; text.as_bytes(), b"  > IN   ");
     /// ```
     #[inline(always)]
-    #[tactic(auto, using(crate::proofs::Columns::fewer_spaces, crate::proofs::Columns::length_with_spaces, crate::proofs::Columns::column_within))]
+    #[tactic(auto, using(crate::proofs::Columns::column_behind))]
     pub fn put_indented_column(
         &mut self,
         indent: usize,
@@ -228,10 +256,10 @@ impl Text {
         if count > SPACES.len() || words.len() >= width {
             return self.put_long_column(indent, words, width);
         }
-        let start = self.bytes.len();
-        self.bytes.extend_from_slice(&SPACES)?;
-        self.bytes.truncate(start + count);
-        overwrite(&mut self.bytes, start + indent, words.as_bytes());
+        make_room(&mut self.bytes, self.used, SPACES.len())?;
+        overwrite(&mut self.bytes, self.used, &SPACES);
+        overwrite(&mut self.bytes, self.used + indent, words.as_bytes());
+        self.used += count;
         Ok(())
     }
 
@@ -246,7 +274,7 @@ impl Text {
         ensures { OnOk result (self.new ≡ self.old ++ replicate indent 32 ++ column width words.now) }
     {
         self.put_spaces(indent)?;
-        let start = self.bytes.len();
+        let start = self.used;
         self.put(words)?;
         self.fill(start, width)
     }
@@ -255,7 +283,7 @@ impl Text {
     pub fn fill(&mut self, start: usize, width: usize) -> Result<(), AllocError>
         ensures { OnOk result (self.new ≡ self.old ++ filling width (length self.old - start)) }
     {
-        let used = self.bytes.len().saturating_sub(start);
+        let used = self.used.saturating_sub(start);
         self.put_spaces(width.saturating_sub(used).max(1))
     }
 }
@@ -268,12 +296,34 @@ fn digit(number: u64) -> u8
     b'0' + number as u8
 }
 
-/// A length and two digits more for each of so many bytes, if there is such a length. There is for all
-/// bytes that a memory can hold.
-fn with_digits(len: usize, bytes: usize) -> Option<usize>
-    ensures { IfSome result (λ end. end ≡ len + 2 * bytes) }
+/// Makes room for so many bytes behind those that are used.
+#[inline(always)]
+#[tactic(auto, using(crate::proofs::Columns::still_used))]
+fn make_room(bytes: &mut Vec<u8>, used: usize, count: usize) -> Result<(), AllocError>
+    requires { used ≤ length bytes.old.items }
+    ensures room { OnOk result (used + count ≤ length bytes.new.items) }
+    ensures within { used ≤ length bytes.new.items }
+    ensures same { take used bytes.new.items ≡ take used bytes.old.items }
 {
-    bytes.checked_mul(2)?.checked_add(len)
+    if count > bytes.len() - used {
+        lengthen(bytes, count)
+    } else {
+        Ok(())
+    }
+}
+
+/// Makes it longer by so many bytes at least, apart since it is seldom called.
+#[cold]
+#[inline(never)]
+fn lengthen(bytes: &mut Vec<u8>, count: usize) -> Result<(), AllocError>
+    ensures longer { OnOk result (length bytes.old.items + count ≤ length bytes.new.items) }
+    ensures same { take (length bytes.old.items) bytes.new.items ≡ bytes.old.items }
+    ensures within { length bytes.old.items ≤ length bytes.new.items }
+{
+    match bytes.len().checked_add(count.max(ROOM)) {
+        None => Err(AllocError),
+        Some(length) => bytes.resize(length, b' '),
+    }
 }
 
 /// Writes characters over those from `start` on.
@@ -282,4 +332,14 @@ fn overwrite(bytes: &mut Vec<u8>, start: usize, characters: &[u8])
     ensures { bytes.new.items ≡ take start bytes.old.items ++ characters.now ++ drop (start + length characters.now) bytes.old.items }
 {
     bytes.as_mut_slice()[start..start + characters.len()].copy_from_slice(characters);
+}
+
+/// Writes the digits of bytes over those from `start` on.
+fn overwrite_by_digits(bytes: &mut Vec<u8>, start: usize, others: &[u8])
+    requires { start + 2 * length others.now ≤ length bytes.old.items }
+    ensures items { bytes.new.items ≡ take start bytes.old.items ++ encode_lower others.now ++ drop (start + 2 * length others.now) bytes.old.items }
+    ensures length { length bytes.new.items ≡ length bytes.old.items }
+{
+    let end = start + 2 * others.len();
+    write_digits(others, &mut bytes.as_mut_slice()[start..end]);
 }

@@ -1,5 +1,5 @@
 -- What a walk keeps.
-use Rattle.std.specs.Prelude.{◌≡◌, ℕ, List, Bool, ◌==◌, ◌||◌, ◌<◌, ◌∷◌, if◌then◌else◌, length, Option, map, ◌≤◌, Some, None}
+use Rattle.std.specs.Prelude.{◌≡◌, ◌≢◌, slice_index, ℕ, List, Bool, ◌==◌, ◌||◌, ◌<◌, ◌∷◌, if◌then◌else◌, length, Option, map, ◌≤◌, Some, None}
 use Rattle.std.specs.List.{list_any}
 use Rattle.usb_explain.specs.SetSpeeds.{excludes_low, hints_low_or_full, is_companion, proves_full, proves_high}
 use Rattle.usb_explain.specs.declared.speed_evidence.Evidence.{Evidence}
@@ -37,6 +37,10 @@ heard d e = record {
 -- what a cell of a number says: the number of an association, or that there is none
 abbrev pub bound_cell : ℕ → Option ℕ
 bound_cell cell = if cell == 65535 then None else Some cell
+
+-- an association binds each number below this one
+abbrev pub AllBound : ℕ → List ℕ → Type 0
+AllBound bound cells = (n : ℕ) → n < bound → slice_index cells n ≢ 65535
 
 -- what is in a cell after an association that binds its number
 abbrev pub bound_first : ℕ → ℕ → ℕ

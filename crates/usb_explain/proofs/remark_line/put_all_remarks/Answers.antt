@@ -7,7 +7,7 @@ use Rattle.usb_explain.specs.RemarkLines.{remark_line}
 use Rattle.usb_explain.specs.RemarkValues.{there}
 use Rattle.usb_explain.proofs.RemarksShown.{all_lines}
 use Rattle.usb_explain.proofs.ShownInTurn.{shown_next}
-use Rattle.usb_explain.proofs.remark_line.put_remarks.Goals as goal
+use Rattle.usb_explain.proofs.remark_line.put_all_remarks.Goals as goal
 
 pub loop-remark-init : goal.loop-remark-init
 loop-remark-init g c =

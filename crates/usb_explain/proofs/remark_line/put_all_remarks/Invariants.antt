@@ -5,7 +5,7 @@ use Rattle.usb_explain.specs.declared.remark.Remark.{Remark}
 use Rattle.usb_explain.specs.Outline.{described}
 use Rattle.usb_explain.specs.RemarkLines.{remark_line, remark_lines}
 use Rattle.usb_explain.specs.RemarkValues.{there}
-use Rattle.usb_explain.proofs.remark_line.put_remarks.Given as goal
+use Rattle.usb_explain.proofs.remark_line.put_all_remarks.Given as goal
 
 abbrev pub invariant-loop-remark : goal.invariant-loop-remark
 invariant-loop-remark g l =
