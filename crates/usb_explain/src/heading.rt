@@ -1,11 +1,12 @@
 //! Headings.
 ghost use Rattle.std.specs.Prelude.{◌≡◌, OnOk};
 ghost use Rattle.usb_text.specs.Shown.{showing_all};
-ghost use Rattle.usb_explain.specs.Descriptors.{heading, heading_shown};
+ghost use Rattle.usb_explain.specs.Descriptors.{formats_shown, heading, heading_shown};
 ghost use Rattle.usb_explain.specs.Outline.{described};
 
 use crate::descriptor::Descriptor;
 use crate::endpoint::put_endpoint_words;
+use crate::format_words::put_format_words;
 use crate::line::put_place;
 use crate::raw::{put_device_words, put_qualifier_words, put_raw_words};
 use crate::role::Role;
@@ -34,7 +35,7 @@ pub(crate) fn put_heading<P: Page>(
     page.end_line()
 }
 
-#[tactic(auto, unfolding(crate::specs::Descriptors::heading_shown))]
+#[tactic(auto, using(usb_text::proofs::ShownLines::showing_joined), unfolding(crate::specs::Descriptors::heading_shown))]
 fn put_words<P: Page>(page: &mut P, subject: &Subject, d: &Descriptor<'_>) -> Result<(), AllocError>
     ensures { OnOk result (P.seen page.new ≡ showing_all P.showing (heading_shown d.now.role subject.now (described d.now)) (P.seen page.old)) }
 {
@@ -45,8 +46,27 @@ fn put_words<P: Page>(page: &mut P, subject: &Subject, d: &Descriptor<'_>) -> Re
         Role::Association => put_association_words(page, d.associations as u64, d.bytes),
         Role::Interface => put_interface_words(page, d.association, d.bytes),
         Role::Endpoint => put_endpoint_words(page, d.speed, d.bytes),
-        Role::Raw => put_raw_words(page, d.interface, d.bytes),
+        Role::Raw => {
+            put_raw_words(page, d.interface, d.bytes)?;
+            put_formats(page, subject, d)
+        }
         Role::Languages => put_languages_words(page, d.bytes),
         Role::Text => put_string_words(page, subject.place(d.string), d.bytes),
+    }
+}
+
+/// Puts what tells a format of a class from others, where that is asked for.
+#[tactic(auto, unfolding(crate::specs::Descriptors::formats_shown))]
+fn put_formats<P: Page>(
+    page: &mut P,
+    subject: &Subject,
+    d: &Descriptor<'_>,
+) -> Result<(), AllocError>
+    ensures { OnOk result (P.seen page.new ≡ showing_all P.showing (formats_shown subject.now (described d.now)) (P.seen page.old)) }
+{
+    if subject.manner().look.formats {
+        put_format_words(page, d.interface, d.bytes)
+    } else {
+        Ok(())
     }
 }
