@@ -59,7 +59,8 @@ void rattle_dealloc(unsigned char *at);
 
 /* --- from a buffer into a buffer: what `usbdesc` writes -------------------------------------------------------- */
 
-enum nzg_options { NZG_BRIEF = 1, NZG_PLACES = 2, NZG_UTF8 = 4 }; /* with NZG_UTF8 the text is UTF-8, else ASCII */
+/* with NZG_UTF8 the text is UTF-8, else ASCII; NZG_FORMATS heads video frames with size and interval, audio formats with rates */
+enum nzg_options { NZG_BRIEF = 1, NZG_PLACES = 2, NZG_UTF8 = 4, NZG_FORMATS = 8 };
 enum nzg_speed { NZG_LOW = 1, NZG_FULL = 2, NZG_HIGH = 3, NZG_SUPER = 4 }; /* 0: not known; 0 and super for explain and remarks alone */
 
 /* one set where the second byte is 2 or 7, and else a file; with `any` a dump too */

@@ -1,5 +1,5 @@
 /* texts COMMAND FILE [LENGTH]: what a call makes of the first LENGTH bytes of FILE. The commands are show and check, with a
- * dash behind them with `any`; build, so with `comments`; and explain as plain, brief, noplaces, high or utf8. Writes what it
+ * dash behind them with `any`; build, so with `comments`; and explain as plain, brief, noplaces, high, utf8 or formats. Writes what it
  * makes, and behind it, on a line of its own, the status, the number and the place. Ends in 9 where a buffer that is too short
  * is written to. */
 #include <nozzlegorse.h>
@@ -17,6 +17,7 @@ static struct nzg_answer call(const char *command, size_t length, size_t room) {
     case 'p' + 'l': return nzg_explain(bytes, length, NZG_PLACES, 0, text, room);
     case 'n' + 'o': return nzg_explain(bytes, length, 0, 0, text, room);
     case 'h' + 'i': return nzg_explain(bytes, length, NZG_PLACES, NZG_HIGH, text, room);
+    case 'f' + 'o': return nzg_explain(bytes, length, NZG_PLACES | NZG_FORMATS, 0, text, room);
     case 'u' + 't': return nzg_explain(bytes, length, NZG_PLACES | NZG_UTF8, 0, text, room);
     default: return nzg_build(bytes, length, wide, text, room);
     }

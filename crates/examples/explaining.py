@@ -10,6 +10,7 @@ compares what it writes (.ci/readings).
     explaining.py file FILE..    the same of a descriptor file
     explaining.py dump FILE..    the same of a dump of Linux
     explaining.py --utf8 ..      the same with characters beyond ASCII as UTF-8
+    explaining.py --formats ..   that of --brief --formats, to the file that ends in .formats
 """
 
 import itertools
@@ -535,10 +536,33 @@ def raw_fields(d, row, index):
         yield "bytes", rest.hex()
 
 
+# Of a frame, by its subtype, where wWidth and dwDefaultFrameInterval are (UVC 1.5); of a format type, where bSamFreqType is
+# (Audio Data Formats 1.0).
+FRAMES = {0x05: (5, 21), 0x07: (5, 21), 0x11: (5, 17), 0x14: (4, 39)}
+FORMAT_TYPES = {1: 7, 2: 8, 3: 7}
+
+
+def format_words(d, codes):
+    """What tells a video frame or an audio format from others of its kind."""
+    if d[1] != 0x24 or len(d) < 4 or codes is None:
+        return ""
+    if codes[:2] == (0x0E, 2) and d[2] in FRAMES:
+        size, interval = FRAMES[d[2]]
+        width, height = little(d[size : size + 2]), little(d[size + 2 : size + 4])
+        return f", {width} x {height}, {milliseconds(little(d[interval : interval + 4]))}" if interval + 4 <= len(d) else ""
+    if codes[:2] == (1, 2) and codes[2] not in (0x20, 0x30) and d[2] == 2 and FORMAT_TYPES.get(d[3], 255) < len(d):
+        first = FORMAT_TYPES[d[3]] + 1
+        rates = [little(d[i : i + 3]) for i in range(first, len(d) - 2, 3)]
+        if d[first - 1] == 0:
+            return f", {rates[0]} to {rates[1]} Hz" if len(rates) > 1 else ""
+        return "".join(f", {rate} Hz" for rate in rates)
+    return ""
+
+
 class Explanation:
-    def __init__(self, kind, data, speed=None, fault=None, brief=False, places=True, utf8=False, decoded=False):
+    def __init__(self, kind, data, speed=None, fault=None, brief=False, places=True, utf8=False, decoded=False, formats=False):
         self.kind, self.data, self.asked, self.brief, self.places, self.utf8 = kind, data, speed, brief, places, utf8
-        self.fault, self.decoded, self.lines = fault, decoded, []
+        self.fault, self.decoded, self.formats, self.lines = fault, decoded, formats, []
         self.found = set()
         self.names, self.string_places = {}, None
         if not fault:
@@ -810,7 +834,8 @@ class Explanation:
 
     def of_raw(self, d, at, depth, codes, numbers, later):
         row = row_of(d, codes)
-        self.heading(depth, row[0] if row else f"descriptor of type {byte(d[1])}", at, len(d))
+        words = format_words(d, codes) if self.formats else ""
+        self.heading(depth, (row[0] if row else f"descriptor of type {byte(d[1])}") + words, at, len(d))
         if later is not None:
             self.remarks(depth, header_remarks(d, codes, later))
         self.remarks(depth, raw_remarks(d, codes, depth, numbers, later))
@@ -919,8 +944,8 @@ class Explanation:
 class Fragment(Explanation):
     """The explanation of descriptors one after another, of which no owner is asked for, or of a setup packet."""
 
-    def __init__(self, data, speed=None, brief=False, places=True, utf8=False):
-        super().__init__("fragment", data, speed, (0, ""), brief, places, utf8)
+    def __init__(self, data, speed=None, brief=False, places=True, utf8=False, formats=False):
+        super().__init__("fragment", data, speed, (0, ""), brief, places, utf8, formats=formats)
         self.speed, self.limit = AT.get(speed, FULL_OR_HIGH), 0
 
     def index(self, n):
@@ -1038,8 +1063,8 @@ def cut(data, at, limit):
 
 
 def main(words):
-    utf8 = words[:1] == ["--utf8"]
-    words = words[utf8:]
+    utf8, formats = words[:1] == ["--utf8"], words[:1] == ["--formats"]
+    words = words[utf8 or formats :]
     if len(words) < 2 or words[0] not in ("set", "file", "dump"):
         sys.exit(__doc__)
     for path in words[1:]:
@@ -1051,8 +1076,8 @@ def main(words):
             reader = checking.reading.Reader(data, True)
             reader.dump()
             kind = "dump" if reader.named else "file"
-        with open(os.path.splitext(path)[0] + ".explain", "w", encoding="utf-8") as target:
-            target.write(Explanation(kind, data, utf8=utf8).text())
+        with open(os.path.splitext(path)[0] + (".formats" if formats else ".explain"), "w", encoding="utf-8") as target:
+            target.write(Explanation(kind, data, brief=formats, utf8=utf8, formats=formats).text())
 
 
 if __name__ == "__main__":

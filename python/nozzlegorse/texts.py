@@ -58,9 +58,11 @@ def with_strings(dump: bytes) -> bytes:
     return _whole(c.lib.nzg_with_strings, *c.lend(dump))
 
 
-def explain(data: bytes, brief: bool = False, places: bool = True, speed: str | None = None, utf8: bool = False) -> Explanation:
-    """What descriptors mean, in words, also of broken bytes as far as they go."""
-    options = bool(brief) | bool(places) << 1 | bool(utf8) << 2
+def explain(data: bytes, brief: bool = False, places: bool = True, speed: str | None = None, utf8: bool = False,
+            formats: bool = False) -> Explanation:
+    """What descriptors mean, in words, also of broken bytes as far as they go. With `formats` headings tell video frames and audio
+    formats apart: by size and interval, by rates."""
+    options = bool(brief) | bool(places) << 1 | bool(utf8) << 2 | bool(formats) << 3
     answer, out = c.into(c.lib.nzg_explain, *c.lend(data), options, c.speed_number(speed, (None, *c.SPEEDS)))
     return Explanation(out.decode(), fault_of(answer))
 

@@ -22,6 +22,7 @@ fn made(command: &str, fates: &str, bytes: &[u8]) -> Result<Vec<u8>, Fault> {
         brief: command == "brief",
         no_places: command == "noplaces",
         utf8: command == "utf8",
+        formats: command == "formats",
         speed: (command == "high").then_some(Speed::High),
     };
     Ok(match command {

@@ -70,6 +70,8 @@ pub struct Options {
     pub no_places: bool,
     /// Strings as UTF-8, and not in ASCII with escapes.
     pub utf8: bool,
+    /// Size and interval in the headings of video frames, and rates in those of audio formats.
+    pub formats: bool,
     /// The speed at which the device runs, where that is known.
     pub speed: Option<Speed>,
 }
@@ -93,7 +95,8 @@ pub fn with_strings(dump: &[u8]) -> Result<Vec<u8>, Fault> {
 
 /// What bytes mean, in words, as far as they go, and the fault where they are broken.
 pub fn explain(bytes: &[u8], how: Options) -> (String, Option<Fault>) {
-    let options = u32::from(how.brief) | u32::from(!how.no_places) << 1 | u32::from(how.utf8) << 2;
+    let written = u32::from(how.brief) | u32::from(!how.no_places) << 1 | u32::from(how.utf8) << 2;
+    let options = written | u32::from(how.formats) << 3;
     let speed = how.speed.map_or(0, |it| it as u8);
     let (answer, out) = into(|out, room| unsafe { sys::nzg_explain(bytes.as_ptr(), bytes.len(), options, speed, out, room) });
     (String::from_utf8(out).expect("a text is UTF-8"), done(answer).err())

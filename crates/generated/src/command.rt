@@ -17,6 +17,7 @@ const WHOLE: Manner = Manner {
         brief: false,
         places: true,
         utf8: false,
+        formats: false,
     },
     speed: None,
     decoded: false,

@@ -92,12 +92,12 @@ running_speed_told number =
     else if number == 4 then Some speeds.Super
     else None
 
--- how an explanation is written: bit 0 leaves the fields out, bit 1 gives each heading its place, and bit 2 writes characters
--- beyond ASCII
+-- how an explanation is written: bit 0 leaves the fields out, bit 1 gives each heading its place, bit 2 writes characters beyond
+-- ASCII, and bit 3 tells formats apart in their headings
 abbrev pub manner_told : ℕ → ℕ → Manner
 manner_told options speed =
     record {
-      look = record { brief = options % 2 == 1; places = (options / 2) % 2 == 1; utf8 = (options / 4) % 2 == 1 };
+      look = record { brief = options % 2 == 1; places = (options / 2) % 2 == 1; utf8 = (options / 4) % 2 == 1; formats = (options / 8) % 2 == 1 };
       speed = running_speed_told speed;
       decoded = false;
     }

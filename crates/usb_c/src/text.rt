@@ -96,6 +96,7 @@ pub(crate) fn manner(options: u32, speed: u8) -> Manner
             brief: options % 2 == 1,
             places: options / 2 % 2 == 1,
             utf8: options / 4 % 2 == 1,
+            formats: options / 8 % 2 == 1,
         },
         speed: running_speed(speed),
         decoded: false,
@@ -116,7 +117,7 @@ pub(crate) fn running_speed(number: u8) -> Option<SetSpeed>
 
 /// Puts the explanation of bytes into the buffer: of an input all of it, else what is before the fault, the fault and
 /// the rest. Options: bit 0 leaves out the fields, bit 1 gives each heading its place, bit 2 writes characters beyond
-/// ASCII. A speed: 1 low, 2 full, 3 high, 4 super; any other says nothing of it.
+/// ASCII, bit 3 tells formats apart in their headings. A speed: 1 low, 2 full, 3 high, 4 super; any other says nothing of it.
 pub(crate) fn explain_bytes(alloc: Global, bytes: &[u8], manner: Manner, out: &mut [u8]) -> Verdict
     ensures { Explains manner bytes.now out.old out.new result }
 {

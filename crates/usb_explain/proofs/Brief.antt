@@ -1,7 +1,7 @@
 -- A brief explanation has the same lines but for those of fields.
 use Rattle.std.proofs.Common.{◌≡◌, List, ◌++◌, true, false, refl, sym, ap, ◌∙◌, append-nil}
 use Rattle.usb_text.specs.Shown.{Shown}
-use Rattle.usb_explain.specs.Descriptors.{field_lines, fields, found_lines, heading, heading_shown, lines_of}
+use Rattle.usb_explain.specs.Descriptors.{field_lines, fields, formats_shown, found_lines, heading, heading_shown, lines_of}
 use Rattle.usb_explain.specs.Laws.{BriefLeavesOutFields, looking}
 use Rattle.usb_explain.specs.Outline.{Described}
 use Rattle.usb_explain.specs.RemarkLines.{remark_lines}
@@ -14,7 +14,7 @@ abbrev head_of : Subject → Described → List Shown
 head_of subject d = heading subject d ++ found_lines d ++ remark_lines d
 
 shown_same : (role : Role) (subject : Subject) (d : Described) → heading_shown role (looking false subject) d ≡ heading_shown role (looking true subject) d
-unfolding heading_shown
+unfolding heading_shown formats_shown
 shown_same roles.Device subject d = refl
 shown_same roles.Qualifier subject d = refl
 shown_same roles.Configuration subject d = refl

@@ -6,6 +6,7 @@ use Rattle.usb_explain.specs.declared.role.Role.TheVariants as roles
 use Rattle.usb_explain.specs.Endpoints.{endpoint_shown}
 use Rattle.usb_explain.specs.Fields.{PlacedField, fields_of}
 use Rattle.usb_explain.specs.FindingLines.{finding_line}
+use Rattle.usb_explain.specs.FormatWords.{format_shown}
 use Rattle.usb_explain.specs.Forms.{form_shown}
 use Rattle.usb_explain.specs.Headers.{raw_shown}
 use Rattle.usb_explain.specs.Lines.{field_line, heading_line}
@@ -15,6 +16,10 @@ use Rattle.usb_explain.specs.Sets.{device_shown, version_shown, association_show
 use Rattle.usb_explain.specs.StringNames.{StringNames}
 use Rattle.usb_explain.specs.Subjects.{Subject, place_of}
 
+-- what tells a format of its class from others, where that is asked for
+unfoldable pub formats_shown : Subject → Described → List Shown
+formats_shown subject d = if subject.manner.look.formats then format_shown (fields_of roles.Raw d.interface d.bytes) else []
+
 -- what its heading shows
 unfoldable pub heading_shown : Role → Subject → Described → List Shown
 heading_shown roles.Device subject d = device_shown d.bytes
@@ -23,7 +28,7 @@ heading_shown roles.Configuration subject d = configuration_shown d.speed d.byte
 heading_shown roles.Association subject d = association_shown d.associations d.bytes
 heading_shown roles.Interface subject d = interface_shown d.association d.bytes
 heading_shown roles.Endpoint subject d = endpoint_shown d.speed d.bytes
-heading_shown roles.Raw subject d = raw_shown d.interface d.bytes
+heading_shown roles.Raw subject d = raw_shown d.interface d.bytes ++ formats_shown subject d
 heading_shown roles.Languages subject d = languages_shown d.bytes
 heading_shown roles.Text subject d = string_shown (place_of subject d.string) d.bytes
 

@@ -27,6 +27,7 @@ pub mod StringNames
 pub mod Forms
 pub mod Layouts
 pub mod Sets
+pub mod FormatWords
 pub mod Descriptors
 pub mod Fields
 pub mod FieldLaws

@@ -89,3 +89,8 @@ milliseconds n = Number (n / 10000) ∷ fraction (n % 10000)
 unfoldable pub frame_interval : List ℕ → List Shown
 frame_interval (a ∷ b ∷ c ∷ d ∷ []) = let n = a + 256 * (b + 256 * (c + 256 * d)) in Number n ∷ milliseconds n
 frame_interval value = Bytes value ∷ []
+
+-- the milliseconds alone
+unfoldable pub frame_time : List ℕ → List Shown
+frame_time (a ∷ b ∷ c ∷ d ∷ []) = milliseconds (a + 256 * (b + 256 * (c + 256 * d)))
+frame_time value = Bytes value ∷ []

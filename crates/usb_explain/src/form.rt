@@ -81,7 +81,7 @@ fn byte_before(b: &[u8], place: usize, count: usize) -> u8
 
 /// Puts a number of one to four bytes in decimal digits.
 #[inline(always)]
-fn put_number<P: Page>(page: &mut P, value: &[u8]) -> Result<(), AllocError>
+pub(crate) fn put_number<P: Page>(page: &mut P, value: &[u8]) -> Result<(), AllocError>
     ensures { OnOk result (P.seen page.new ≡ showing_all P.showing (decimal_shown value.now) (P.seen page.old)) }
 {
     match value {

@@ -4,12 +4,13 @@ ghost use Rattle.std.specs.Option.{option_copied};
 ghost use Rattle.usb_names.specs.Shown.{row_of};
 ghost use Rattle.usb_text.specs.Shown.{showing_all};
 ghost use Rattle.usb_text.specs.Written.{is_words};
-ghost use Rattle.usb_explain.specs.Descriptors.{heading, heading_shown};
+ghost use Rattle.usb_explain.specs.Descriptors.{formats_shown, heading, heading_shown};
 ghost use Rattle.usb_explain.specs.Headers.{row_in};
 ghost use Rattle.usb_explain.specs.Outline.{described};
 
 use crate::descriptor::Descriptor;
 use crate::endpoint::put_endpoint_words;
+use crate::format_words::put_format_words;
 use crate::line::put_place;
 use crate::raw::{put_device_words, put_qualifier_words, put_row_words};
 use crate::role::Role;
@@ -43,7 +44,7 @@ pub(crate) fn put_heading<P: Page>(
     page.end_line()
 }
 
-#[tactic(auto, unfolding(crate::specs::Descriptors::heading_shown, crate::specs::Headers::raw_shown))]
+#[tactic(auto, using(usb_text::proofs::ShownLines::showing_joined), unfolding(crate::specs::Descriptors::heading_shown, crate::specs::Headers::raw_shown))]
 fn put_words<P: Page>(
     page: &mut P,
     subject: &Subject,
@@ -61,8 +62,27 @@ fn put_words<P: Page>(
         Role::Association => put_association_words(page, d.associations as u64, d.bytes),
         Role::Interface => put_interface_words(page, d.association, d.bytes),
         Role::Endpoint => put_endpoint_words(page, d.speed, d.bytes),
-        Role::Raw => put_row_words(page, byte_at(d.bytes, 1), row),
+        Role::Raw => {
+            put_row_words(page, byte_at(d.bytes, 1), row)?;
+            put_formats(page, subject, d)
+        }
         Role::Languages => put_languages_words(page, d.bytes),
         Role::Text => put_string_words(page, subject.place(d.string), d.bytes),
+    }
+}
+
+/// Puts what tells a format of a class from others, where that is asked for.
+#[tactic(auto, unfolding(crate::specs::Descriptors::formats_shown))]
+fn put_formats<P: Page>(
+    page: &mut P,
+    subject: &Subject,
+    d: &Descriptor<'_>,
+) -> Result<(), AllocError>
+    ensures { OnOk result (P.seen page.new ≡ showing_all P.showing (formats_shown subject.now (described d.now)) (P.seen page.old)) }
+{
+    if subject.manner().look.formats {
+        put_format_words(page, d.interface, d.bytes)
+    } else {
+        Ok(())
     }
 }

@@ -33,6 +33,7 @@ mod field_line;
 mod fields;
 mod finding;
 mod form;
+mod format_words;
 mod found_here;
 mod fragment;
 mod header;

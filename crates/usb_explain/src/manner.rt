@@ -21,4 +21,6 @@ pub struct Look {
     pub places: bool,
     /// Characters beyond ASCII as UTF-8.
     pub utf8: bool,
+    /// With what tells formats apart in their headings: size and interval of a video frame, rates of an audio format.
+    pub formats: bool,
 }

@@ -4,7 +4,7 @@ ghost use Rattle.std.specs.List.{list_all};
 ghost use Rattle.usb_text.specs.Lines.{is_printable};
 ghost use Rattle.usb_text.specs.Shown.{Number, showing_all};
 ghost use Rattle.usb_text.specs.Written.{is_words};
-ghost use Rattle.usb_explain.specs.Speeds.{digits_up_to_last, four_digits, fraction, frame_interval, milliamperes, milliseconds, power_unit};
+ghost use Rattle.usb_explain.specs.Speeds.{digits_up_to_last, four_digits, fraction, frame_interval, frame_time, milliamperes, milliseconds, power_unit};
 
 use std::alloc::AllocError;
 use usb_fields::prefix;
@@ -89,6 +89,20 @@ pub(crate) fn put_frame_interval<P: Page>(page: &mut P, value: &[u8]) -> Result<
             put_milliseconds(page, units)?;
             page.put(")")
         }
+        _ => page.put_digits(value),
+    }
+}
+
+/// Puts a frame interval in milliseconds alone: `33.3333 ms`.
+#[tactic(auto, unfolding(crate::specs::Speeds::frame_time))]
+pub(crate) fn put_frame_time<P: Page>(page: &mut P, value: &[u8]) -> Result<(), AllocError>
+    ensures { OnOk result (P.seen page.new ≡ showing_all P.showing (frame_time value.now) (P.seen page.old)) }
+{
+    match value {
+        [a, b, c, d] => put_milliseconds(
+            page,
+            u64::from(*a) + 256 * (u64::from(*b) + 256 * (u64::from(*c) + 256 * u64::from(*d))),
+        ),
         _ => page.put_digits(value),
     }
 }

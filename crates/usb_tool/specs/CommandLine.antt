@@ -61,7 +61,7 @@ build_app = command_with (codes "build") (flag_rule (codes "comments") ∷ flag_
 
 abbrev pub explain_app : App
 explain_app = command_with (codes "explain")
-    (flag_rule (codes "brief") ∷ flag_rule (codes "no-places") ∷ flag_rule (codes "utf8") ∷ flag_rule (codes "hex") ∷ flag_rule (codes "loose") ∷ speed_rule ∷ [])
+    (flag_rule (codes "brief") ∷ flag_rule (codes "no-places") ∷ flag_rule (codes "utf8") ∷ flag_rule (codes "hex") ∷ flag_rule (codes "loose") ∷ flag_rule (codes "formats") ∷ speed_rule ∷ [])
 
 abbrev pub enumerate_app : App
 enumerate_app = command_with (codes "enumerate")
@@ -104,6 +104,7 @@ pub record HasFlags (o : Explaining) (rows : List Row) : Type 0 where
   pub utf8 : o.utf8 ≡ gives (codes "utf8") rows
   pub hex : o.hex ≡ gives (codes "hex") rows
   pub loose : o.loose ≡ gives (codes "loose") rows
+  pub formats : o.formats ≡ gives (codes "formats") rows
   pub speed : text_of o.speed ≡ first_of (codes "speed") rows
 
 -- the flags of `check` are those that were found, and so is the text of its speed

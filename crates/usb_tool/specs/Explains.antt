@@ -48,6 +48,7 @@ pub record IsManner (o : Explaining) (m : Manner) : Type 0 where
   pub brief : m.look.brief ≡ o.brief
   pub places : m.look.places ≡ not o.no_places
   pub utf8 : m.look.utf8 ≡ o.utf8
+  pub formats : m.look.formats ≡ o.formats
   pub speed : running_said o.speed ≡ Some m.speed
   pub decoded : m.decoded ≡ false
 

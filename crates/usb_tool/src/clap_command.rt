@@ -8,9 +8,10 @@ use crate::help::{
     ABOUT, ADDRESS_HELP, ATTEMPTS_HELP, BRIEF_HELP, BRIEF_LOG_HELP, BUILD_ABOUT, BUILD_HELP,
     BUILD_USAGE, CHECK_ABOUT, CHECK_ANY_HELP, CHECK_HELP, CHECK_USAGE, COMMENTS_HELP,
     ENUMERATE_ABOUT, ENUMERATE_HELP, ENUMERATE_USAGE, EXPLAIN_ABOUT, EXPLAIN_HELP, EXPLAIN_USAGE,
-    FATES, FATES_HELP, FORCE_HELP, HEX_HELP, HEX_OUTPUT_HELP, LOG_HELP, LOOSE_HELP, NAKS_HELP,
-    NO_PLACES_HELP, RAN_AT_HELP, REMARKS_HELP, RUNNING_SPEEDS, SHOW_ABOUT, SHOW_ANY_HELP,
-    SHOW_HELP, SHOW_USAGE, SPEED_HELP, SPEEDS, UTF8_HELP, VERSION, WITH_STRINGS_HELP,
+    FATES, FATES_HELP, FORCE_HELP, FORMATS_HELP, HEX_HELP, HEX_OUTPUT_HELP, LOG_HELP, LOOSE_HELP,
+    NAKS_HELP, NO_PLACES_HELP, RAN_AT_HELP, REMARKS_HELP, RUNNING_SPEEDS, SHOW_ABOUT,
+    SHOW_ANY_HELP, SHOW_HELP, SHOW_USAGE, SPEED_HELP, SPEEDS, UTF8_HELP, VERSION,
+    WITH_STRINGS_HELP,
 };
 use clap::{Arg, ArgAction, Command, value_parser};
 use std::alloc::{AllocError, Global};
@@ -82,6 +83,7 @@ fn explain<'a>(alloc: Global) -> Result<Command<'a>, AllocError>
     let explain = add_option(explain, flag(alloc, "utf8", UTF8_HELP))?;
     let explain = add_option(explain, flag(alloc, "hex", HEX_HELP))?;
     let explain = add_option(explain, flag(alloc, "loose", LOOSE_HELP))?;
+    let explain = add_option(explain, flag(alloc, "formats", FORMATS_HELP))?;
     add_option(explain, ran_at(alloc))
 }
 

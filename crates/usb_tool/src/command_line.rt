@@ -174,6 +174,7 @@ fn explaining_of<'a>(matches: &ArgMatches<'a>) -> Explaining<'a>
         utf8: has_flag(matches, "utf8"),
         hex: has_flag(matches, "hex"),
         loose: has_flag(matches, "loose"),
+        formats: has_flag(matches, "formats"),
         speed: matches.get_str("speed"),
     }
 }

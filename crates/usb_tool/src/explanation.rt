@@ -26,7 +26,7 @@ use usb_text::{HexFault, OutFault, Text, parse, put_count, put_stop, write_all};
 /// ```rust
 /// let mut input: &[u8] = &[9, 2, 9, 0, 0, 1, 0, 0x80, 0x32];
 /// let mut text = Vec::new(alloc);
-/// let manner = Manner { look: Look { brief: true, places: false, utf8: false }, speed: None, decoded: false };
+/// let manner = Manner { look: Look { brief: true, places: false, utf8: false, formats: false }, speed: None, decoded: false };
 /// run_explain(alloc, &mut input, &mut text, manner, false)?;
 /// assert_eq!(rt; text.as_slice(), b"set, 9 bytes
 ///   configuration 1, full or high speed, 0 interfaces, bus-powered, 100 mA
@@ -61,7 +61,7 @@ pub fn run_explain<R: Read, W: Write>(
 /// ```rust
 /// let mut input: &[u8] = &[7, 5, 0x81, 3, 8, 0, 10];
 /// let mut text = Vec::new(alloc);
-/// let manner = Manner { look: Look { brief: true, places: false, utf8: false }, speed: None, decoded: false };
+/// let manner = Manner { look: Look { brief: true, places: false, utf8: false, formats: false }, speed: None, decoded: false };
 /// run_explain_loose(alloc, &mut input, &mut text, manner, false)?;
 /// assert_eq!(rt; text.as_slice(), b"fragment, 7 bytes
 /// endpoint 0x81 (EP 1 IN), interrupt, 8 bytes, 10 ms; at high speed 64 ms

@@ -195,6 +195,10 @@ pub(crate) const HEX_HELP: &str = "Takes nothing but hexadecimal text";
 pub(crate) const LOOSE_HELP: &str =
     "Takes a fragment: descriptors one after another, or a setup packet";
 
+/// What `--formats` says.
+pub(crate) const FORMATS_HELP: &str =
+    "Heads video frames with size and interval, audio formats with rates";
+
 /// The values of `--speed` of `explain`.
 pub(crate) const RUNNING_SPEEDS: &str = "low|full|high|super";
 

@@ -10,8 +10,8 @@ use usb_explain::{Look, Manner, SetSpeed};
 /// descriptors say it.
 ///
 /// ```rust
-/// let manner = manner_of(&Explaining { brief: true, no_places: false, utf8: false, hex: false, loose: false, speed: Some("high") })?;
-/// assert_eq!(rt; manner.look, Look { brief: true, places: true, utf8: false });
+/// let manner = manner_of(&Explaining { brief: true, no_places: false, utf8: false, hex: false, loose: false, formats: false, speed: Some("high") })?;
+/// assert_eq!(rt; manner.look, Look { brief: true, places: true, utf8: false, formats: false });
 /// assert_eq!(rt; manner.speed, Some(SetSpeed::High));
 /// ```
 ///
@@ -30,6 +30,7 @@ pub fn manner_of(explaining: &Explaining<'_>) -> Result<Manner, SettingsFault>
             brief: explaining.brief,
             places: !explaining.no_places,
             utf8: explaining.utf8,
+            formats: explaining.formats,
         },
         speed,
         decoded: false,
@@ -77,6 +78,8 @@ pub struct Explaining<'a> {
     pub hex: bool,
     /// Whether it is explained as a fragment.
     pub loose: bool,
+    /// Whether headings of formats have what tells them apart.
+    pub formats: bool,
     /// The name of a speed, or `None` where the words lack it.
     pub speed: Option<&'a str>,
 }

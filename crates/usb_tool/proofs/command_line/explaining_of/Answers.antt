@@ -10,5 +10,6 @@ returns c = record {
   utf8 = c.has_flag-3.ensures;
   hex = c.has_flag-4.ensures;
   loose = c.has_flag-5.ensures;
+  formats = c.has_flag-6.ensures;
   speed = c.get_str.ensures ∙ first_value-rows (found_of c.args.matches.now) (codes "speed");
 }
