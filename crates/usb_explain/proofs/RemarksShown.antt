@@ -31,7 +31,7 @@ neither false x = refl
 -- there are none on a descriptor without a type of its own, before any interface
 pub no_lines : (d : Described) → d.role ≡ Raw → d.interface ≡ None → remark_lines d ≡ []
 unfolding remark_lines remarks_on raw_remarks header_remark
-no_lines d is_raw none = rw (is_raw, none) (rw (neither (not (is_of_endpoint d.owner)) None) refl)
+no_lines d is_raw none = rw (is_raw, none) (rw (neither {X = Option Remark} (not (is_of_endpoint d.owner)) None) refl)
 
 -- and those that `check` has of it
 pub all_placed : (d : Described) (remarks : List (Option Remark)) → flat_map there remarks ≡ remarks_on d.role d

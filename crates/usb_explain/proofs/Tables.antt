@@ -1,5 +1,5 @@
 -- What is gathered of a set, and its survey.
-use Rattle.std.proofs.Common.{◌≡◌, ◌≢◌, ◌≤◌, ◌<◌, ◌+◌, ◌==◌, ◌||◌, ◌⊎◌, inl, inr, absurd, nat_le, nat_lt, ℕ, Bool, true, false, List, [], ◌∷◌, length, if◌then◌else◌, map, replicate, slice_index, Option, Some, None, refl, sym, ap, ◌∙◌, arith, zero-add}
+use Rattle.std.proofs.Common.{◌≡◌, ◌≢◌, ◌≤◌, ◌<◌, ◌+◌, ◌==◌, ◌||◌, ◌⊎◌, inl, inr, nat_le, nat_lt, ℕ, Bool, true, false, List, [], ◌∷◌, length, if◌then◌else◌, map, replicate, slice_index, Option, Some, None, refl, sym, ap, ◌∙◌, arith, zero-add}
 use Rattle.std.proofs.Math.Bool.{or-false}
 use Rattle.std.specs.List.{list_any, range_with_len}
 use Rattle.std.specs.Option.{option_or}
@@ -62,9 +62,9 @@ either_stays cell association false below (inr e) = cc
 bound_or_binds : (old : List ℕ) (bound first count n : ℕ) → AllBound bound old → first ≤ bound → n < first + count
     → slice_index old n ≢ 65535 ⊎ (binds first count n ≡ true)
 bound_or_binds old bound first count n all before within =
-    elim (cases_lt n bound)
-    [ inl below ↦ inl (all n below)
-    | inr above ↦ inr (and_from (nat_le first n) (nat_lt n (first + count)) (le-leb first n (omega (arith, above, before))) (lt-ltb n (first + count) within))
+    elim (cases_lt n bound) [
+      | inl below ↦ inl (all n below)
+      | inr above ↦ inr (and_from (nat_le first n) (nat_lt n (first + count)) (le-leb first n (omega (arith, above, before))) (lt-ltb n (first + count) within))
     ]
 
 -- what was bound still is

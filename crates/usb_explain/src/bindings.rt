@@ -90,16 +90,11 @@ impl Bindings {
 /// Binds those of so many numbers that no earlier association binds, where each number below one is bound. Answers the one
 /// below which each is bound then.
 #[tactic(auto, using(crate::proofs::Tables::none_bound, crate::proofs::Tables::cell_bound, crate::proofs::Tables::still_bound, crate::proofs::Tables::now_bound))]
-fn bind_more(
-    cells: &mut [u16; 256],
-    bound: usize,
-    association: u16,
-    first: u8,
-    count: u8,
-) -> usize
+fn bind_more(cells: &mut [u16; 256], bound: usize, association: u16, first: u8, count: u8) -> usize
     requires association { association + 1 < 2 ^ 16 }
     requires most { bound ≤ 256 }
     requires before { AllBound bound cells.old }
+    ensures cells { length cells.new ≡ 256 }
     ensures most { result ≤ 256 }
     ensures before { AllBound result cells.new }
     ensures bound { (n : ℕ) → n < 256 → bound_cell (slice_index cells.new n) ≡ option_or (bound_cell (slice_index cells.old n)) (if binds first count n then Some association else None) }

@@ -33,6 +33,7 @@ fn way(transfer: TransferType, address: u8) -> &'static str
 }
 
 /// Puts what bmAttributes says: `bulk`, or `isochronous, adaptive, data`.
+#[inline(always)]
 fn put_attributes<P: Page>(page: &mut P, attributes: u8) -> Result<(), AllocError>
     ensures { OnOk result (P.seen page.new ≡ P.seen page.old) }
 {
@@ -77,6 +78,7 @@ fn usage(attributes: u8) -> &'static str
 /// put_size(&mut lines, SetSpeed::High, 1, 0x1400)?;
 /// assert_eq!(rt; lines.as_bytes(), b"3 x 1024 bytes a microframe");
 /// ```
+#[inline(always)]
 #[tactic(auto, unfolding(crate::specs::Endpoints::size_shown))]
 fn put_size<P: Page>(
     page: &mut P,
@@ -135,7 +137,7 @@ fn put_packets<P: Page>(page: &mut P, packets: Option<u8>, size: u64) -> Result<
 }
 
 /// Puts the words of an endpoint descriptor's heading (USB 2.0, 9.6.6).
-#[inline(never)]
+#[inline(always)]
 #[tactic(auto, using(usb_text::proofs::ShownLines::showing_joined), unfolding(crate::specs::Endpoints::endpoint_shown))]
 pub(crate) fn put_endpoint_words<P: Page>(
     page: &mut P,
@@ -155,6 +157,7 @@ pub(crate) fn put_endpoint_words<P: Page>(
 }
 
 /// Puts the interval of an endpoint of these attributes between other words, if it is periodic.
+#[inline(always)]
 fn put_interval_after<P: Page>(
     page: &mut P,
     before: &str,
@@ -177,7 +180,7 @@ fn put_interval_after<P: Page>(
 }
 
 /// Puts bEndpointAddress of an endpoint of these attributes: `0x81 (EP 1 IN)`.
-#[inline(never)]
+#[inline(always)]
 pub(crate) fn put_address<P: Page>(
     page: &mut P,
     attributes: u8,
@@ -191,7 +194,7 @@ pub(crate) fn put_address<P: Page>(
 }
 
 /// Puts bmAttributes of an endpoint.
-#[inline(never)]
+#[inline(always)]
 pub(crate) fn put_attributes_value<P: Page>(page: &mut P, attributes: u8) -> Result<(), AllocError>
     ensures { OnOk result (P.seen page.new ≡ showing_all P.showing (Number attributes ∷ []) (P.seen page.old)) }
 {
@@ -215,7 +218,7 @@ pub(crate) fn put_size_value<P: Page>(
 }
 
 /// Puts bInterval of an endpoint of these attributes.
-#[inline(never)]
+#[inline(always)]
 pub(crate) fn put_interval_value<P: Page>(
     page: &mut P,
     speed: SetSpeed,

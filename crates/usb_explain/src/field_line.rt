@@ -32,7 +32,7 @@ pub(crate) fn put_fields<P: Page>(
     d: &Descriptor<'_>,
     row: Option<&'static ClassDescriptor>,
 ) -> Result<(), AllocError>
-    requires row { option_map row_of (option_copied row.entry) ≡ row_in d.now.role d.now.interface d.now.bytes.now }
+    requires row { option_map row_of (option_copied row) ≡ row_in d.now.role d.now.interface d.now.bytes.now }
     requires words { IfSome row (λ row. IsTrue (layout_has_words (row_layout (row_of row.now)))) }
     ensures { OnOk result (P.seen page.new ≡ showing_all P.showing (fields subject.now (described d.now)) (P.seen page.old)) }
 {
@@ -49,7 +49,7 @@ fn put_all_fields<P: Page>(
     d: &Descriptor<'_>,
     row: Option<&'static ClassDescriptor>,
 ) -> Result<(), AllocError>
-    requires row { option_map row_of (option_copied row.entry) ≡ row_in d.now.role d.now.interface d.now.bytes.now }
+    requires row { option_map row_of (option_copied row) ≡ row_in d.now.role d.now.interface d.now.bytes.now }
     requires words { IfSome row (λ row. IsTrue (layout_has_words (row_layout (row_of row.now)))) }
     ensures { OnOk result (P.seen page.new ≡ showing_all P.showing (field_lines names.now (described d.now)) (P.seen page.old)) }
 {

@@ -72,7 +72,7 @@ impl<'d> Fields<'d> {
         row: Option<&'static ClassDescriptor>,
         bytes: &'d [u8],
     ) -> Fields<'d>
-        requires row { option_map row_of (option_copied row.entry) ≡ row_in role interface bytes.entry.now }
+        requires row { option_map row_of (option_copied row) ≡ row_in role interface bytes.now }
         requires words { IfSome row (λ row. IsTrue (layout_has_words (row_layout (row_of row.now)))) }
         ensures { result ≡ fields_of role interface bytes.entry.now }
     {

@@ -98,7 +98,7 @@ pub(crate) fn put_number<P: Page>(page: &mut P, value: &[u8]) -> Result<(), Allo
 }
 
 /// Puts a number of one, two or four bytes as a code.
-#[inline(never)]
+#[inline(always)]
 fn put_code<P: Page>(page: &mut P, value: &[u8]) -> Result<(), AllocError>
     ensures { OnOk result (P.seen page.new ≡ showing_all P.showing (hexadecimal_shown value.now) (P.seen page.old)) }
 {
@@ -113,7 +113,7 @@ fn put_code<P: Page>(page: &mut P, value: &[u8]) -> Result<(), AllocError>
     }
 }
 
-#[inline(never)]
+#[inline(always)]
 fn put_release_words<P: Page>(page: &mut P, value: &[u8]) -> Result<(), AllocError>
     ensures { OnOk result (P.seen page.new ≡ showing_all P.showing (release_shown value.now) (P.seen page.old)) }
 {
@@ -123,7 +123,7 @@ fn put_release_words<P: Page>(page: &mut P, value: &[u8]) -> Result<(), AllocErr
     }
 }
 
-#[inline(never)]
+#[inline(always)]
 fn put_packet_size<P: Page>(
     page: &mut P,
     speed: SetSpeed,
@@ -139,7 +139,7 @@ fn put_packet_size<P: Page>(
 }
 
 /// Puts the type of a class descriptor of HID (HID 1.11, 7.1).
-#[inline(never)]
+#[inline(always)]
 fn put_report_words<P: Page>(page: &mut P, descriptor_type: u8) -> Result<(), AllocError>
     ensures { OnOk result (P.seen page.new ≡ showing_all P.showing (Number descriptor_type ∷ []) (P.seen page.old)) }
 {

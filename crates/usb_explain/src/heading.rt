@@ -34,7 +34,7 @@ pub(crate) fn put_heading<P: Page>(
     d: &Descriptor<'_>,
     row: Option<&'static ClassDescriptor>,
 ) -> Result<(), AllocError>
-    requires row { option_map row_of (option_copied row.entry) ≡ row_in d.now.role d.now.interface d.now.bytes.now }
+    requires row { option_map row_of (option_copied row) ≡ row_in d.now.role d.now.interface d.now.bytes.now }
     requires name { IfSome row (λ r. IsTrue (is_words r.now.name.now)) }
     ensures { OnOk result (P.seen page.new ≡ showing_all P.showing (heading subject.now (described d.now)) (P.seen page.old)) }
 {
@@ -51,7 +51,7 @@ fn put_words<P: Page>(
     d: &Descriptor<'_>,
     row: Option<&'static ClassDescriptor>,
 ) -> Result<(), AllocError>
-    requires row { option_map row_of (option_copied row.entry) ≡ row_in d.now.role d.now.interface d.now.bytes.now }
+    requires row { option_map row_of (option_copied row) ≡ row_in d.now.role d.now.interface d.now.bytes.now }
     requires name { IfSome row (λ r. IsTrue (is_words r.now.name.now)) }
     ensures { OnOk result (P.seen page.new ≡ showing_all P.showing (heading_shown d.now.role subject.now (described d.now)) (P.seen page.old)) }
 {

@@ -51,6 +51,7 @@ pub(crate) fn put_interval<P: Page>(
 }
 
 /// Puts a time in microseconds, if it is in its range: `125 us`, or `2 ms`.
+#[inline(always)]
 fn put_time<P: Page>(page: &mut P, microseconds: Option<u32>) -> Result<(), AllocError>
     ensures { OnOk result (P.seen page.new ≡ showing_all P.showing (interval_shown microseconds) (P.seen page.old)) }
 {

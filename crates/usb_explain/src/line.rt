@@ -11,7 +11,7 @@ use usb_text::Page;
 pub(crate) const NAME_WIDTH: usize = 23;
 
 /// Puts where a descriptor starts in the input, and how many bytes it has, where places are shown.
-#[inline(never)]
+#[inline(always)]
 pub(crate) fn put_place<P: Page>(
     page: &mut P,
     look: Look,

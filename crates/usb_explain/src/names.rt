@@ -20,6 +20,7 @@ use usb_text::Page;
 /// put_class_words(&mut lines, 3, 1, 2)?;
 /// assert_eq!(rt; lines.as_bytes(), b"HID / boot interface / mouse");
 /// ```
+#[inline(always)]
 #[tactic(auto, using(usb_text::proofs::ShownLines::showing_joined), unfolding(crate::specs::Names::class_names))]
 pub(crate) fn put_class_words<P: Page>(
     page: &mut P,
@@ -80,6 +81,7 @@ fn put_class_name<P: Page>(
     }
 }
 
+#[inline(always)]
 fn put_further<P: Page>(page: &mut P, name: Option<&'static str>) -> Result<(), AllocError>
     requires { IfSome name (λ n. IsTrue (is_words n.now)) }
     ensures { OnOk result (P.seen page.new ≡ showing_all P.showing (name_shown (option_map (λ n. n.now) name.entry)) (P.seen page.old)) }
@@ -94,7 +96,7 @@ fn put_further<P: Page>(page: &mut P, name: Option<&'static str>) -> Result<(), 
 }
 
 /// Puts a class code, with its name if it has one: `0x03 (HID)`.
-#[inline(never)]
+#[inline(always)]
 pub(crate) fn put_class<P: Page>(page: &mut P, class: u8) -> Result<(), AllocError>
     ensures { OnOk result (P.seen page.new ≡ showing_all P.showing (class_field class) (P.seen page.old)) }
 {
@@ -102,7 +104,7 @@ pub(crate) fn put_class<P: Page>(page: &mut P, class: u8) -> Result<(), AllocErr
 }
 
 /// Puts the class code of an interface or an association, by the type of its descriptor: `0x00 (reserved class)`.
-#[inline(never)]
+#[inline(always)]
 pub(crate) fn put_function_class<P: Page>(
     page: &mut P,
     kind: u8,
@@ -120,7 +122,7 @@ pub(crate) fn put_function_class<P: Page>(
 }
 
 /// Puts a subclass code, with the name that it has in its class: `0x01 (boot interface)`.
-#[inline(never)]
+#[inline(always)]
 pub(crate) fn put_subclass<P: Page>(page: &mut P, class: u8, subclass: u8) -> Result<(), AllocError>
     ensures { OnOk result (P.seen page.new ≡ showing_all P.showing (subclass_field class subclass) (P.seen page.old)) }
 {
@@ -128,7 +130,7 @@ pub(crate) fn put_subclass<P: Page>(page: &mut P, class: u8, subclass: u8) -> Re
 }
 
 /// Puts a protocol code, with the name that it has in its class and subclass: `0x02 (mouse)`.
-#[inline(never)]
+#[inline(always)]
 pub(crate) fn put_protocol<P: Page>(
     page: &mut P,
     class: u8,
@@ -141,6 +143,7 @@ pub(crate) fn put_protocol<P: Page>(
 }
 
 /// Puts a code, and the name that it has, if there is one, as its meaning.
+#[inline(always)]
 fn put_code<P: Page>(page: &mut P, code: u8, name: Option<&'static str>) -> Result<(), AllocError>
     requires { IfSome name (λ n. IsTrue (is_words n.now)) }
     ensures { OnOk result (P.seen page.new ≡ showing_all P.showing (code_shown code (option_map (λ n. n.now) name.entry)) (P.seen page.old)) }

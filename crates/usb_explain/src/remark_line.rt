@@ -8,8 +8,8 @@ ghost use Rattle.usb_explain.specs.RemarkLines.{length_shown, remark_line, remar
 ghost use Rattle.usb_explain.specs.RemarkValues.{there};
 
 use crate::descriptor::Descriptor;
-use crate::role::Role;
 use crate::remark::{PacketSizes, Remark};
+use crate::role::Role;
 use crate::speed::SetSpeed;
 use std::alloc::AllocError;
 use usb_set::TransferType;
@@ -233,7 +233,6 @@ fn put_sizes<P: Page>(page: &mut P, sizes: PacketSizes) -> Result<(), AllocError
 /// # Errors
 ///
 /// Out of memory.
-#[tactic(auto, using(crate::proofs::RemarksShown::no_lines))]
 pub(crate) fn put_remarks<P: Page>(page: &mut P, d: &Descriptor<'_>) -> Result<(), AllocError>
     ensures { OnOk result (P.seen page.new ≡ showing_all P.showing (remark_lines (described d.now)) (P.seen page.old)) }
 {

@@ -12,7 +12,7 @@ use usb_fields::byte_at;
 use usb_text::Page;
 
 /// Puts the words of the heading of a set's first descriptor (USB 2.0, 9.6.3 and 9.6.4).
-#[inline(never)]
+#[inline(always)]
 #[tactic(auto, unfolding(crate::specs::Sets::configuration_shown))]
 pub(crate) fn put_configuration_words<P: Page>(
     page: &mut P,
@@ -44,7 +44,7 @@ fn set_words(descriptor_type: u8) -> &'static str
 }
 
 /// Puts the words of an interface association's heading (its ECN, 9.X.Y).
-#[inline(never)]
+#[inline(always)]
 #[tactic(auto, using(usb_text::proofs::ShownLines::showing_joined), unfolding(crate::specs::Sets::association_shown))]
 pub(crate) fn put_association_words<P: Page>(
     page: &mut P,
@@ -86,7 +86,7 @@ fn put_bound<P: Page>(page: &mut P, first: u8, count: u8) -> Result<(), AllocErr
 }
 
 /// Puts the words of an interface descriptor's heading (9.6.5).
-#[inline(never)]
+#[inline(always)]
 #[tactic(auto, using(usb_text::proofs::ShownLines::showing_joined), unfolding(crate::specs::Sets::interface_shown))]
 pub(crate) fn put_interface_words<P: Page>(
     page: &mut P,
@@ -121,7 +121,7 @@ fn put_binding<P: Page>(page: &mut P, association: Option<u64>) -> Result<(), Al
     }
 }
 
-#[inline(never)]
+#[inline(always)]
 fn put_setting<P: Page>(page: &mut P, interface: u8, alternate: u8) -> Result<(), AllocError>
     ensures { OnOk result (P.seen page.new ≡ showing_all P.showing (Number interface ∷ Number alternate ∷ []) (P.seen page.old)) }
 {

@@ -61,6 +61,7 @@ impl SetSpeed {
 }
 
 /// Puts bMaxPower in milliamperes: `100 mA` of 50, and at SuperSpeed `400 mA`.
+#[inline(always)]
 pub(crate) fn put_power<P: Page>(page: &mut P, speed: SetSpeed, power: u8) -> Result<(), AllocError>
     ensures { OnOk result (P.seen page.new ≡ P.showing (Number (milliamperes speed power)) (P.seen page.old)) }
 {

@@ -55,6 +55,7 @@ impl Evidence {
     }
 
     /// Adds what a descriptor says.
+    #[inline(always)]
     pub(crate) fn add(&mut self, d: &[u8])
         ensures { self.new ≡ heard d.now self.old }
     {

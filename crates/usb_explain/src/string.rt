@@ -65,7 +65,7 @@ fn put_string_place<P: Page>(page: &mut P, place: Option<StringPlace>) -> Result
 }
 
 /// Puts the index of a string: `0 (none)`, or the number and the string that it names.
-#[inline(never)]
+#[inline(always)]
 #[tactic(auto, unfolding(crate::specs::StringNames::index_shown))]
 pub(crate) fn put_index<P: Page>(page: &mut P, names: &Names, index: u8) -> Result<(), AllocError>
     ensures { OnOk result (P.seen page.new ≡ showing_all P.showing (index_shown names.now index) (P.seen page.old)) }

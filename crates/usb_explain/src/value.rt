@@ -18,7 +18,7 @@ pub(crate) fn put_release_value<P: Page>(page: &mut P, release: u16) -> Result<(
 }
 
 /// Puts bMaxPacketSize0 of a device, which is an exponent at SuperSpeed.
-#[inline(never)]
+#[inline(always)]
 #[tactic(auto, unfolding(crate::specs::Endpoints::packet_value))]
 pub(crate) fn put_packet_value<P: Page>(
     page: &mut P,
@@ -51,7 +51,7 @@ pub(crate) fn source_words(attributes: u8) -> &'static str
 }
 
 /// Puts bmAttributes of a set.
-#[inline(never)]
+#[inline(always)]
 pub(crate) fn put_set_attributes<P: Page>(page: &mut P, attributes: u8) -> Result<(), AllocError>
     ensures { OnOk result (P.seen page.new ≡ showing_all P.showing (Number attributes ∷ []) (P.seen page.old)) }
 {
@@ -65,7 +65,7 @@ pub(crate) fn put_set_attributes<P: Page>(page: &mut P, attributes: u8) -> Resul
 }
 
 /// Puts bMaxPower of a set.
-#[inline(never)]
+#[inline(always)]
 pub(crate) fn put_power_value<P: Page>(
     page: &mut P,
     speed: SetSpeed,

@@ -56,6 +56,7 @@ pub fn protocol_name(class: u8, subclass: u8, protocol: u8) -> Option<&'static s
 }
 
 /// The row of a class.
+#[inline(always)]
 fn class_row(class: u8) -> Option<&'static Class>
     ensures { option_map class_of (option_copied result) ≡ class_row class }
 {

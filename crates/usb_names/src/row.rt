@@ -79,6 +79,7 @@ fn find_row(
 }
 
 /// The same, of the rows as the table says them.
+#[inline(always)]
 #[tactic(auto, using(crate::proofs::RowLemmas::find_mapped))]
 fn first_row(
     rows: &'static [ClassDescriptor],

@@ -96,7 +96,7 @@ column_behind old words used indent width room some fits =
     let spaces = front ++ replicate 48 space ++ drop (used + 48) old in
     let length_of_front : length front ≡ used = length-take-le used old (omega (arith, room)) in
     let length_of_spaces : used + 48 ≤ length spaces =
-        rw (length-append (front ++ replicate 48 space) (drop (used + 48) old), length-append front (replicate 48 space), length-replicate 48 space, length_of_front) (omega arith) in
+    rw (length-append (front ++ replicate 48 space) (drop (used + 48) old), length-append front (replicate 48 space), length-replicate 48 space, length_of_front) (omega arith) in
     taken_over spaces words (used + indent) (used + (indent + width)) (omega (arith, fits)) (omega (arith, length_of_spaces, some))
     ∙ ap (λ xs. take (used + indent) xs ++ words ++ drop (used + indent + length words) xs) (spaces_behind old used (indent + width) room some)
     ∙ ap (λ n. take (n + indent) (front ++ replicate (indent + width) space) ++ words ++ drop (n + indent + length words) (front ++ replicate (indent + width) space)) (sym length_of_front)
