@@ -1,5 +1,5 @@
 -- The bytes of the file that a text lists, and why it lists none.
-use Rattle.std.proofs.Common.{◌≡◌, ◌≢◌, inl, inr, ℕ, ◌+◌, ◌<◌, ◌≤◌, Bool, true, false, List, [], ◌∷◌, ◌++◌, Option, Some, None, Result, Ok, Err, length, refl, ap, sym, subst, ◌∙◌, append_assoc, append-nil, arith}
+use Rattle.std.proofs.Common.{◌≡◌, ◌≢◌, ℕ, ◌+◌, ◌<◌, true, false, List, [], ◌++◌, Option, Some, None, Result, Ok, Err, length, refl, ap, sym, subst, ◌∙◌}
 use Rattle.std.specs.Prelude.{IfErr, IfOk}
 use Rattle.std.specs.Result.{IsErrAnd}
 use Rattle.std.proofs.lemmas.Bool.{and_parts}
@@ -9,7 +9,6 @@ use Rattle.usb_file_data.specs.declared.file.DescriptorFile.{DescriptorFile}
 use Rattle.usb_file_data.specs.declared.file.Strings.{Strings}
 use Rattle.usb_file_data.specs.File.{File, file_bytes, strings_bytes}
 use Rattle.usb_listing.specs.declared.assembly.Form.{Form}
-use Rattle.usb_listing.specs.declared.assembly.Form.TheVariants as forms
 use Rattle.usb_listing.specs.declared.draft.Draft.{Draft}
 use Rattle.usb_listing.specs.declared.fault.ListFault.{ListFault}
 use Rattle.usb_listing.specs.declared.fault.ListWhy.{ListWhy}
@@ -23,18 +22,18 @@ use Rattle.usb_listing.specs.Listings.{IsBegun, IsBytesOf, ListFaulty, Lists, is
 use Rattle.usb_listing.specs.Order.{MayStand, has_over}
 use Rattle.usb_listing.specs.Says.{IsItem, Item, fields, item_word, languages, string}
 use Rattle.usb_listing.specs.inside.Drafts.{AreHeld, Reading, Told, so_far}
-use Rattle.usb_listing.specs.inside.Growing.{file_and, joined_to, last_of, may_follow_sets, may_stand, open_sets, qualifier_of, set_and}
+use Rattle.usb_listing.specs.inside.Growing.{file_and, joined_to, may_follow_sets, may_stand, open_sets, qualifier_of, set_and}
 use Rattle.usb_listing.specs.inside.Thinning.{Finished, ReadsOn, last_bytes, with_open}
-use Rattle.usb_listing.specs.inside.Walking.{Refused, count_before, grown, text_read}
+use Rattle.usb_listing.specs.inside.Walking.{Refused, count_before, text_read}
 use Rattle.usb_listing.proofs.SetLemmas.{IsInner}
 use Rattle.usb_listing.proofs.MoreLemmas.{joins_word, more}
 use Rattle.usb_listing.proofs.LessLemmas.{may_is, next}
 use Rattle.usb_listing.proofs.StandLemmas.{may_then}
 use Rattle.usb_listing.proofs.ReadingLemmas.{lists_end, reading_next, refused_end, refused_line}
 use Rattle.usb_listing.proofs.WholeLemmas.{whole_file}
-use Rattle.usb_listing.proofs.LikeLemmas.{Like, like_more, may_same, whole_same}
+use Rattle.usb_listing.proofs.LikeLemmas.{like_more, may_same, whole_same}
 use Rattle.usb_listing.proofs.OntoLemmas.{Onto, front_bytes, front_last, joined_open, last_here, like_qualifier, onto_last, onto_like, open_with}
-use Rattle.usb_listing.proofs.TakenLemmas.{OntoDraft, inner_last, like_spoken, may_in, no_device, spoken, string_is, string_new, taken}
+use Rattle.usb_listing.proofs.TakenLemmas.{OntoDraft, inner_last, may_in, no_device, string_is, taken}
 
 -- ---- whether one descriptor more makes a set too long
 

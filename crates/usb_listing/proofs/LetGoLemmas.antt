@@ -1,5 +1,5 @@
 -- A file of which one set is let go is one in order, and looks the same.
-use Rattle.std.proofs.Common.{◌≡◌, inl, inr, ℕ, zero, suc, ◌+◌, ◌*◌, ◌<◌, ◌≤◌, ◌==◌, ◌||◌, ◌&&◌, not, ltb, Bool, true, false, cond, List, [], ◌∷◌, ◌++◌, map, Option, Some, None, length, refl, ap, sym, subst, ◌∙◌, append-nil, length-append, arith}
+use Rattle.std.proofs.Common.{◌≡◌, inl, inr, ℕ, zero, suc, ◌+◌, ◌*◌, ◌<◌, ◌≤◌, ◌==◌, ◌||◌, ◌&&◌, not, Bool, true, false, cond, List, [], ◌∷◌, ◌++◌, map, Option, Some, None, length, refl, ap, sym, subst, ◌∙◌, append-nil, length-append, arith}
 use Rattle.std.specs.Prelude.{filter}
 use Rattle.std.specs.List.{flat_map, list_any, range_with_len}
 use Rattle.std.proofs.lemmas.Bool.{le-ltb, or_from, or_parts}
@@ -7,10 +7,8 @@ use Rattle.std.proofs.lemmas.List.FromFn.{length-range_with_len}
 use Rattle.usb_fields.specs.declared.device.DeviceDescriptor.{DeviceDescriptor}
 use Rattle.usb_fields.specs.Bytes.{AreBytes}
 use Rattle.usb_set.specs.declared.tree.Configuration.{Configuration}
-use Rattle.usb_set.specs.declared.tree.Setting.{Setting}
 use Rattle.usb_set.specs.declared.tree.SetKind.{SetKind}
-use Rattle.usb_set.specs.declared.extra.Extra.{Extra}
-use Rattle.usb_set.specs.Descriptors.{Descriptor, configuration_descriptor, descriptor_bytes, interface_descriptor}
+use Rattle.usb_set.specs.Descriptors.{configuration_descriptor, descriptor_bytes, interface_descriptor}
 use Rattle.usb_set.specs.Layout.{has_typed_raw, is_typed_raw, set_length, setting_descriptors}
 use Rattle.usb_set.specs.Owners.{association_in, setting_extras}
 use Rattle.usb_set.proofs.Growth.{flat_map-snoc, list_any-snoc}
@@ -22,9 +20,8 @@ use Rattle.usb_file_data.proofs.Lists.{length-push}
 use Rattle.usb_listing.specs.Says.{IsItem}
 use Rattle.usb_listing.specs.Order.{IsOrdered, has_over, is_over, set_item, set_items}
 use Rattle.usb_listing.specs.Listings.{IsBegun}
-use Rattle.usb_listing.specs.inside.Growing.{declared, open_sets}
-use Rattle.usb_listing.specs.inside.Thinning.{Thins, ThinsLast, naming, thin, with_open, without}
-use Rattle.usb_listing.proofs.PartLemmas.{All, Head, Part, all_append, all_split, any_parts, closed, kind_of, made, opened}
+use Rattle.usb_listing.specs.inside.Thinning.{Thins, naming, thin, with_open, without}
+use Rattle.usb_listing.proofs.PartLemmas.{All, Part, all_append, all_split, any_parts, closed, kind_of, made, opened}
 use Rattle.usb_listing.proofs.LikeLemmas.{Like, has, has_filter, has_named, like_open, like_refl, named_more, over_more}
 
 -- ---- settings that name a string alone

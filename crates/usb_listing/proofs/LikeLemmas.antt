@@ -1,20 +1,17 @@
 -- A file of which written sets were let go, beside the whole one.
-use Rattle.std.proofs.Common.{◌≡◌, ℕ, zero, suc, ◌+◌, ◌*◌, ◌<◌, ◌≤◌, ◌==◌, ◌||◌, ◌&&◌, not, eqb, ltb, Bool, true, false, cond, List, [], ◌∷◌, ◌++◌, map, Option, Some, None, is_none, is_some, length, refl, ap, sym, subst, ◌∙◌, append-nil, append_assoc, length-append, arith}
+use Rattle.std.proofs.Common.{◌≡◌, ℕ, zero, suc, ◌+◌, ◌*◌, ◌<◌, ◌≤◌, ◌==◌, ◌||◌, ◌&&◌, not, ltb, Bool, true, false, cond, List, [], ◌∷◌, ◌++◌, Option, Some, None, is_none, is_some, length, refl, ap, sym, ◌∙◌, append-nil, append_assoc, arith}
 use Rattle.std.specs.Prelude.{filter}
 use Rattle.std.specs.List.{flat_map, list_any, range_with_len}
-use Rattle.std.proofs.lemmas.Bool.{eqb-false, eqb-true, le-ltb, ltb-false, eq-eqb, or_from, or_parts}
-use Rattle.std.proofs.lemmas.List.{same_from_push}
+use Rattle.std.proofs.lemmas.Bool.{eqb-false, eqb-true}
 use Rattle.std.proofs.lemmas.List.Folds.{list_any-append}
-use Rattle.std.proofs.lemmas.List.FromFn.{length-range_with_len}
 use Rattle.usb_fields.specs.declared.device.DeviceDescriptor.{DeviceDescriptor}
 use Rattle.usb_fields.specs.declared.qualifier.Qualifier.{Qualifier}
 use Rattle.usb_set.specs.declared.tree.Configuration.{Configuration}
-use Rattle.usb_set.specs.declared.tree.Setting.{Setting}
 use Rattle.usb_set.proofs.Growth.{flat_map-snoc}
 use Rattle.usb_file_data.specs.declared.file.DescriptorFile.{DescriptorFile}
 use Rattle.usb_file_data.specs.declared.file.Other.{Other}
 use Rattle.usb_file_data.specs.declared.file.Strings.{Strings}
-use Rattle.usb_file_data.specs.File.{device_string_indices, has_wrong_count, named_among, named_indices, other_sets, set_string_indices, string_indices}
+use Rattle.usb_file_data.specs.File.{device_string_indices, has_wrong_count, named_among, named_indices, set_string_indices, string_indices}
 use Rattle.usb_file_data.proofs.Lists.{length-push}
 use Rattle.usb_listing.specs.Order.{has_over, is_over}
 use Rattle.usb_listing.specs.declared.word.Word.{Word}
@@ -23,7 +20,7 @@ use Rattle.usb_listing.specs.Listings.{IsBegun, is_whole}
 use Rattle.usb_listing.specs.inside.Drafts.{strings_total}
 use Rattle.usb_listing.specs.inside.Growing.{declared, has_interface, is_string, last_of, may_follow, may_follow_sets, may_stand, open_sets}
 use Rattle.usb_listing.specs.inside.Walking.{has_all_strings}
-use Rattle.usb_listing.specs.inside.Thinning.{naming, thin, with_open, without}
+use Rattle.usb_listing.specs.inside.Thinning.{with_open}
 use Rattle.usb_listing.proofs.PartLemmas.{last_push, made}
 use Rattle.usb_listing.proofs.WholeLemmas.{whole_is}
 

@@ -1,13 +1,10 @@
 -- What was written of a file so far, line by line.
-use Rattle.std.proofs.Common.{◌≡◌, ◌≢◌, ◌⊎◌, inl, inr, ℕ, zero, suc, ◌+◌, ◌*◌, ◌<◌, ◌≤◌, ◌==◌, ◌||◌, ◌&&◌, not, ltb, Bool, true, false, cond, List, [], ◌∷◌, ◌++◌, map, Option, Some, None, is_none, is_some, length, refl, ap, sym, subst, ◌∙◌, append-nil, append_assoc, length-append, arith}
-use Rattle.std.specs.List.{flat_map, list_any}
-use Rattle.std.proofs.lemmas.Bool.{and_parts, eqb-true}
+use Rattle.std.proofs.Common.{◌≡◌, inl, inr, ℕ, ◌+◌, true, List, [], ◌∷◌, ◌++◌, Option, Some, None, is_none, length, refl, ap, sym, subst, ◌∙◌, append-nil, append_assoc, arith}
 use Rattle.std.proofs.lemmas.List.{nil_from_length, same_from_push}
 use Rattle.usb_fields.specs.declared.device.DeviceDescriptor.{DeviceDescriptor}
 use Rattle.usb_fields.specs.declared.qualifier.Qualifier.{Qualifier}
 use Rattle.usb_fields.specs.Device.{device_bytes, qualifier_bytes}
 use Rattle.usb_set.specs.declared.tree.Configuration.{Configuration}
-use Rattle.usb_set.specs.inside.Reading.{configuration_of, with_last}
 use Rattle.usb_set.proofs.Growth.{flat_map-snoc}
 use Rattle.usb_set.proofs.Items.{with_last-snoc}
 use Rattle.usb_file_data.specs.declared.file.DescriptorFile.{DescriptorFile}
@@ -15,19 +12,15 @@ use Rattle.usb_file_data.specs.declared.file.Other.{Other}
 use Rattle.usb_file_data.specs.declared.file.Strings.{Strings}
 use Rattle.usb_file_data.specs.File.{other_bytes, other_sets, sets_bytes, whole_set}
 use Rattle.usb_file_data.proofs.Lists.{length-push}
+use Rattle.usb_listing.specs.declared.byte_assembly.Part.TheVariants as parts
 use Rattle.usb_listing.specs.declared.draft.Draft.{Draft}
-use Rattle.usb_listing.specs.declared.word.Word.{Word}
-use Rattle.usb_listing.specs.declared.word.Word.TheVariants as words
 use Rattle.usb_listing.specs.Listings.{IsBegun}
-use Rattle.usb_listing.specs.Says.{IsItem, Item, fields, item_word, languages, string}
 use Rattle.usb_listing.specs.inside.Drafts.{Holds, strings_total}
-use Rattle.usb_listing.specs.inside.Growing.{file_and, has_interface, joined_to, last_of, length_of, may_follow, may_stand, open_sets, qualifier_of, set_and, with_string}
-use Rattle.usb_listing.specs.inside.Thinning.{Writes, WritesDraft, WritesHead, WritesIf, WritesSet, file_part, head_bytes, last_bytes, open_count, part_of, whole_or, with_open}
-use Rattle.usb_listing.proofs.PartLemmas.{last_push, made}
-use Rattle.usb_listing.proofs.SetLemmas.{IsInner}
-use Rattle.usb_listing.proofs.MoreLemmas.{joins_word}
-use Rattle.usb_listing.proofs.LetGoLemmas.{LetGo, let_go, strings_open}
-use Rattle.usb_listing.proofs.LikeLemmas.{Like, LikeOther, has, last_open, like_more, like_trans, may_same}
+use Rattle.usb_listing.specs.inside.Growing.{joined_to, last_of, length_of, open_sets, set_and}
+use Rattle.usb_listing.specs.inside.Thinning.{Writes, WritesDraft, WritesIf, file_part, head_bytes, last_bytes, whole_or, with_open}
+use Rattle.usb_listing.proofs.PartLemmas.{made}
+use Rattle.usb_listing.proofs.LetGoLemmas.{let_go, strings_open}
+use Rattle.usb_listing.proofs.LikeLemmas.{Like, LikeOther, last_open, like_more, like_trans}
 
 -- ---- the bytes of the parts that are whole
 
@@ -226,11 +219,6 @@ like_qualifier d e ss es None None s t q none l = record { device = l.device; st
 like_qualifier d e ss es (Some o) p s t q none l = cc
 like_qualifier d e ss es None (Some p) s t q none l = absurd l.other
 
-none_same : (o p : Option Other) → is_none o ≡ true → is_none p ≡ true → (file_part p ≡ 1) × (file_part o ≡ 1)
-none_same None None a b = (refl, refl)
-none_same (Some o) p a b = cc
-none_same None (Some p) a b = cc
-
 pub other_none : (o : Option Other) → is_none o ≡ true → o ≡ None
 other_none None e = refl
 other_none (Some o) e = cc
@@ -256,14 +244,14 @@ qualifier_begun f h out o q m new is none holds file w = cases written.2
     f_none : f.other ≡ None
     f_none = other_none f.other none
 
-    part : file_part m.file.other ≡ 2
+    part : file_part m.file.other ≡ parts.OtherSpeed
     part = ap (λ (x : DescriptorFile). file_part x.other) file
 
-    was : file_part h.other ≡ 1
+    was : file_part h.other ≡ parts.Device
     was = ap file_part h_none
 
     written : WritesDraft (Some m) new out is
-    written = w.begun (inl (λ e. absurd (omega (arith, part, was, e))))
+    written = w.begun (inl (λ e. absurd (let no = sym part ∙ e ∙ was in cc)))
 
     cases : Writes m.file written.0 out is → After (with_qualifier q f) new is
     cases (inr ws) =

@@ -1,5 +1,5 @@
 -- A line that is taken into what is kept of a file is one of the file.
-use Rattle.std.proofs.Common.{◌≡◌, ◌≢◌, ◌⊎◌, inl, inr, ℕ, zero, suc, ◌+◌, ◌*◌, ◌<◌, ◌≤◌, ◌==◌, ◌||◌, ◌&&◌, not, ltb, Bool, true, false, cond, List, [], ◌∷◌, ◌++◌, map, Option, Some, None, is_none, is_some, Result, Ok, Err, length, refl, ap, sym, subst, ◌∙◌, append-nil, append_assoc, arith}
+use Rattle.std.proofs.Common.{◌≡◌, inl, inr, ℕ, ◌==◌, not, Bool, true, false, cond, List, [], ◌∷◌, ◌++◌, Option, Some, None, Result, Ok, Err, length, refl, ap, sym, subst, ◌∙◌, append-nil, arith}
 use Rattle.std.proofs.lemmas.Bool.{and_parts}
 use Rattle.usb_fields.specs.declared.device.DeviceDescriptor.{DeviceDescriptor}
 use Rattle.usb_fields.specs.Device.{device_bytes}
@@ -8,21 +8,21 @@ use Rattle.usb_set.specs.inside.Reading.{configuration_of}
 use Rattle.usb_file_data.specs.declared.file.DescriptorFile.{DescriptorFile}
 use Rattle.usb_file_data.specs.declared.file.Other.{Other}
 use Rattle.usb_file_data.specs.declared.file.Strings.{Strings}
+use Rattle.usb_listing.specs.declared.byte_assembly.Part.TheVariants as parts
 use Rattle.usb_listing.specs.declared.draft.Draft.{Draft}
 use Rattle.usb_listing.specs.declared.assembly.Form.{Form}
 use Rattle.usb_listing.specs.declared.fault.ListWhy.{ListWhy}
 use Rattle.usb_listing.specs.declared.fault.ListWhy.TheVariants as whys
 use Rattle.usb_listing.specs.declared.word.Word.{Word}
 use Rattle.usb_listing.specs.declared.word.Word.TheVariants as words
-use Rattle.usb_listing.specs.Listings.{IsBegun}
 use Rattle.usb_listing.specs.Words.{first_word}
 use Rattle.usb_listing.specs.Order.{has_over}
-use Rattle.usb_listing.specs.Says.{IsItem, Item, Says, fields, item_word, languages, string}
+use Rattle.usb_listing.specs.Says.{IsItem, Item, fields, item_word, languages, string}
 use Rattle.usb_listing.specs.inside.Drafts.{AreHeld, Drafted, Holds, Takes, TakesLine, so_far, strings_total}
 use Rattle.usb_listing.specs.inside.Growing.{device_of, file_and, has_interface, joined_to, last_of, length_of, may_follow, may_follow_sets, may_stand, open_sets, qualifier_of, set_and, with_string}
 use Rattle.usb_listing.specs.inside.Rows.{item_of_line, word_in}
 use Rattle.usb_listing.specs.inside.Thinning.{Writes, WritesDraft, WritesIf, file_part, head_bytes, open_count, part_of, with_open}
-use Rattle.usb_listing.specs.inside.Walking.{add, add_item, add_line, add_word, file_of, grown, line_read}
+use Rattle.usb_listing.specs.inside.Walking.{add_item, add_line, add_word, file_of, grown, line_read}
 use Rattle.usb_listing.proofs.PartLemmas.{made}
 use Rattle.usb_listing.proofs.SetLemmas.{IsInner}
 use Rattle.usb_listing.proofs.MoreLemmas.{joins_word}
@@ -158,14 +158,14 @@ item_after f h out o (string us) m new is item may holds file w =
 
 -- ---- the device
 
-device_after : (m : Draft) (new : Option Draft) (is b : List ℕ) → Holds m → m.file ≡ file_of b → WritesIf 0 0 (Some m) new [] is → After m.file new is
+device_after : (m : Draft) (new : Option Draft) (is b : List ℕ) → Holds m → m.file ≡ file_of b → WritesIf parts.Nothing 0 (Some m) new [] is → After m.file new is
 device_after m new is b holds file w = cases written.2
   where
-    part : file_part m.file.other ≡ 1
+    part : file_part m.file.other ≡ parts.Device
     part = ap (λ (x : DescriptorFile). file_part x.other) file
 
     written : WritesDraft (Some m) new [] is
-    written = w.begun (inl (λ e. absurd (omega (arith, part, e))))
+    written = w.begun (inl (λ e. absurd (let no = sym part ∙ e in cc)))
 
     cases : Writes m.file written.0 [] is → After m.file new is
     cases (inr ws) =
@@ -266,7 +266,7 @@ file_taken whole kept m line new out is o hw hk hm made w =
       held = both.1;
     }
 
-first_taken : (m : Draft) (line : List ℕ) (new : Option Draft) (is : List ℕ) → Holds m → add_line None line ≡ Ok m.file → WritesIf 0 0 (Some m) new [] is → LineTaken None line new is
+first_taken : (m : Draft) (line : List ℕ) (new : Option Draft) (is : List ℕ) → Holds m → add_line None line ≡ Ok m.file → WritesIf parts.Nothing 0 (Some m) new [] is → LineTaken None line new is
 first_taken m line new is hm made w = cases x.item x.may x.is
   where
     x : MadeOf None line m.file
@@ -288,7 +288,7 @@ first_taken m line new is hm made w = cases x.item x.may x.is
 pub line_taken : (whole kept middle new : Option Draft) (line out is : List ℕ) → OntoDraft whole kept out → AreHeld whole → AreHeld kept → Drafted (add_line (so_far kept) line) middle
     → WritesIf (part_of kept) (open_count kept) middle new out is → LineTaken whole line new is
 line_taken None None (Some m) new line out is o hw hk d w =
-    first_taken m line new is d.holds (d.made ∙ ap (λ (x : Option DescriptorFile). ok_of m.file x) (sym d.is)) (subst (λ (xs : List ℕ). WritesIf 0 0 (Some m) new xs is) o w)
+    first_taken m line new is d.holds (d.made ∙ ap (λ (x : Option DescriptorFile). ok_of m.file x) (sym d.is)) (subst (λ (xs : List ℕ). WritesIf parts.Nothing 0 (Some m) new xs is) o w)
   where
     ok_of : DescriptorFile → Option DescriptorFile → Result DescriptorFile ListWhy
     ok_of g None = Ok g

@@ -19,15 +19,26 @@ use usb_fields::{UnitFault, write_units_onto};
 use usb_file_data::{DescriptorFile, Strings};
 use usb_set::{Configuration, Sequence, encode_onto};
 
-/// Which part the last line is of: 0 before the first line, 1 up to the sets of the device, 2 from a qualifier on.
-fn part_of(draft: &Option<Draft>) -> u8
+/// A part of a file.
+#[derive(Clone, Copy, Debug, PartialEq, Eq)]
+enum Part {
+    /// None yet.
+    Nothing,
+    /// The device, and its sets.
+    Device,
+    /// The qualifier, and the sets of the other speed.
+    OtherSpeed,
+}
+
+/// The part that the last line is of, strings apart.
+fn part_of(draft: &Option<Draft>) -> Part
     ensures { result ≡ part_of draft.now }
 {
     match draft {
-        None => 0,
+        None => Part::Nothing,
         Some(draft) => match draft.file.other {
-            None => 1,
-            Some(_) => 2,
+            None => Part::Device,
+            Some(_) => Part::OtherSpeed,
         },
     }
 }
@@ -103,7 +114,7 @@ fn write_before(alloc: Global, f: &mut DescriptorFile, out: &mut Vec<u8>) -> Res
 fn write_if_begun(
     alloc: Global,
     draft: &mut Option<Draft>,
-    part: u8,
+    part: Part,
     sets: usize,
     out: &mut Vec<u8>,
 ) -> Result<(), AllocError>

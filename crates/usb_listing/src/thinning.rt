@@ -48,11 +48,11 @@ fn is_among(index: u8, others: &[u8]) -> bool
 /// Adds a setting that names the string, unless something else names it.
 fn push_naming(
     alloc: Global,
-    settings: &mut Sequence<Setting>,
+    settings: &mut Vec<Setting>,
     index: u8,
     is_named: bool,
 ) -> Result<(), AllocError>
-    ensures { OnOk result (settings.new ≡ settings.old ++ (if not is_named then naming index ∷ [] else [])) }
+    ensures { OnOk result (settings.new.items ≡ settings.old.items ++ (if not is_named then naming index ∷ [] else [])) }
 {
     if !is_named {
         settings.push(naming(alloc, index))?;
@@ -65,12 +65,12 @@ fn push_naming(
 fn naming_others(alloc: Global, all: &[u8], others: &[u8]) -> Result<Sequence<Setting>, AllocError>
     ensures { IfOk result (λ settings. settings ≡ map naming (without all.now others.now)) }
 {
-    let mut settings = Sequence::new(alloc);
+    let mut settings = Vec::new(alloc);
     for index in all {
         let is_named = is_among(*index, others);
         push_naming(alloc, &mut settings, *index, is_named)?;
     }
-    Ok(settings)
+    Ok(Sequence::from_vec(settings))
 }
 
 /// Lets go of the last set. Its first descriptor is kept, and a setting for each string that is named nowhere else.

@@ -1,5 +1,5 @@
 -- A set that was written, and what a draft keeps of it.
-use Rattle.std.specs.Prelude.{◌≡◌, ◌≢◌, ◌⊎◌, true, ℕ, ◌+◌, ◌==◌, List, [], ◌∷◌, ◌++◌, filter, length, map, not, Option, Some, None}
+use Rattle.std.specs.Prelude.{◌≡◌, ◌≢◌, ◌⊎◌, true, ℕ, ◌==◌, List, [], ◌∷◌, ◌++◌, filter, length, map, not, Option, Some, None}
 use Rattle.std.specs.List.{list_any}
 use Rattle.usb_fields.specs.Device.{device_bytes, qualifier_bytes}
 use Rattle.usb_set.specs.declared.tree.Configuration.{Configuration}
@@ -7,6 +7,8 @@ use Rattle.usb_set.specs.declared.tree.Setting.{Setting}
 use Rattle.usb_file_data.specs.declared.file.DescriptorFile.{DescriptorFile}
 use Rattle.usb_file_data.specs.declared.file.Other.{Other}
 use Rattle.usb_file_data.specs.File.{named_indices, strings_bytes, whole_set}
+use Rattle.usb_listing.specs.declared.byte_assembly.Part.{Part}
+use Rattle.usb_listing.specs.declared.byte_assembly.Part.TheVariants as parts
 use Rattle.usb_listing.specs.declared.draft.Draft.{Draft}
 use Rattle.usb_listing.specs.declared.assembly.Form.{Form}
 use Rattle.usb_listing.specs.Listings.{is_whole}
@@ -72,13 +74,13 @@ pub record WritesSet (old new : DescriptorFile) (was is : List ℕ) : Type 0 whe
 abbrev pub Writes : DescriptorFile → DescriptorFile → List ℕ → List ℕ → Type 0
 Writes old new was is = WritesHead old new was is ⊎ WritesSet old new was is
 
--- which part the last line is of: none before the first line, then that of the device, and that of the other speed
-abbrev pub file_part : Option Other → ℕ
-file_part None = 1
-file_part (Some o) = 2
+-- the part that the last line is of, strings apart
+abbrev pub file_part : Option Other → Part
+file_part None = parts.Device
+file_part (Some o) = parts.OtherSpeed
 
-abbrev pub part_of : Option Draft → ℕ
-part_of None = 0
+abbrev pub part_of : Option Draft → Part
+part_of None = parts.Nothing
 part_of (Some d) = file_part d.file.other
 
 -- how many sets that part has
@@ -92,7 +94,7 @@ WritesDraft None new was is = (new ≡ None) × (is ≡ was)
 WritesDraft (Some d) new was is = (f : DescriptorFile) × (new ≡ Some (record d { file = f })) × Writes d.file f was is
 
 -- it is written only where the line began a part: before it, this was the part, with so many sets
-pub record WritesIf (part sets : ℕ) (old new : Option Draft) (was is : List ℕ) : Type 0 where
+pub record WritesIf (part : Part) (sets : ℕ) (old new : Option Draft) (was is : List ℕ) : Type 0 where
   pub same : part_of old ≡ part → open_count old ≡ sets → (new ≡ old) × (is ≡ was)
   pub begun : (part_of old ≢ part) ⊎ (open_count old ≢ sets) → WritesDraft old new was is
 

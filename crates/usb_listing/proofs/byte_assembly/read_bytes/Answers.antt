@@ -1,4 +1,4 @@
-use Rattle.std.proofs.Common.{◌≡◌, ℕ, [], List, length, rules, subst, arith}
+use Rattle.std.proofs.Common.{◌≡◌, ℕ, List, length, rules, subst}
 use Rattle.std.proofs.lemmas.List.{nil_from_length}
 use Rattle.usb_listing.proofs.BytesLemmas.{ReadOnto, passed_why, read_end, read_next, refused_missing, refused_on}
 use Rattle.usb_listing.proofs.byte_assembly.read_bytes.Goals as goal
