@@ -379,8 +379,9 @@ def functional_remarks(d, depth, numbers, later):
     if len(d) < least:
         yield f"this functional descriptor has at least {least} bytes, and bLength is {len(d)}"
         return
-    if kind == 6 and later is not None:
-        yield from [f"it names interface {n}, which the set hasn't" for n in d[3:] if n not in numbers][:1]
+    if kind in (1, 6) and later is not None:
+        named = d[3:] if kind == 6 else d[4:5]
+        yield from [f"it names interface {n}, which the set hasn't" for n in named if n not in numbers][:1]
     if kind == 0:
         yield from release_remarks(d[3:5])
 
@@ -667,12 +668,25 @@ class Explanation:
         self.findings(0, [(11, causes(self.packet_fault(d[7], usb >= 0x0300), self.subclass_fault(codes)))], "device")
         speed = SUPER if self.is_super() else AT.get(self.asked)
         self.remarks(0, device_remarks(usb, d[4], d[7], d[17] or not self.fault, speed))
+        self.remarks(0, self.lack_remarks(codes, d[17], at + 18))
         fields = [("bcdUSB", f"{word(usb)} ({bcd(usb)})"), *class_fields("bDevice", codes)]
         fields.append(("bMaxPacketSize0", self.device_packet(d[7])))
         fields += [("idVendor", word(little(d[8:10]))), ("idProduct", word(little(d[10:12])))]
         fields.append(("bcdDevice", f"{word(little(d[12:14]))} ({bcd(little(d[12:14]))})"))
         fields += [(name, self.index(d[i])) for name, i in (("iManufacturer", 14), ("iProduct", 15), ("iSerialNumber", 16))]
         self.fields(0, [*fields, ("bNumConfigurations", d[17])])
+
+    def lack_remarks(self, codes, sets, at):
+        """Of a device or a qualifier whose sets begin here, if it has some and they are all there."""
+        has = False
+        for _ in range(sets):
+            end = at + little(self.data[at + 2 : at + 4])
+            if end < at + 9 or end > self.limit:
+                return
+            has = has or any(d[1] == 11 and len(d) >= 8 for _, d in cut(self.data, at, end))
+            at = end
+        if tuple(codes) == (0xEF, 2, 1) and sets and not has:
+            yield "class 0xef, subclass 0x02, protocol 0x01 is that of a device with associations"
 
     def of_qualifier(self, d, at):
         self.qualifier = d
@@ -683,6 +697,7 @@ class Explanation:
         wrong = causes(self.packet_fault(d[7], False), self.subclass_fault(codes), (d[9] != 0, "bReserved isn't 0"))
         self.findings(0, [(11, wrong)], "other")
         self.remarks(0, device_remarks(usb, d[4], None, d[8] or not self.fault, None))
+        self.remarks(0, self.lack_remarks(codes, d[8], at + 10))
         fields = [("bcdUSB", f"{word(usb)} ({bcd(usb)})"), *class_fields("bDevice", codes)]
         self.fields(0, [*fields, ("bMaxPacketSize0", d[7]), ("bNumConfigurations", d[8]), ("bReserved", byte(d[9]))])
 

@@ -327,6 +327,7 @@ impl<'a> Explainer<'a> {
         }
         self.release_remark(usb);
         self.device_class_remark(codes[0]);
+        self.lack_remark(codes, item[17], 18);
         self.release_field(0, "bcdUSB", usb);
         self.class_fields(0, ["bDeviceClass", "bDeviceSubClass", "bDeviceProtocol"], codes, None);
         let text = self.field(0, "bMaxPacketSize0");
@@ -360,6 +361,17 @@ impl<'a> Explainer<'a> {
         }
     }
 
+    /// Of a device or a qualifier whose sets start here.
+    fn lack_remark(&mut self, codes: &[u8], sets: u8, start: usize) {
+        if codes != [0xef, 2, 1] || sets == 0 {
+            return;
+        }
+        let end = (0..sets).fold(start, |at, _| at + usize::from(word(self.bytes, at + 2)));
+        if !cut(&self.bytes[start..end]).any(|(_, it)| it[1] == ASSOCIATION) {
+            self.remark(0).put("class 0xef, subclass 0x02, protocol 0x01 is that of a device with associations\n");
+        }
+    }
+
     fn of_qualifier(&mut self, item: &'a [u8], at: usize) {
         self.qualifier = Some(item);
         let (usb, codes) = (word(item, 2), &item[4..7]);
@@ -381,6 +393,7 @@ impl<'a> Explainer<'a> {
             self.remark(0).put("bcdUSB of a qualifier is 2.00 at least\n");
         }
         self.device_class_remark(codes[0]);
+        self.lack_remark(codes, item[8], at + 10);
         self.release_field(0, "bcdUSB", usb);
         self.class_fields(0, ["bDeviceClass", "bDeviceSubClass", "bDeviceProtocol"], codes, None);
         self.number_field(0, "bMaxPacketSize0", item[7]);
@@ -821,8 +834,8 @@ impl<'a> Explainer<'a> {
                     text.put(" bytes, and bLength is ");
                     text.number(item.len());
                     text.end();
-                } else if item.get(2) == Some(&6) {
-                    self.union_remark(depth, &item[3..], place);
+                } else if let Some(kind @ (1 | 6)) = item.get(2) {
+                    self.named_remark(depth, if *kind == 6 { &item[3..] } else { &item[4..5] }, place);
                 }
                 if item.len() >= 5 && item[2] == 0 {
                     self.class_release_remark(depth, item.get(3..5));
@@ -838,7 +851,7 @@ impl<'a> Explainer<'a> {
         }
     }
 
-    fn union_remark(&mut self, depth: usize, named: &[u8], place: Place) {
+    fn named_remark(&mut self, depth: usize, named: &[u8], place: Place) {
         if let Some(number) = named.iter().find(|it| !place.has(**it)) {
             let text = self.remark(depth);
             text.put("it names interface ");

@@ -21,3 +21,4 @@ pub mod FieldsCover
 pub mod TableWords
 pub mod RemarksShown
 pub mod SettingSteps
+pub mod Lacking

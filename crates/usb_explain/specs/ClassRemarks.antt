@@ -48,10 +48,11 @@ late_remark interface owner d =
 
 -- ---- functional descriptors
 
--- a union that names an interface that its set, which is all there, doesn't have (5.2.3.2)
-abbrev pub union_remark : Option ℕ → Option (List ℕ) → Option Remark
-union_remark (Some interface) (Some rest) = Some (remarks.MissingInterface interface)
-union_remark missing rest = None
+-- an interface that call management or a union names and that its set, which is all there, doesn't have (PSTN 1.2, 5.3.1; CDC 1.2,
+-- 5.2.3.2)
+abbrev pub missing_remark : Option ℕ → Option (List ℕ) → Option Remark
+missing_remark (Some interface) (Some rest) = Some (remarks.MissingInterface interface)
+missing_remark missing rest = None
 
 -- the least length of one by its subtype: header, call management, abstract control management and union
 abbrev pub least_length : ℕ → Option ℕ
@@ -66,11 +67,11 @@ least_length subtype =
 abbrev pub below_least : List ℕ → ℕ → Option Remark
 below_least d least = remark_if (nat_lt (length d) least) (remarks.ShortFunctional least (length d))
 
--- a functional descriptor that is too short for its fields, or a union that names an interface that isn't there
+-- a functional descriptor that is too short for its fields, or that names an interface that isn't there
 abbrev pub functional_remark : Option ClassCodes → List ℕ → Option ℕ → Option (List ℕ) → Option Remark
 functional_remark interface d missing rest =
     if is_functional interface d && nat_le 3 (length d)
-    then option_or (option_and_then (below_least d) (least_length (slice_index d 2))) (union_remark missing rest)
+    then option_or (option_and_then (below_least d) (least_length (slice_index d 2))) (missing_remark missing rest)
     else None
 
 -- ---- releases

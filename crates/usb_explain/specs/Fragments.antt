@@ -93,6 +93,7 @@ described_alone speed p d = record {
   device = None;
   string = 0;
   rest = None;
+  lacks_associations = false;
 }
 
 -- descriptors from a position on

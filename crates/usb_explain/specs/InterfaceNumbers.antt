@@ -1,5 +1,5 @@
--- The numbers of the interfaces of a set, and which of them a descriptor names: an association (its ECN, 9.X.Y), or a union
--- functional descriptor of a communications interface (CDC 1.2, 5.2.3.2).
+-- The numbers of the interfaces of a set, and which of them a descriptor names: an association (its ECN, 9.X.Y), or a functional
+-- descriptor of a communications interface, of call management (PSTN 1.2, 5.3.1) or a union (CDC 1.2, 5.2.3.2).
 use Rattle.std.specs.Prelude.{ℕ, List, [], ◌∷◌, map, take, drop, length, slice_index, slice_index_or, Bool, false, nat_le, ◌==◌, ◌&&◌, Option, Some, None, if◌then◌else◌}
 use Rattle.std.specs.List.{range_with_len}
 use Rattle.usb_names.specs.declared.codes.ClassCodes.{ClassCodes}
@@ -23,15 +23,19 @@ is_of_class class type (Some codes) d = (codes.class == class) && (slice_index d
 abbrev pub is_functional : Option ClassCodes → List ℕ → Bool
 is_functional interface d = is_of_class 0x02 0x24 interface d
 
--- a union, which names a controlling interface and those below it from the fourth byte on
-abbrev pub is_union : Option ClassCodes → List ℕ → Bool
-is_union interface d = is_functional interface d && (nat_le 5 (length d) && (slice_index d 2 == 6))
+-- the interfaces that a functional descriptor names: call management its data interface, the fifth byte, and a union a controlling
+-- interface and those below it, from the fourth byte on
+abbrev pub function_interfaces : List ℕ → List ℕ
+function_interfaces d =
+    if slice_index d 2 == 1 then take 1 (drop 4 d)
+    else if slice_index d 2 == 6 then drop 3 d
+    else []
 
--- the interfaces that a descriptor names: all of a union, and the first one of an association
+-- those that a descriptor names: a functional one of five bytes at least, and an association its first one
 abbrev pub named_interfaces : Option ClassCodes → List ℕ → List ℕ
 named_interfaces interface d =
     if is_association d then take 1 (drop 2 d)
-    else if is_union interface d then drop 3 d
+    else if is_functional interface d && nat_le 5 (length d) then function_interfaces d
     else []
 
 -- the first of these numbers that no interface has

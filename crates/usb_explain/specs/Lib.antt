@@ -6,6 +6,7 @@ pub mod SetStart
 pub mod Owners
 pub mod Contexts
 pub mod Findings
+pub mod Associations
 pub mod Outline
 pub mod Numbered
 pub mod Explanations

@@ -9,6 +9,7 @@ use Rattle.usb_explain.specs.declared.standing.Standing.{Standing}
 use Rattle.usb_explain.specs.declared.place.Place.{Place}
 use Rattle.usb_explain.specs.declared.role.Role.{Role}
 use Rattle.usb_explain.specs.declared.speed.SetSpeed.{SetSpeed}
+use Rattle.usb_explain.specs.Associations.{lacks_associations}
 use Rattle.usb_explain.specs.Bindings.{bound_at}
 use Rattle.usb_explain.specs.Contexts.{codes_of, depth_of, interface_number, rest_of_set, speed_of}
 use Rattle.usb_explain.specs.Findings.{found_at}
@@ -22,8 +23,8 @@ use Rattle.usb_explain.specs.Standings.{passed, start}
 
 -- A descriptor of an input: its place in bytes and among sets, settings and endpoints, its bytes, what it is, how deep and whose, its speed, and what is found there. Then
 -- how many associations of its set come before it; the first one of its set that binds an interface of its number; the first
--- interface that it names and its set lacks; whether an interface of its number follows in its set; what the interface is that it follows; what the device is, or the qualifier for the sets after it; how many strings come before it; and
--- the bytes of its set after it, where they are all there.
+-- interface that it names and its set lacks; whether an interface of its number follows in its set; what the interface is that it follows; what the device is, or the qualifier for the sets after it; how many strings come before it; the bytes of its set after it, where they are all there; and, of a device or a qualifier, whether
+-- it says that it has associations and has none.
 pub record Described : Type 0 where
   pub at : ℕ
   pub place : Place
@@ -41,6 +42,7 @@ pub record Described : Type 0 where
   pub device : Option ClassCodes
   pub string : ℕ
   pub rest : Option (List ℕ)
+  pub lacks_associations : Bool
 
 -- that which a descriptor of the code says
 abbrev pub described : Descriptor → Described
@@ -61,6 +63,7 @@ described d = record {
   device = d.device;
   string = d.string;
   rest = option_copied d.rest;
+  lacks_associations = d.lacks_associations;
 }
 
 -- a descriptor where it stands: what came before it, what it is there, its bytes, those after it, and what is found from it on
@@ -94,6 +97,7 @@ describe running e = record {
   device = e.standing.codes;
   string = e.standing.position.strings;
   rest = rest_of_set e.standing.position e.bytes e.after;
+  lacks_associations = lacks_associations e.role e.bytes e.after;
 }
 
 -- the state at the descriptor with which these bytes begin: in its set, where it begins one

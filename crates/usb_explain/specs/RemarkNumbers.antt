@@ -40,3 +40,4 @@ remark_number remarks.OldQualifier = 32
 remark_number remarks.NoLanguage = 33
 remark_number remarks.EndedString = 34
 remark_number remarks.ClassRelease = 35
+remark_number remarks.NoAssociation = 36

@@ -169,10 +169,12 @@ remarks_on roles.Device d =
     ++ there (device_class_remark (slice_index d.bytes 4))
     ++ there (packet_remark d.speed (slice_index d.bytes 7))
     ++ there (count_remark (slice_index d.bytes 17) d.findings)
+    ++ there (remark_if d.lacks_associations remarks.NoAssociation)
 remarks_on roles.Qualifier d =
     there (qualifier_release_remark (little_endian_at d.bytes 2))
     ++ there (device_class_remark (slice_index d.bytes 4))
     ++ there (count_remark (slice_index d.bytes 8) d.findings)
+    ++ there (remark_if d.lacks_associations remarks.NoAssociation)
 remarks_on roles.Configuration d = there (power_remark d.speed (slice_index d.bytes 8))
 remarks_on roles.Association d =
     there (association_class_remark (slice_index d.bytes 4))

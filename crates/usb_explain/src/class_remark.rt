@@ -1,7 +1,7 @@
 //! What is remarked of a descriptor of a class by its own bytes.
 ghost use Rattle.std.specs.Prelude.{◌≡◌, option_and_then, slice_index};
 ghost use Rattle.std.specs.Option.{option_copied};
-ghost use Rattle.usb_explain.specs.ClassRemarks.{below_least, class_release, class_release_remark, functional_remark, hid_length, hid_length_remark, hid_report_remark, is_hid, is_of_endpoint, late_remark, least_length, report_remark, union_remark};
+ghost use Rattle.usb_explain.specs.ClassRemarks.{below_least, class_release, class_release_remark, functional_remark, hid_length, hid_length_remark, hid_report_remark, is_hid, is_of_endpoint, late_remark, least_length, missing_remark, report_remark};
 
 use crate::interface_numbers::{is_functional, is_of_class};
 use crate::owner::DescriptorOwner;
@@ -103,9 +103,10 @@ fn short_remark(d: &[u8]) -> Option<Remark>
     remark_if(found < least, Remark::ShortFunctional { least, found })
 }
 
-/// A remark on a union that names an interface which its set, all of it there, lacks (CDC 1.2, 5.2.3.2).
-fn union_remark(missing: Option<u8>, rest: Option<&[u8]>) -> Option<Remark>
-    ensures { result ≡ union_remark missing (option_copied rest.entry) }
+/// A remark on an interface that a functional descriptor names and its set, all of it there, lacks (PSTN 1.2, 5.3.1; CDC 1.2,
+/// 5.2.3.2).
+fn missing_remark(missing: Option<u8>, rest: Option<&[u8]>) -> Option<Remark>
+    ensures { result ≡ missing_remark missing (option_copied rest.entry) }
 {
     match (missing, rest) {
         (Some(interface), Some(_)) => Some(Remark::MissingInterface { interface }),
@@ -123,7 +124,7 @@ pub(crate) fn functional_remark(
     ensures { result ≡ functional_remark interface d.now missing (option_copied rest.entry) }
 {
     if is_functional(interface, d) && d.len() >= 3 {
-        short_remark(d).or(union_remark(missing, rest))
+        short_remark(d).or(missing_remark(missing, rest))
     } else {
         None
     }

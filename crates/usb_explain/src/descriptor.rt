@@ -29,7 +29,8 @@ pub struct Descriptor<'b> {
     pub associations: usize,
     /// The number of the first association of its set that binds an interface of its number.
     pub association: Option<u64>,
-    /// The first interface that it names and its set lacks: it is a union functional descriptor, or an association.
+    /// The first interface that it names and its set lacks: it is a call management or union functional descriptor, or an
+    /// association.
     pub missing: Option<u8>,
     /// Whether an interface of its number follows in its set, where all of that is there: of the number that it has if it is an
     /// interface, that it names first if it is an association, and else of that of the interface that it follows.
@@ -42,4 +43,7 @@ pub struct Descriptor<'b> {
     pub string: usize,
     /// The bytes of its set after it, where they are all there.
     pub rest: Option<&'b [u8]>,
+    /// Whether it is a device or a qualifier that says by its class that it has associations, and its sets, which are all there,
+    /// have none.
+    pub lacks_associations: bool,
 }

@@ -104,7 +104,7 @@ pub(crate) fn power_remark(speed: SetSpeed, power: u8) -> Option<Remark>
     remark_if(needed > most, Remark::Current { needed, most })
 }
 
-fn tells_associations(codes: ClassCodes) -> bool
+pub(crate) fn tells_associations(codes: ClassCodes) -> bool
     ensures { result ≡ tells_associations codes }
 {
     codes.class == 0xef && codes.subclass == 2 && codes.protocol == 1

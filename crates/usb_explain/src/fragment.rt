@@ -163,6 +163,7 @@ impl FragmentPosition {
             device: None,
             string: 0,
             rest: None,
+            lacks_associations: false,
         }
     }
 

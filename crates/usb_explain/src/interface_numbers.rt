@@ -1,6 +1,6 @@
 //! The numbers of the interfaces of a set, and which of them a descriptor names.
 ghost use Rattle.std.specs.Prelude.{◌≡◌, ◌<◌, ◌||◌, ℕ, false, length, replicate};
-ghost use Rattle.usb_explain.specs.InterfaceNumbers.{first_missing, has_number, is_functional, is_of_class, is_union, missing_interface, named_interfaces};
+ghost use Rattle.usb_explain.specs.InterfaceNumbers.{first_missing, function_interfaces, has_number, is_functional, is_of_class, missing_interface, named_interfaces};
 ghost use Rattle.usb_explain.specs.SettingRemarks.{is_numbered};
 
 use crate::role::{is_association, is_interface};
@@ -96,21 +96,26 @@ pub(crate) fn is_functional(interface: Option<ClassCodes>, d: &[u8]) -> bool
     is_of_class(0x02, 0x24, interface, d)
 }
 
-/// Whether it is a union (CDC 1.2, 5.2.3.2).
-fn is_union(interface: Option<ClassCodes>, d: &[u8]) -> bool
-    ensures { result ≡ is_union interface d.now }
+/// The interfaces that a functional descriptor names: the data interface of call management (PSTN 1.2, 5.3.1), or all of a union
+/// (CDC 1.2, 5.2.3.2).
+fn function_interfaces(d: &[u8]) -> &[u8]
+    ensures { result.now ≡ function_interfaces d.now }
 {
-    is_functional(interface, d) && d.len() >= 5 && byte_at(d, 2) == 6
+    match byte_at(d, 2) {
+        1 => prefix(after(d, 4), 1),
+        6 => after(d, 3),
+        _ => &[],
+    }
 }
 
-/// The interfaces that a descriptor names: all of a union, and the first one of an association.
+/// The interfaces that a descriptor names: those of a functional one, and the first one of an association.
 fn named_interfaces(interface: Option<ClassCodes>, d: &[u8]) -> &[u8]
     ensures { result.now ≡ named_interfaces interface d.now }
 {
     if is_association(d) {
         prefix(after(d, 2), 1)
-    } else if is_union(interface, d) {
-        after(d, 3)
+    } else if is_functional(interface, d) && d.len() >= 5 {
+        function_interfaces(d)
     } else {
         &[]
     }

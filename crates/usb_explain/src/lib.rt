@@ -17,6 +17,7 @@
 //! explanation leaves out the lines of fields alone; and a remark at an open speed holds at both speeds.
 #![tactic(auto)]
 
+mod associations;
 mod bindings;
 mod bits;
 mod class_remark;

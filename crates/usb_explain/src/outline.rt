@@ -8,6 +8,7 @@ ghost use Rattle.usb_explain.specs.Positions.{position_at};
 ghost use Rattle.usb_explain.specs.inside.Coming.{Awaits};
 ghost use Rattle.usb_explain.specs.inside.Walking.{Counted};
 
+use crate::associations::lacks_associations;
 use crate::descriptor::Descriptor;
 use crate::later_interfaces::LaterInterfaces;
 use crate::role::Role;
@@ -156,6 +157,7 @@ impl Standing {
             device: self.codes,
             string: self.position.strings,
             rest,
+            lacks_associations: lacks_associations(role, bytes, behind),
         };
         (here, left)
     }

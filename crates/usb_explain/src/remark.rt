@@ -113,7 +113,7 @@ pub enum Remark {
     OneDirection,
     /// The class of an association is 00.
     ForbiddenClass,
-    /// A union functional descriptor names an interface that isn't there.
+    /// A call management or union functional descriptor names an interface that isn't there.
     MissingInterface {
         /// Its number.
         interface: u8,
@@ -143,6 +143,8 @@ pub enum Remark {
     EndedString,
     /// bcdHID or bcdCDC is below 1.0, or 10.0 or more.
     ClassRelease,
+    /// A device or a qualifier of class EF, subclass 02, protocol 01 has no association.
+    NoAssociation,
 }
 
 impl Remark {
@@ -190,6 +192,7 @@ impl Remark {
             Remark::NoLanguage => 33,
             Remark::EndedString => 34,
             Remark::ClassRelease => 35,
+            Remark::NoAssociation => 36,
         }
     }
 }

@@ -184,6 +184,9 @@ fn plain_words(remark: Remark) -> &'static str
         Remark::NoLanguage => "a language has bits 9 to 8 zero, and not all of bits 15 to 10",
         Remark::EndedString => "a string isn't ended by a unit 0",
         Remark::ClassRelease => "this is no release: its bytes may be swapped",
+        Remark::NoAssociation => {
+            "class 0xef, subclass 0x02, protocol 0x01 is that of a device with associations"
+        }
         _ => "",
     }
 }

@@ -16,7 +16,8 @@ use crate::device_remark::{
 use crate::header::header_remark;
 use crate::interval::interval_remark;
 use crate::remark::{
-    Remark, association_class_remark, attributes_remark, class_remark, multiple_remark, size_remark,
+    Remark, association_class_remark, attributes_remark, class_remark, multiple_remark, remark_if,
+    size_remark,
 };
 use crate::role::Role;
 use crate::setting_remark::{
@@ -41,16 +42,18 @@ impl Descriptor<'_> {
     {
         let b = self.bytes;
         match self.role {
-            Role::Device => four(
+            Role::Device => five(
                 release_remark(word_at(b, 2)),
                 device_class_remark(byte_at(b, 4)),
                 packet_remark(self.speed, byte_at(b, 7)),
                 count_remark(byte_at(b, 17), self.findings),
+                remark_if(self.lacks_associations, Remark::NoAssociation),
             ),
-            Role::Qualifier => three(
+            Role::Qualifier => four(
                 qualifier_release_remark(word_at(b, 2)),
                 device_class_remark(byte_at(b, 4)),
                 count_remark(byte_at(b, 8), self.findings),
+                remark_if(self.lacks_associations, Remark::NoAssociation),
             ),
             Role::Configuration => one(power_remark(self.speed, byte_at(b, 8))),
             Role::Association => three(
@@ -129,4 +132,17 @@ fn four(
     ensures { flat_map there result ≡ there one ++ (there other ++ (there third ++ there last)) }
 {
     [one, other, third, last, None, None]
+}
+
+/// Five remarks, if there are any.
+fn five(
+    one: Option<Remark>,
+    other: Option<Remark>,
+    third: Option<Remark>,
+    fourth: Option<Remark>,
+    last: Option<Remark>,
+) -> [Option<Remark>; 6]
+    ensures { flat_map there result ≡ there one ++ (there other ++ (there third ++ (there fourth ++ there last))) }
+{
+    [one, other, third, fourth, last, None]
 }

@@ -84,7 +84,7 @@ impl Standing {
 }
 
 /// Class, subclass and protocol of a device or of a qualifier.
-fn device_codes(d: &[u8]) -> ClassCodes
+pub(crate) fn device_codes(d: &[u8]) -> ClassCodes
     ensures { result ≡ device_codes d.now }
 {
     ClassCodes {
