@@ -4,7 +4,7 @@ ghost use Rattle.std.specs.Fmt.{decimal};
 ghost use Rattle.usb_text.specs.Lines.{column, filling};
 ghost use Rattle.hex.specs.Hex.{encode_lower};
 
-use crate::digits::{digits_of, write_digits};
+use crate::digits::{decimals_of, digits_of, write_digits};
 use itoa::Buffer;
 use std::alloc::{AllocError, Global};
 use std::marker::Model;
@@ -180,16 +180,32 @@ impl Text {
         ensures { OnOk result (self.new ≡ self.old ++ decimal number) }
     {
         if number < 100 {
-            return self.put_bytes(&[digit(number / 10), digit(number % 10)]);
+            return self.put_bytes(&decimals_of(number));
         }
         if number >= 1000 {
+            return self.put_longer_decimal(number);
+        }
+        let [tens, ones] = decimals_of(number % 100);
+        self.put_bytes(&[digit(number / 100), tens, ones])
+    }
+
+    /// The same of more than three digits: places of an input have four or five.
+    #[inline(always)]
+    #[tactic(auto, using(crate::proofs::Decimals::four_digits, crate::proofs::Decimals::five_digits))]
+    fn put_longer_decimal(&mut self, number: u64) -> Result<(), AllocError>
+        requires { 1000 ≤ number }
+        ensures { OnOk result (self.new ≡ self.old ++ decimal number) }
+    {
+        if number >= 100_000 {
             return self.put_great_decimal(number);
         }
-        let digits = [
-            digit(number / 100),
-            digit(number / 10 % 10),
-            digit(number % 10),
-        ];
+        let [tens, ones] = decimals_of(number % 100);
+        if number < 10_000 {
+            let [thousands, hundreds] = decimals_of(number / 100);
+            return self.put_bytes(&[thousands, hundreds, tens, ones]);
+        }
+        let [thousands, hundreds] = decimals_of(number / 100 % 100);
+        let digits = [digit(number / 10_000), thousands, hundreds, tens, ones];
         self.put_bytes(&digits)
     }
 
