@@ -231,7 +231,7 @@ impl Page for Lines {
         put!(self.text, self.text.put_decimal(number))
     }
 
-    #[inline]
+    #[inline(always)]
     fn put_count(&mut self, number: u64, noun: &str) -> Result<(), AllocError>
         requires { IsTrue (is_words noun.now) }
         ensures bytes { OnOk result (self.new ≡ with_bytes self.old (count number noun.now)) }
@@ -280,7 +280,7 @@ impl Page for Lines {
         put!(self.text, begin_word_meaning(&mut self.text, code))
     }
 
-    #[inline]
+    #[inline(always)]
     fn put_release(&mut self, number: u16) -> Result<(), AllocError>
         ensures bytes { OnOk result (self.new ≡ with_bytes self.old (release number)) }
         ensures seen { OnOk result (written self.new ≡ written self.old) }

@@ -47,7 +47,7 @@ pub(crate) fn byte_of(high: u8, low: u8) -> Option<u8>
 }
 
 /// Puts a number and what it counts: `1 byte`, `2 bytes`.
-#[inline(never)]
+#[inline(always)]
 #[tactic(auto, unfolding(crate::specs::Numbers::count))]
 pub fn put_count(text: &mut Text, number: u64, noun: &str) -> Result<(), AllocError>
     ensures { OnOk result (text.new ≡ text.old ++ count number noun.now) }
