@@ -172,41 +172,20 @@ impl Text {
         self.put_long_decimal(number)
     }
 
-    /// The same of a number of more than one digit, apart so that one digit costs no call.
+    /// The same of a number of more than one digit, apart so that one digit costs no call. Room is made first, so that a call
+    /// of what makes it has nothing to keep but the number.
     #[inline(never)]
-    #[tactic(auto, using(crate::proofs::Decimals::two_digits, crate::proofs::Decimals::three_digits))]
+    #[tactic(auto, using(crate::proofs::Columns::written_behind))]
     fn put_long_decimal(&mut self, number: u64) -> Result<(), AllocError>
         requires { 10 ≤ number }
-        ensures { OnOk result (self.new ≡ self.old ++ decimal number) }
-    {
-        if number < 100 {
-            return self.put_bytes(&decimals_of(number));
-        }
-        if number >= 1000 {
-            return self.put_longer_decimal(number);
-        }
-        let [tens, ones] = decimals_of(number % 100);
-        self.put_bytes(&[digit(number / 100), tens, ones])
-    }
-
-    /// The same of more than three digits: places of an input have four or five.
-    #[inline(always)]
-    #[tactic(auto, using(crate::proofs::Decimals::four_digits, crate::proofs::Decimals::five_digits))]
-    fn put_longer_decimal(&mut self, number: u64) -> Result<(), AllocError>
-        requires { 1000 ≤ number }
         ensures { OnOk result (self.new ≡ self.old ++ decimal number) }
     {
         if number >= 100_000 {
             return self.put_great_decimal(number);
         }
-        let [tens, ones] = decimals_of(number % 100);
-        if number < 10_000 {
-            let [thousands, hundreds] = decimals_of(number / 100);
-            return self.put_bytes(&[thousands, hundreds, tens, ones]);
-        }
-        let [thousands, hundreds] = decimals_of(number / 100 % 100);
-        let digits = [digit(number / 10_000), thousands, hundreds, tens, ones];
-        self.put_bytes(&digits)
+        make_room(&mut self.bytes, self.used, 5)?;
+        self.used += overwrite_by_decimal(&mut self.bytes, self.used, number);
+        Ok(())
     }
 
     #[inline(never)]
@@ -358,4 +337,35 @@ fn overwrite_by_digits(bytes: &mut Vec<u8>, start: usize, others: &[u8])
 {
     let end = start + 2 * others.len();
     write_digits(others, &mut bytes.as_mut_slice()[start..end]);
+}
+
+/// Writes a number of two to five digits over the bytes from `start` on. Answers how many digits it has.
+#[inline(always)]
+#[tactic(auto, using(crate::proofs::Decimals::a_pair, crate::proofs::Decimals::three_digits, crate::proofs::Decimals::four_digits, crate::proofs::Decimals::five_digits))]
+fn overwrite_by_decimal(bytes: &mut Vec<u8>, start: usize, number: u64) -> usize
+    requires least { 10 ≤ number }
+    requires most { number < 100000 }
+    requires room { start + 5 ≤ length bytes.old.items }
+    ensures items { bytes.new.items ≡ take start bytes.old.items ++ decimal number ++ drop (start + length (decimal number)) bytes.old.items }
+    ensures count { result ≡ length (decimal number) }
+    ensures most { result ≤ 5 }
+    ensures length { length bytes.new.items ≡ length bytes.old.items }
+{
+    let [tens, ones] = decimals_of(number % 100);
+    if number < 100 {
+        overwrite(bytes, start, &[tens, ones]);
+        return 2;
+    }
+    if number < 1000 {
+        overwrite(bytes, start, &[digit(number / 100), tens, ones]);
+        return 3;
+    }
+    let [thousands, hundreds] = decimals_of(number / 100 % 100);
+    if number < 10_000 {
+        overwrite(bytes, start, &[thousands, hundreds, tens, ones]);
+        return 4;
+    }
+    let first = digit(number / 10_000);
+    overwrite(bytes, start, &[first, thousands, hundreds, tens, ones]);
+    5
 }
