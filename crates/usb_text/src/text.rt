@@ -12,8 +12,10 @@ use std::marker::Model;
 /// As many spaces as the start of a line has.
 const SPACES: [u8; 48] = [b' '; 48];
 
-/// Room is made for so many bytes at least.
+/// Room is made for so many bytes at least, and for as many as there are up to the most.
 const ROOM: usize = 512;
+
+const MOST_ROOM: usize = 8 * 1024;
 
 /// A text that grows at its end. In a contract it is its bytes.
 ///
@@ -64,6 +66,13 @@ impl Text {
             bytes: Vec::with_capacity(alloc, room)?,
             used: 0,
         })
+    }
+
+    /// Makes room for so many bytes more, so that what is put next makes none.
+    pub(crate) fn reserve(&mut self, count: usize) -> Result<(), AllocError>
+        ensures { OnOk result (self.new ≡ self.old) }
+    {
+        make_room(&mut self.bytes, self.used, count)
     }
 
     /// Its bytes.
@@ -315,7 +324,8 @@ fn lengthen(bytes: &mut Vec<u8>, count: usize) -> Result<(), AllocError>
     ensures same { take (length bytes.old.items) bytes.new.items ≡ bytes.old.items }
     ensures within { length bytes.old.items ≤ length bytes.new.items }
 {
-    match bytes.len().checked_add(count.max(ROOM)) {
+    let room = bytes.len().max(ROOM).min(MOST_ROOM);
+    match bytes.len().checked_add(count.max(room)) {
         None => Err(AllocError),
         Some(length) => bytes.resize(length, b' '),
     }
