@@ -475,7 +475,6 @@ impl<'a> Explainer<'a> {
                     place.endpoint += 1;
                 }
                 ASSOCIATION => {
-                    owner = 1;
                     self.of_association(item, at + start, Place { setting: associations, endpoint: 0, ..place });
                     associations += 1;
                 }

@@ -16,6 +16,7 @@ use usb_fields::{after, byte_at};
 use usb_names::{ClassCodes, ClassDescriptor, class_descriptor};
 
 /// The row of the table that a descriptor of these bytes has, after an interface of these codes.
+#[inline(never)]
 pub(crate) fn class_row(interface: Option<ClassCodes>, b: &[u8]) -> Option<&'static ClassDescriptor>
     ensures row { option_map row_of (option_copied result) ≡ row_of_bytes interface b.now }
     ensures name { IfSome result (λ row. IsTrue (is_words row.now.name.now)) }
@@ -25,6 +26,7 @@ pub(crate) fn class_row(interface: Option<ClassCodes>, b: &[u8]) -> Option<&'sta
 }
 
 /// That of a descriptor of this role: only one that has no type of its own has one.
+#[inline(always)]
 pub(crate) fn row_in(
     role: Role,
     interface: Option<ClassCodes>,

@@ -1,5 +1,6 @@
 pub mod Columns
 pub mod DigitPairs
+pub mod DecimalPairs
 pub mod Decimals
 pub mod Printables
 pub mod LineWords

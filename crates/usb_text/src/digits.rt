@@ -1,5 +1,5 @@
-//! Bytes as two lower-case hexadecimal digits each.
-ghost use Rattle.std.specs.Prelude.{◌≡◌, ◌*◌, ◌/◌, ◌%◌, ◌<◌, ◌∷◌, [], length, slice_index};
+//! Bytes as two lower-case hexadecimal digits each, and numbers below 100 as two decimal ones.
+ghost use Rattle.std.specs.Prelude.{◌≡◌, ◌+◌, ◌*◌, ◌/◌, ◌%◌, ◌<◌, ◌∷◌, [], length, slice_index};
 ghost use Rattle.hex.specs.Hex.{encode_lower, lower_digits};
 
 /// The digits of all bytes, one byte after another.
@@ -64,4 +64,49 @@ pub(crate) fn write_digits(bytes: &[u8], digits: &mut [u8])
         digits[2 * i] = high;
         digits[2 * i + 1] = low;
     }
+}
+
+/// The decimal digits of all numbers below 100, one number after another.
+const DECIMALS: [u8; 200] = *b"0001020304050607080910111213141516171819\
+    2021222324252627282930313233343536373839\
+    4041424344454647484950515253545556575859\
+    6061626364656667686970717273747576777879\
+    8081828384858687888990919293949596979899";
+
+/// A decimal digit of a table, apart for the same reason.
+#[inline(always)]
+fn decimal_at(decimals: &[u8; 200], place: usize) -> u8
+    requires { place < 200 }
+    ensures { result ≡ slice_index decimals.now place }
+{
+    decimals[place]
+}
+
+/// The decimal digit of the tens.
+#[inline(always)]
+#[tactic(auto, using(crate::proofs::DecimalPairs::tens_are))]
+fn tens_digit(number: u64) -> u8
+    requires { number < 100 }
+    ensures { result ≡ 48 + number / 10 }
+{
+    decimal_at(&DECIMALS, 2 * number as usize)
+}
+
+/// The decimal digit of the ones.
+#[inline(always)]
+#[tactic(auto, using(crate::proofs::DecimalPairs::ones_are))]
+fn ones_digit(number: u64) -> u8
+    requires { number < 100 }
+    ensures { result ≡ 48 + number % 10 }
+{
+    decimal_at(&DECIMALS, 2 * number as usize + 1)
+}
+
+/// The two decimal digits of a number.
+#[inline(always)]
+pub(crate) fn decimals_of(number: u64) -> [u8; 2]
+    requires { number < 100 }
+    ensures { result ≡ (48 + number / 10) ∷ (48 + number % 10) ∷ [] }
+{
+    [tens_digit(number), ones_digit(number)]
 }

@@ -22,6 +22,9 @@ const FULL: usize = 32 * 1024;
 /// What `with_room` has room for: as many, and the lines of one descriptor more.
 const ROOM: usize = FULL + 16 * 1024;
 
+/// What `with_room` makes ready at once: as many as the explanation of a short input has.
+const SHORT: usize = 2 * 1024;
+
 /// Lines of printable ASCII and, with `utf8`, characters beyond it. A line feed ends a line, and nothing else does. In a
 /// contract they are their bytes; a [`Page`], as which they are put, shows none of the words. Out of memory, those that
 /// no writer has yet are gone.
@@ -76,10 +79,9 @@ impl Lines {
     pub fn with_room(alloc: Global, utf8: bool) -> Result<Lines, AllocError>
         ensures { IfOk result (λ lines. lines ≡ no_lines utf8) }
     {
-        Ok(Lines {
-            text: Text::with_capacity(alloc, ROOM)?,
-            utf8,
-        })
+        let mut text = Text::with_capacity(alloc, ROOM)?;
+        text.reserve(SHORT)?;
+        Ok(Lines { text, utf8 })
     }
 
     /// Their bytes, with those of a line that is begun.
@@ -231,7 +233,7 @@ impl Page for Lines {
         put!(self.text, self.text.put_decimal(number))
     }
 
-    #[inline]
+    #[inline(always)]
     fn put_count(&mut self, number: u64, noun: &str) -> Result<(), AllocError>
         requires { IsTrue (is_words noun.now) }
         ensures bytes { OnOk result (self.new ≡ with_bytes self.old (count number noun.now)) }
@@ -280,7 +282,7 @@ impl Page for Lines {
         put!(self.text, begin_word_meaning(&mut self.text, code))
     }
 
-    #[inline]
+    #[inline(always)]
     fn put_release(&mut self, number: u16) -> Result<(), AllocError>
         ensures bytes { OnOk result (self.new ≡ with_bytes self.old (release number)) }
         ensures seen { OnOk result (written self.new ≡ written self.old) }

@@ -5,7 +5,7 @@ ghost use Rattle.usb_text.specs.HexDigits.{byte_of};
 ghost use Rattle.std.specs.Prelude.{◌≡◌, ◌++◌, codes, OnOk};
 ghost use Rattle.hex.specs.Hex.{encode_lower};
 ghost use Rattle.usb_text.specs.Characters.{two_bytes};
-ghost use Rattle.usb_text.specs.Numbers.{byte_code, count, release, short_byte, word_code};
+ghost use Rattle.usb_text.specs.Numbers.{byte_code, count, release, word_code};
 
 use crate::digits::digits_of;
 use crate::text::Text;
@@ -47,7 +47,7 @@ pub(crate) fn byte_of(high: u8, low: u8) -> Option<u8>
 }
 
 /// Puts a number and what it counts: `1 byte`, `2 bytes`.
-#[inline(never)]
+#[inline(always)]
 #[tactic(auto, unfolding(crate::specs::Numbers::count))]
 pub fn put_count(text: &mut Text, number: u64, noun: &str) -> Result<(), AllocError>
     ensures { OnOk result (text.new ≡ text.old ++ count number noun.now) }
@@ -112,19 +112,11 @@ pub fn put_release(text: &mut Text, number: u16) -> Result<(), AllocError>
     ensures { OnOk result (text.new ≡ text.old ++ release number) }
 {
     let [high, low] = number.to_be_bytes();
-    put_short_byte(text, high)?;
-    text.put(".")?;
-    text.put_pair(low)
-}
-
-/// Puts a byte in hexadecimal digits, without a leading zero.
-fn put_short_byte(text: &mut Text, byte: u8) -> Result<(), AllocError>
-    ensures { OnOk result (text.new ≡ text.old ++ short_byte byte) }
-{
-    let digits = digits_of(byte);
-    if byte < 16 {
-        text.put_bytes(&digits[1..])
+    let [ten, one] = digits_of(high);
+    let [first, second] = digits_of(low);
+    if high < 16 {
+        text.put_bytes(&[one, b'.', first, second])
     } else {
-        text.put_bytes(&digits)
+        text.put_bytes(&[ten, one, b'.', first, second])
     }
 }

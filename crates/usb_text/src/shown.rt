@@ -97,8 +97,7 @@ pub(crate) fn put_escaped_in(text: &mut Text, b: &[u8]) -> Result<(), AllocError
         // Most units are characters, and two of them cost less than one and one.
         [one, 0, other, 0, rest @ ..] if is_plain(u16::from(*one)) && is_plain(u16::from(*other)) =>
             {
-                text.put_character(*one)?;
-                text.put_character(*other)?;
+                text.put_bytes(&[*one, *other])?;
                 put_escaped_in(text, rest)
             }
         [low, high, rest @ ..] => {

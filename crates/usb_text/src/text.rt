@@ -4,7 +4,7 @@ ghost use Rattle.std.specs.Fmt.{decimal};
 ghost use Rattle.usb_text.specs.Lines.{column, filling};
 ghost use Rattle.hex.specs.Hex.{encode_lower};
 
-use crate::digits::{digits_of, write_digits};
+use crate::digits::{decimals_of, digits_of, write_digits};
 use itoa::Buffer;
 use std::alloc::{AllocError, Global};
 use std::marker::Model;
@@ -12,8 +12,10 @@ use std::marker::Model;
 /// As many spaces as the start of a line has.
 const SPACES: [u8; 48] = [b' '; 48];
 
-/// Room is made for so many bytes at least.
+/// Room is made for so many bytes at least, and for as many as there are up to the most.
 const ROOM: usize = 512;
+
+const MOST_ROOM: usize = 8 * 1024;
 
 /// A text that grows at its end. In a contract it is its bytes.
 ///
@@ -64,6 +66,13 @@ impl Text {
             bytes: Vec::with_capacity(alloc, room)?,
             used: 0,
         })
+    }
+
+    /// Makes room for so many bytes more, so that what is put next makes none.
+    pub(crate) fn reserve(&mut self, count: usize) -> Result<(), AllocError>
+        ensures { OnOk result (self.new ≡ self.old) }
+    {
+        make_room(&mut self.bytes, self.used, count)
     }
 
     /// Its bytes.
@@ -172,25 +181,20 @@ impl Text {
         self.put_long_decimal(number)
     }
 
-    /// The same of a number of more than one digit, apart so that one digit costs no call.
+    /// The same of a number of more than one digit, apart so that one digit costs no call. Room is made first, so that a call
+    /// of what makes it has nothing to keep but the number.
     #[inline(never)]
-    #[tactic(auto, using(crate::proofs::Decimals::two_digits, crate::proofs::Decimals::three_digits))]
+    #[tactic(auto, using(crate::proofs::Columns::written_behind))]
     fn put_long_decimal(&mut self, number: u64) -> Result<(), AllocError>
         requires { 10 ≤ number }
         ensures { OnOk result (self.new ≡ self.old ++ decimal number) }
     {
-        if number < 100 {
-            return self.put_bytes(&[digit(number / 10), digit(number % 10)]);
-        }
-        if number >= 1000 {
+        if number >= 100_000 {
             return self.put_great_decimal(number);
         }
-        let digits = [
-            digit(number / 100),
-            digit(number / 10 % 10),
-            digit(number % 10),
-        ];
-        self.put_bytes(&digits)
+        make_room(&mut self.bytes, self.used, 5)?;
+        self.used += overwrite_by_decimal(&mut self.bytes, self.used, number);
+        Ok(())
     }
 
     #[inline(never)]
@@ -320,7 +324,8 @@ fn lengthen(bytes: &mut Vec<u8>, count: usize) -> Result<(), AllocError>
     ensures same { take (length bytes.old.items) bytes.new.items ≡ bytes.old.items }
     ensures within { length bytes.old.items ≤ length bytes.new.items }
 {
-    match bytes.len().checked_add(count.max(ROOM)) {
+    let room = bytes.len().max(ROOM).min(MOST_ROOM);
+    match bytes.len().checked_add(count.max(room)) {
         None => Err(AllocError),
         Some(length) => bytes.resize(length, b' '),
     }
@@ -342,4 +347,35 @@ fn overwrite_by_digits(bytes: &mut Vec<u8>, start: usize, others: &[u8])
 {
     let end = start + 2 * others.len();
     write_digits(others, &mut bytes.as_mut_slice()[start..end]);
+}
+
+/// Writes a number of two to five digits over the bytes from `start` on. Answers how many digits it has.
+#[inline(always)]
+#[tactic(auto, using(crate::proofs::Decimals::a_pair, crate::proofs::Decimals::three_digits, crate::proofs::Decimals::four_digits, crate::proofs::Decimals::five_digits))]
+fn overwrite_by_decimal(bytes: &mut Vec<u8>, start: usize, number: u64) -> usize
+    requires least { 10 ≤ number }
+    requires most { number < 100000 }
+    requires room { start + 5 ≤ length bytes.old.items }
+    ensures items { bytes.new.items ≡ take start bytes.old.items ++ decimal number ++ drop (start + length (decimal number)) bytes.old.items }
+    ensures count { result ≡ length (decimal number) }
+    ensures most { result ≤ 5 }
+    ensures length { length bytes.new.items ≡ length bytes.old.items }
+{
+    let [tens, ones] = decimals_of(number % 100);
+    if number < 100 {
+        overwrite(bytes, start, &[tens, ones]);
+        return 2;
+    }
+    if number < 1000 {
+        overwrite(bytes, start, &[digit(number / 100), tens, ones]);
+        return 3;
+    }
+    let [thousands, hundreds] = decimals_of(number / 100 % 100);
+    if number < 10_000 {
+        overwrite(bytes, start, &[thousands, hundreds, tens, ones]);
+        return 4;
+    }
+    let first = digit(number / 10_000);
+    overwrite(bytes, start, &[first, thousands, hundreds, tens, ones]);
+    5
 }
