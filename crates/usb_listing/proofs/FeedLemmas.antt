@@ -1,8 +1,10 @@
 -- A line that is found by its line feed.
-use Rattle.std.proofs.Common.{◌≡◌, ◌≢◌, ℕ, ◌+◌, ◌-◌, ◌&&◌, Bool, true, false, cond, List, [], ◌∷◌, ◌++◌, Option, Some, None, length, take, drop, refl, ap, sym, subst, ◌∙◌, append_assoc, append-nil, arith}
+use Rattle.std.proofs.Common.{◌≡◌, ◌≢◌, ℕ, zero, suc, ◌+◌, ◌-◌, ◌<◌, ◌≤◌, ◌&&◌, ◌⊎◌, inl, inr, slice_index, if◌then◌else◌, Bool, true, false, cond, List, [], ◌∷◌, ◌++◌, Option, Some, None, length, take, drop, refl, ap, sym, subst, ◌∙◌, append_assoc, append-nil, arith}
 use Rattle.std.specs.List.{list_all}
 use Rattle.std.proofs.lemmas.List.{length-drop, take_all}
-use Rattle.memchr.specs.Find.{IsFirstByte, is_byte}
+use Rattle.memchr.specs.Find.{IsFirst, IsFirstByte, Passes, TakesFirst, first_of, is_byte, places, places_from}
+use Rattle.std.proofs.Math.Nat.{eq-or-lt_of_le}
+use Rattle.std.proofs.lemmas.Bool.{false≢true}
 use Rattle.usb_file_data.specs.declared.file.DescriptorFile.{DescriptorFile}
 use Rattle.usb_listing.specs.declared.fault.ListWhy.{ListWhy}
 use Rattle.usb_listing.specs.declared.fault.ListWhy.TheVariants as whys
@@ -17,6 +19,46 @@ use Rattle.usb_listing.proofs.WalkLemmas.{Printable}
 use Rattle.usb_listing.proofs.WordLemmas.{byte_found, byte_nowhere}
 
 -- ---- the search for a line feed
+
+-- the first of the places that pass a test is the first place that does
+first_place : (test : ℕ → Bool) (text : List ℕ) (i n : ℕ) → IsFirst (Passes test text) i (i + n) (first_of (places_from test text i n))
+unfolding places_from first_of
+first_place test text i zero = λ k low high passes. absurd (omega arith)
+first_place test text i (suc n) = by (test (slice_index text i)) refl (first_place test text (i + 1) n)
+  where
+    later : (r : Option ℕ) → test (slice_index text i) ≡ false → IsFirst (Passes test text) (i + 1) (i + 1 + n) r → IsFirst (Passes test text) i (i + suc n) r
+    later r e is = wider r is
+      where
+        not_here : (k : ℕ) → i ≤ k → Passes test text k → i + 1 ≤ k
+        not_here k low passes = at (eq-or-lt_of_le low)
+          where
+            at : (i ≡ k) ⊎ (i < k) → i + 1 ≤ k
+            at (inl same) = absurd (false≢true (sym e ∙ ap (λ m. test (slice_index text m)) same ∙ passes))
+            at (inr above) = omega (arith, above)
+
+        wider : (r : Option ℕ) → IsFirst (Passes test text) (i + 1) (i + 1 + n) r → IsFirst (Passes test text) i (i + suc n) r
+        wider None none = λ k low high passes. none k (not_here k low passes) (omega (arith, high)) passes
+        wider (Some k) (first, passes) =
+            (record { low = omega (arith, first.low); high = omega (arith, first.high); before = λ m low high there. first.before m (not_here m low there) high there }, passes)
+
+    by : (b : Bool) → test (slice_index text i) ≡ b → IsFirst (Passes test text) (i + 1) (i + 1 + n) (first_of (places_from test text (i + 1) n))
+        → IsFirst (Passes test text) i (i + suc n) (first_of (if b then i ∷ places_from test text (i + 1) n else places_from test text (i + 1) n))
+    by true e rest = (record { low = omega arith; high = omega arith; before = λ m low high there. absurd (omega (arith, low, high)) }, e)
+    by false e rest = later (first_of (places_from test text (i + 1) n)) e rest
+
+pub first_found : (text before after : List ℕ) (r : Option ℕ) → before ≡ places (is_byte 10) text → TakesFirst before r after → IsFirstByte (is_byte 10) text r
+unfolding first_of
+first_found text before after r all takes = subst (IsFirstByte (is_byte 10) text) (sym (taken r takes ∙ ap first_of all)) first
+  where
+    taken : (r : Option ℕ) → TakesFirst before r after → r ≡ first_of before
+    taken None none = sym (ap first_of none.0)
+    taken (Some n) some = sym (ap first_of some)
+
+    count : 0 + (length text - 0) ≡ length text
+    count = omega arith
+
+    first : IsFirstByte (is_byte 10) text (first_of (places (is_byte 10) text))
+    first = subst (λ end. IsFirst (Passes (is_byte 10) text) 0 end (first_of (places (is_byte 10) text))) count (first_place (is_byte 10) text 0 (length text - 0))
 
 pub feed_found : (text : List ℕ) (r : Option ℕ) (n : ℕ) → IsFirstByte (is_byte 10) text r → r ≡ Some n → Cut 10 text (take n text) (take (length text - (n + 1)) (drop (n + 1) text))
 feed_found text r n is e =

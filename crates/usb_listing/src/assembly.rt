@@ -10,13 +10,14 @@ ghost use Rattle.usb_file_data.specs.File.{has_wrong_count, is_other_miscounted}
 ghost use Rattle.usb_listing.specs.Listings.{ListRefused, Lists, is_whole};
 ghost use Rattle.usb_listing.specs.inside.Drafts.{AreHeld, Holds, Reading, TakesLine, Told, so_far};
 ghost use Rattle.usb_listing.specs.inside.Walking.{Refused, count_before, text_read, Cut, HasNo, has_all_strings};
+ghost use Rattle.memchr.specs.Find.{IsFirstByte, is_byte};
 ghost use Rattle.usb_file_data.specs.declared.file.DescriptorFile.{DescriptorFile};
 ghost use Rattle.usb_listing.specs.declared.fault.ListWhy.TheVariants as whys;
 
 use crate::draft::Draft;
 use crate::fault::{ListFault, ListWhy};
 use crate::step::step;
-use memchr::memchr;
+use memchr::memchr_iter;
 use std::alloc::Global;
 use usb_file_data::{DescriptorFile, Other, Strings, count_named};
 
@@ -77,6 +78,15 @@ fn are_printable(line: &[u8]) -> bool
     line.iter().all(|c| is_printable(*c))
 }
 
+/// The place of the first line feed. That is most often near, where an iterator looks before it looks far.
+#[inline(always)]
+#[tactic(auto, using(crate::proofs::FeedLemmas::first_found))]
+fn first_feed(text: &[u8]) -> Option<usize>
+    ensures { IsFirstByte (is_byte 10) text.now result }
+{
+    memchr_iter(b'\n', text).next()
+}
+
 /// What is before the first line feed, and after it.
 #[tactic(auto, using(crate::proofs::FeedLemmas::feed_found, crate::proofs::FeedLemmas::feed_nowhere))]
 fn cut_line(text: &[u8]) -> Option<(&[u8], &[u8])>
@@ -84,7 +94,7 @@ fn cut_line(text: &[u8]) -> Option<(&[u8], &[u8])>
     ensures shorter { IfSome result (λ p. length p.1.now < length text.now) }
     ensures none { IfNone result (HasNo 10 text.now) }
 {
-    match memchr(b'\n', text) {
+    match first_feed(text) {
         Some(end) => Some((&text[..end], &text[end + 1..])),
         None => None,
     }
