@@ -54,8 +54,8 @@ pub mod rules {
 /// The device's end of a control pipe (USB 2.0, 8.5.3 and 9.4).
 pub mod device {
     pub use usb_device::{
-        Description, DescriptionFault, Device, DeviceStage, DeviceState, EndpointZero, ROOM, State,
-        Unanswered, is_open, is_set_address,
+        Description, DescriptionFault, Device, DeviceStage, DeviceState, Encoded, EndpointZero, ROOM,
+        State, Unanswered, is_open, is_set_address,
     };
 }
 
@@ -69,8 +69,8 @@ pub mod host {
 /// What passes between both ends (USB 2.0, 8.4 and 9.3), and both ends joined over a bus that loses it.
 pub mod bus {
     pub use usb_bus::{
-        Asked, Conversation, Fate, Observer, Run, Talk, converse, converse_asked, enumerate, step,
-        step_seen,
+        Asked, Conversation, Fate, Observer, Run, Talk, converse, converse_asked, enumerate,
+        enumerate_encoded, step, step_seen,
     };
     pub use usb_fields::{
         Answer, Class, Recipient, Setup, Stage, Toggle, Transaction, feature, request, request_type,

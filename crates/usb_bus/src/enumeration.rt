@@ -10,7 +10,7 @@ use crate::exchange::exchange;
 use crate::fate::Fate;
 use crate::steps::{Nobody, Observer, run_with};
 use std::alloc::Global;
-use usb_device::{Description, Device, State};
+use usb_device::{Description, Device, Encoded, State};
 use usb_file_data::DescriptorFile;
 use usb_host::{Action, Host, Limits, Trouble};
 
@@ -113,6 +113,14 @@ pub fn enumerate(alloc: Global, d: &Description, limits: Limits, fates: &[Fate])
     ensures run { IsEnumeration d.now.file d.now.speed limits fates.now result }
 
     // A success has read the description and configured the device, any other end has its cause, and the limits are kept.
+    ensures ends_well { EndsWell d.now.file limits fates.now result }
+{
+    enumerate_encoded(alloc, d.encoded(), limits, fates)
+}
+
+/// The same [`enumerate`] of a description without its tree: the one that the host reads is the only one then.
+pub fn enumerate_encoded(alloc: Global, d: &Encoded, limits: Limits, fates: &[Fate]) -> Run
+    ensures run { IsEnumeration d.now.file d.now.speed limits fates.now result }
     ensures ends_well { EndsWell d.now.file limits fates.now result }
 {
     match run_with(alloc, d, limits, fates, &mut Nobody, &mut ()) {

@@ -44,9 +44,9 @@ mod tally;
 
 pub use asked::Asked;
 pub use conversation::{Conversation, Talk, converse, converse_asked};
-pub use enumeration::{Run, enumerate, step, step_seen};
+pub use enumeration::{Run, enumerate, enumerate_encoded, step, step_seen};
 pub use fate::Fate;
-pub use log::enumerate_logged;
+pub use log::{enumerate_encoded_logged, enumerate_logged};
 pub use steps::Observer;
 pub use usb_file_data::NoMemory;
 pub use usb_host::Reply;

@@ -13,7 +13,7 @@ use crate::steps::{Observer, Steps, run_with};
 use crate::tally::write_tally;
 use std::alloc::{AllocError, Global};
 use std::io::Write;
-use usb_device::{Description, Device};
+use usb_device::{Description, Device, Encoded};
 use usb_fields::Answer;
 use usb_host::{Host, Limits, Why};
 use usb_text::{OutFault, Text, write_all};
@@ -195,6 +195,26 @@ pub fn enumerate_logged<W: Write>(
     // What `enumerate` promises of the run.
     ensures ends_well { IfOk result (EndsWell d.now.file limits fates.now) }
 {
+    enumerate_encoded_logged(alloc, d.encoded(), limits, fates, brief, w)
+}
+
+/// The same [`enumerate_logged`] of a description without its tree.
+///
+/// # Errors
+///
+/// Those of [`enumerate_logged`].
+pub fn enumerate_encoded_logged<W: Write>(
+    alloc: Global,
+    d: &Encoded,
+    limits: Limits,
+    fates: &[Fate],
+    brief: bool,
+    w: &mut W,
+) -> Result<Run, OutFault>
+    ensures log { IfOk result (WritesLog brief d.now.file d.now.speed limits fates.now (W.contents w.old) (W.contents w.new)) }
+    ensures err { IfErr result (WritesLogLess brief d.now.file d.now.speed limits fates.now (W.contents w.old) (W.contents w.new)) }
+    ensures ends_well { IfOk result (EndsWell d.now.file limits fates.now) }
+{
     match brief {
         true => write_log::<true, W>(alloc, d, limits, fates, w),
         false => write_log::<false, W>(alloc, d, limits, fates, w),
@@ -203,7 +223,7 @@ pub fn enumerate_logged<W: Write>(
 
 fn write_log<const BRIEF: bool, W: Write>(
     alloc: Global,
-    d: &Description,
+    d: &Encoded,
     limits: Limits,
     fates: &[Fate],
     w: &mut W,

@@ -8,7 +8,7 @@ use crate::fate::Fate;
 use crate::laws::an_enumeration_ends_well;
 use std::alloc::Global;
 use std::convert::Infallible;
-use usb_device::{Description, Device};
+use usb_device::{Device, Encoded};
 use usb_fields::Answer;
 use usb_host::{Host, Limits};
 
@@ -97,7 +97,7 @@ impl Steps<()> for Nobody {
 #[inline(always)]
 pub(crate) fn run_with<W, S: Steps<W>>(
     alloc: Global,
-    d: &Description,
+    d: &Encoded,
     limits: Limits,
     fates: &[Fate],
     steps: &mut S,
@@ -108,12 +108,11 @@ pub(crate) fn run_with<W, S: Steps<W>>(
     ensures breaks { IfErr result (λ fault. Breaks d.now.file d.now.speed limits fates.now (S.does d.now.file fates.now) (λ x y n from to. S.breaks d.now.file fates.now x y n from to fault) w.old w.new) }
 {
     // For the proof alone: what holds of a description, of limits and of every run.
-    let _file = d.file();
     d.known();
     limits.known();
     an_enumeration_ends_well();
     let mut host = Host::new(alloc, limits, d.speed());
-    let mut device = Device::new(d);
+    let mut device = Device::of(d);
     let mut transactions = 0u64;
     while let Some(now) = steps.step(&mut host, &mut device, fates, transactions, w)? {
         transactions = now;

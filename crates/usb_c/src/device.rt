@@ -14,7 +14,7 @@ use crate::device_handle::NzgDevice;
 use std::alloc::Global;
 use std::mem::replace;
 use usb_device::{
-    Description, EndpointZero, NzgPacket, NzgTransaction, OwnedDevice, State, sent, speed_of,
+    Encoded, EndpointZero, NzgPacket, NzgTransaction, OwnedDevice, State, sent, speed_of,
 };
 use usb_fields::{Setup, Speed};
 use usb_file::read_file;
@@ -67,7 +67,7 @@ fn open_at(alloc: Global, device: &mut NzgDevice, bytes: &[u8], speed: Speed) ->
         Ok(file) => file,
         Err(fault) => return refused_file(fault),
     };
-    let description = match Description::new(alloc, file, speed) {
+    let description = match Encoded::new(alloc, &file, speed) {
         Ok(description) => description,
         Err(fault) => return refused_description(fault),
     };

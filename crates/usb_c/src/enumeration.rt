@@ -11,8 +11,8 @@ use crate::answer::{Verdict, refused_description, refused_file};
 use crate::buffer::fill_done;
 use crate::outcome::{StepNumbers, numbered, step_numbers};
 use std::alloc::{AllocError, Global};
-use usb_bus::{Fate, Run, enumerate};
-use usb_device::{Description, speed_of};
+use usb_bus::{Fate, Run, enumerate_encoded};
+use usb_device::{Encoded, speed_of};
 use usb_fields::Speed;
 use usb_file::{DescriptorFile, read_file};
 use usb_host::{Limits, Trouble};
@@ -84,11 +84,13 @@ fn enumerate_under(
         Ok(file) => file,
         Err(fault) => return refused_file(fault),
     };
-    let description = match Description::new(alloc, file, speed) {
+    let description = match Encoded::new(alloc, &file, speed) {
         Ok(description) => description,
         Err(fault) => return refused_description(fault),
     };
-    let run = enumerate(alloc, &description, limits, &fates);
+    // The device needs the bytes alone, and the host makes the file anew.
+    drop(file);
+    let run = enumerate_encoded(alloc, &description, limits, &fates);
     tell_run(alloc, &run, outcome, out)
 }
 

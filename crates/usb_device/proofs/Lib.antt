@@ -7,3 +7,4 @@ pub mod AcceptedLemmas
 pub mod FitLemmas
 pub mod RankLemmas
 pub mod Replies
+pub mod OutlineLemmas

@@ -1,6 +1,7 @@
 -- Where descriptors are in a description.
-use Rattle.std.proofs.Common.{◌≡◌, ℕ, zero, suc, ◌+◌, ◌<◌, ◌≤◌, List, [], ◌∷◌, ◌++◌, length, map, slice_get, Option, Some, None, refl, arith, inl, inr, false, ◌==◌}
+use Rattle.std.proofs.Common.{◌≡◌, ℕ, zero, suc, ◌+◌, ◌<◌, ◌≤◌, List, [], ◌∷◌, ◌++◌, length, map, slice_get, Option, Some, None, refl, arith, inl, inr, false, ◌==◌, ◌*◌, ap, length-append}
 use Rattle.std.specs.Option.{option_map}
+use Rattle.std.proofs.lemmas.List.{length-map}
 use Rattle.std.proofs.lemmas.Option.{slice_get-map, slice_get_within, slice_get_cases, slice_get_past}
 use Rattle.usb_fields.specs.Device.{device_bytes, qualifier_bytes}
 use Rattle.usb_fields.specs.Units.{units_bytes}
@@ -8,8 +9,11 @@ use Rattle.usb_set.specs.declared.tree.Configuration.{Configuration}
 use Rattle.usb_file_data.specs.declared.file.DescriptorFile.{DescriptorFile}
 use Rattle.usb_file_data.specs.declared.file.Other.{Other}
 use Rattle.usb_file_data.specs.declared.file.Strings.{Strings}
-use Rattle.usb_file_data.specs.File.{whole_set, string_place}
+use Rattle.usb_file_data.specs.File.{named_indices, whole_set, string_place}
 use Rattle.std.proofs.lemmas.Grind.{common_steps}
+use Rattle.usb_device.specs.Accepted.{has_wrong_strings}
+use Rattle.usb_device.proofs.AcceptedLemmas.{texts_as_many}
+use Rattle.usb_device.specs.inside.Descriptions.{languages_of, other_count}
 use Rattle.usb_device.specs.Descriptors.{set_at, device_of, qualifier_of, other_set_at, string_at, descriptors, descriptor_at, main_descriptors, other_descriptors, string_descriptors, IsFound}
 
 -- an element of a list is one of a longer list
@@ -69,6 +73,15 @@ other_there f i b at =
     get_left (main_descriptors f ++ other_descriptors f.other) (string_descriptors f.strings) (length (main_descriptors f) + i) b
     (get_right (main_descriptors f) (other_descriptors f.other) i b at)
 
+-- a count of the sets of a second speed is that of one that is there, and a language list one of strings that are
+pub some_other : (x : Option Other) (n : ℕ) → Some n ≡ other_count x → (o : Other) × (x ≡ Some o) × (length o.sets ≡ n)
+some_other None n is = cc
+some_other (Some o) n is = (o, refl, cc)
+
+pub some_strings : (x : Option Strings) (ls : List ℕ) → Some ls ≡ languages_of x → (s : Strings) × (x ≡ Some s) × (ls ≡ s.languages)
+some_strings None ls is = cc
+some_strings (Some s) ls is = (s, refl, cc)
+
 -- the qualifier is the first of them
 pub qualifier_found : (f : DescriptorFile) (o : Other) (index place : ℕ) → f.other ≡ Some o → index ≡ 0 → place ≡ length (main_descriptors f) → IsFound f (qualifier_of f.other index) place
 qualifier_found f o index place is zeroth at =
@@ -108,10 +121,11 @@ string_found f s named index language place i is other at there_is within =
     found f (string_at f.strings named index language) (place + 1 + i) b (rw (is, test, ← there_is) there.1)
     (rw (← next) (string_there f (suc i) b mine))
 
--- the strings begin where the descriptors before them end, and those that follow are among all
-pub string_below : (f : DescriptorFile) (s : Strings) (place i : ℕ) → f.strings ≡ Some s → place ≡ length (main_descriptors f ++ other_descriptors f.other) → i < length s.texts → place + 1 + i < length (descriptors f)
-string_below f s place i is at within =
-    let there = get_there units_bytes s.texts i within in
-    let next : length (main_descriptors f ++ other_descriptors f.other) + suc i ≡ place + 1 + i = omega arith in
-    let mine : slice_get (string_descriptors f.strings) (suc i) ≡ Some there.0 = rw is there.2 in
-    slice_get_within (descriptors f) (place + 1 + i) there.0 (rw (← next) (string_there f (suc i) there.0 mine))
+-- the strings begin where the descriptors before them end, and all of them are among all
+pub strings_within : (f : DescriptorFile) (s : Strings) (languages named : List ℕ) (place : ℕ) → f.strings ≡ Some s → languages ≡ s.languages → named ≡ named_indices f → has_wrong_strings f ≡ false → place ≡ length (main_descriptors f ++ other_descriptors f.other) → (length languages * length named ≡ length s.texts) × (place + 1 + length s.texts ≤ length (descriptors f))
+unfolding descriptors
+strings_within f s languages named place is kept indices right at =
+    let many : length languages * length named ≡ length s.texts = rw (kept, indices, texts_as_many f s is right) refl in
+    let ends : length (string_descriptors f.strings) ≡ suc (length s.texts) = rw is (ap suc (length-map s.texts units_bytes)) in
+    let all : length (descriptors f) ≡ length (main_descriptors f ++ other_descriptors f.other) + length (string_descriptors f.strings) = length-append (main_descriptors f ++ other_descriptors f.other) (string_descriptors f.strings) in
+    (many, omega (arith, ends, all, at))

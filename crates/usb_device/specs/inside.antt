@@ -3,3 +3,4 @@ pub mod Reactions
 pub mod Images
 pub mod Descriptions
 pub mod Ranks
+pub mod Outlines

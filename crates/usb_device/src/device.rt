@@ -7,6 +7,7 @@ ghost use Rattle.std.specs.Borrow.{sem};
 
 use crate::beside::Unanswered;
 use crate::description::Description;
+use crate::encoded::Encoded;
 use crate::endpoint_zero::EndpointZero;
 use crate::stage::{Reaction, Stage};
 use crate::state::State;
@@ -30,7 +31,7 @@ use usb_fields::{Answer, Setup, Toggle, Transaction};
 #[derive(Debug, Drop)]
 pub struct Device<'d> {
     endpoint_zero: EndpointZero,
-    description: &'d Description,
+    description: &'d Encoded,
 }
 
 impl<'d> Model for Device<'d> {
@@ -57,6 +58,13 @@ impl<'d> Device<'d> {
 
     /// A device in the Default state, and in no transfer.
     pub fn new(d: &'d Description) -> Device<'d>
+        ensures { result ≡ record { description = d.now; device = new_device } }
+    {
+        Device::of(d.encoded())
+    }
+
+    /// The same of a description without its tree.
+    pub fn of(d: &'d Encoded) -> Device<'d>
         ensures { result ≡ record { description = d.now; device = new_device } }
     {
         Device {

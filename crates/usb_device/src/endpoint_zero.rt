@@ -10,7 +10,7 @@ ghost use Rattle.usb_device.specs.Stages.{data_bytes, stage_kind, IsData, IsSour
 
 mod owner;
 
-use crate::description::Description;
+use crate::encoded::Encoded;
 use crate::request::{Request, is_set_address};
 use crate::stage::{DataStage, Decision, Reaction, Source, Stage};
 use crate::state::State;
@@ -22,12 +22,12 @@ use usb_fields::{Answer, Setup, Stage as Token, Toggle, Transaction};
 ///
 /// ```rust
 /// // SET_ADDRESS 5.
-/// let mut endpoint_zero = EndpointZero::new(&description);
+/// let mut endpoint_zero = EndpointZero::new(&encoded);
 /// let setup = Transaction { address: 0, stage: Stage::Setup([0, 5, 5, 0, 0, 0, 0, 0]) };
-/// assert_eq!(rt; endpoint_zero.serve(&description, &setup, true), Answer::Ack);
+/// assert_eq!(rt; endpoint_zero.serve(&encoded, &setup, true), Answer::Ack);
 /// let status = Transaction { address: 0, stage: Stage::In };
-/// assert_eq!(rt; endpoint_zero.serve(&description, &status, true), Answer::Data(Toggle::Data1, &[]));
-/// endpoint_zero.acked(&description);
+/// assert_eq!(rt; endpoint_zero.serve(&encoded, &status, true), Answer::Data(Toggle::Data1, &[]));
+/// endpoint_zero.acked(&encoded);
 /// assert_eq!(rt; endpoint_zero.state().address, 5);
 /// ```
 #[derive(Clone, Copy, Debug, PartialEq, Eq, Hash)]
@@ -52,7 +52,7 @@ impl EndpointZero {
     ghost use Rattle.usb_device.specs.inside.Reactions.{is_sending, received_by, replied, sent_by, packet_due};
 
     /// That of a new device with this description, and of one after a bus reset.
-    pub fn new(d: &Description) -> EndpointZero
+    pub fn new(d: &Encoded) -> EndpointZero
         ensures device { device_of d.now.file result ≡ new_device }
         ensures of { IsOf d.now.file result }
     {
@@ -106,12 +106,7 @@ impl EndpointZero {
     ///
     /// The description is the one that it was made for.
     #[inline(always)]
-    pub fn serve<'a>(
-        &'a mut self,
-        d: &'a Description,
-        t: &Transaction<'_>,
-        ready: bool,
-    ) -> Answer<'a>
+    pub fn serve<'a>(&'a mut self, d: &'a Encoded, t: &Transaction<'_>, ready: bool) -> Answer<'a>
         requires { IsOf d.now.file self.old }
         ensures answer { reply_of result ≡ (served_by d.now.file (device_of d.now.file self.entry.now) (sent_of t.now) ready).reply }
         ensures* after { sem 𝓛 (PartEndsAs self.entry d.now.file (served_by d.now.file (device_of d.now.file self.old) (sent_of t.now) ready).device) }
@@ -128,7 +123,7 @@ impl EndpointZero {
 
     /// One transaction, with the bytes of the answer left out.
     #[inline(always)]
-    pub(crate) fn react(&mut self, d: &Description, t: &Transaction<'_>, ready: bool) -> Reaction
+    pub(crate) fn react(&mut self, d: &Encoded, t: &Transaction<'_>, ready: bool) -> Reaction
         requires { IsOf d.now.file self.old }
         ensures reply { replied d.now.file self.new result ≡ (served_by d.now.file (device_of d.now.file self.old) (sent_of t.now) ready).reply }
         ensures device { device_of d.now.file self.new ≡ (served_by d.now.file (device_of d.now.file self.old) (sent_of t.now) ready).device }
@@ -156,7 +151,7 @@ impl EndpointZero {
 
     /// A SETUP: the transfer that the request begins.
     #[inline(never)]
-    fn begin(&mut self, d: &Description, q: Setup)
+    fn begin(&mut self, d: &Encoded, q: Setup)
         ensures device { device_of d.now.file self.new ≡ record (device_of d.now.file self.old) { stage = begun q (answer d.now.file self.old.state q) } }
         ensures of { IsOf d.now.file self.new }
     {
@@ -185,7 +180,7 @@ impl EndpointZero {
     }
 
     /// Begins the data stage of a request with a descriptor, cut to wLength.
-    fn send_descriptor(&mut self, d: &Description, place: usize, q: Setup)
+    fn send_descriptor(&mut self, d: &Encoded, place: usize, q: Setup)
         requires source { IsSource d.now.file (Source.Descriptor place) }
         requires asked { 0 < q.length }
         ensures device { device_of d.now.file self.new ≡ record (device_of d.now.file self.old) { stage = Sending q (take q.length (descriptor_at d.now.file place)) 0 } }
@@ -201,7 +196,7 @@ impl EndpointZero {
     /// Begins the data stage of a request with these bytes, which are kept.
     // Inlined, so that one or two bytes are written with no call.
     #[inline(always)]
-    fn send_kept(&mut self, d: &Description, bytes: &[u8], q: Setup)
+    fn send_kept(&mut self, d: &Encoded, bytes: &[u8], q: Setup)
         requires some { 0 < q.length }
         requires asked { length bytes.now ≤ q.length }
         requires kept { length bytes.now ≤ room_size }
@@ -218,7 +213,7 @@ impl EndpointZero {
     /// An IN transaction.
     #[tactic(auto, using(crate::proofs::StageLemmas::packets_left))]
     #[inline(always)]
-    fn send(&mut self, d: &Description) -> Reaction
+    fn send(&mut self, d: &Encoded) -> Reaction
         requires { IsOf d.now.file self.old }
         ensures reply { replied d.now.file self.new result ≡ (sent_by d.now.file self.old).reply }
         ensures device { device_of d.now.file self.new ≡ (sent_by d.now.file self.old).device }
@@ -244,7 +239,7 @@ impl EndpointZero {
     /// IN where no data stage is: whether it is answered by the empty packet of the status stage, and else by STALL.
     // No call with a packet, so that the stage is tested once where one is sent.
     #[inline(never)]
-    fn sends_status(&mut self, d: &Description) -> bool
+    fn sends_status(&mut self, d: &Encoded) -> bool
         requires of { IsOf d.now.file self.old }
         requires other { is_sending self.old.stage ≡ false }
         ensures reply { (if result then DataReply Data1 [] else StallReply) ≡ (sent_by d.now.file self.old).reply }
@@ -269,7 +264,7 @@ impl EndpointZero {
 
     /// An OUT transaction.
     #[inline(always)]
-    fn receive(&mut self, d: &Description, toggle: Toggle, bytes: &[u8]) -> Reaction
+    fn receive(&mut self, d: &Encoded, toggle: Toggle, bytes: &[u8]) -> Reaction
         requires { IsOf d.now.file self.old }
         ensures reply { replied d.now.file self.new result ≡ (received_by d.now.file self.old toggle bytes.now).reply }
         ensures device { device_of d.now.file self.new ≡ (received_by d.now.file self.old toggle bytes.now).device }
@@ -300,7 +295,7 @@ impl EndpointZero {
 
     /// STALL, until the next SETUP.
     #[inline(always)]
-    fn stall(&mut self, d: &Description) -> Reaction
+    fn stall(&mut self, d: &Encoded) -> Reaction
         ensures reply { result ≡ Reaction.Stall }
         ensures device { self.new ≡ record self.old { stage = Stage.Halted; settled = true; pending = false } }
         ensures of { IsOf d.now.file self.new }
@@ -313,7 +308,7 @@ impl EndpointZero {
 
     /// Carries out a request, where it asks for no data.
     #[inline(never)]
-    fn carry_out(&mut self, d: &Description, q: Setup)
+    fn carry_out(&mut self, d: &Encoded, q: Setup)
         ensures { self.new ≡ record self.old { state = carried_out self.old.state (answer d.now.file self.old.state q) } }
     {
         let request = Request {
@@ -333,7 +328,7 @@ impl EndpointZero {
     ///
     /// The description is the one that it was made for.
     #[inline(always)]
-    pub fn acked(&mut self, d: &Description)
+    pub fn acked(&mut self, d: &Encoded)
         requires { IsOf d.now.file self.old }
         ensures device { device_of d.now.file self.new ≡ acked_by d.now.file (device_of d.now.file self.old) }
         ensures of { IsOf d.now.file self.new }
@@ -357,7 +352,7 @@ impl EndpointZero {
     /// The packet that was due was acknowledged: another is due then, or the status stage.
     #[tactic(auto, using(crate::proofs::StageLemmas::stages))]
     #[inline(always)]
-    fn go_on(&mut self, d: &Description)
+    fn go_on(&mut self, d: &Encoded)
         requires sending { self.old.stage ≡ Stage.Sending }
         requires due { IsData d.now.file self.old.data_stage self.old.request }
         ensures device { device_of d.now.file self.new ≡ record (device_of d.now.file self.old) { stage = next_stage self.old.request (data_bytes d.now.file self.old.data_stage) (self.old.data_stage.offset / d.now.file.device.packet) (drop (suc (self.old.data_stage.offset / d.now.file.device.packet)) (packets (data_bytes d.now.file self.old.data_stage) d.now.file.device.packet self.old.request.length)) } }
@@ -377,7 +372,7 @@ impl EndpointZero {
     /// The bytes of the packet that is due, or none.
     #[tactic(auto, using(crate::proofs::StageLemmas::packets_left))]
     #[inline(always)]
-    pub(crate) fn packet<'a>(&'a self, d: &'a Description) -> &'a [u8]
+    pub(crate) fn packet<'a>(&'a self, d: &'a Encoded) -> &'a [u8]
         requires { IsOf d.now.file self.now }
         ensures { result.now ≡ packet_due d.now.file.device.packet (device_of d.now.file self.now).stage }
     {

@@ -1,9 +1,10 @@
 //! The halted endpoints as bits: bit n for endpoint n OUT, bit 16 + n for endpoint n IN.
-ghost use Rattle.std.specs.Prelude.{◌≡◌, ◌<◌, fold, map};
-ghost use Rattle.usb_device.specs.Requests.{address_of, addresses_in, changed_halts, interface_addresses};
+ghost use Rattle.std.specs.Prelude.{◌≡◌, ◌<◌, fold};
+ghost use Rattle.usb_device.specs.Requests.{changed_halts};
 ghost use Rattle.usb_device.specs.States.{halt_of, halt_place, with_halt, without_halt};
+ghost use Rattle.usb_device.specs.inside.Outlines.{cleared_in};
 
-use usb_set::{Endpoint, Setting};
+use crate::outline::EndpointIn;
 
 /// The place of an endpoint's bit.
 fn place(endpoint: u8) -> u32
@@ -47,35 +48,15 @@ pub(crate) fn changed(halts: u32, endpoint: u8, on: bool) -> u32
     }
 }
 
-/// The halts without those of the endpoints of all settings of an interface.
-#[tactic(auto, using(crate::proofs::HaltLemmas::fold_append))]
-pub(crate) fn without_interface(halts: u32, settings: &[Setting], number: u8) -> u32
-    ensures { result ≡ fold without_halt halts (interface_addresses settings.now number) }
-{
-    let mut left = halts;
-    for setting in settings {
-        left = without_setting(left, setting, number);
-    }
-    left
-}
-
-/// The halts without those of the endpoints of a setting, where it is one of the interface.
-fn without_setting(halts: u32, setting: &Setting, number: u8) -> u32
-    ensures { result ≡ fold without_halt halts (addresses_in number setting.now) }
-{
-    if setting.number == number {
-        without_endpoints(halts, &setting.endpoints)
-    } else {
-        halts
-    }
-}
-
-fn without_endpoints(halts: u32, endpoints: &[Endpoint]) -> u32
-    ensures { result ≡ fold without_halt halts (map address_of endpoints.now) }
+/// The halts without those of the endpoints that are of an interface.
+pub(crate) fn without_interface(halts: u32, endpoints: &[EndpointIn], number: u8) -> u32
+    ensures { result ≡ fold (cleared_in number) halts endpoints.now }
 {
     let mut left = halts;
     for endpoint in endpoints {
-        left = without(left, endpoint.address);
+        if endpoint.setting.number == number {
+            left = without(left, endpoint.address);
+        }
     }
     left
 }

@@ -7,6 +7,7 @@
 //! [`Device::state`] is what it keeps between requests, [`State::device_state`] in which [`DeviceState`] it then is,
 //! and [`Device::stage`] its stage in a transfer. What a device rejects its owner may answer: [`Device::refused`].
 //!
+//! A device needs no tree of its descriptors: [`Encoded`] is a description without it, whose file proofs alone see.
 //! [`EndpointZero`] is what changes in a device, without the description; [`OwnedDevice`] owns its description, and so
 //! can be one handle of a program in another language, for which [`NzgTransaction`] and [`NzgPacket`] are what passes
 //! on the bus, in numbers and lent bytes.
@@ -28,11 +29,13 @@ mod beside;
 mod conformance;
 mod description;
 mod device;
+mod encoded;
 mod encoded_file;
 mod endpoint_zero;
 mod halts;
 mod image;
 pub mod laws;
+mod outline;
 mod owned_device;
 mod request;
 mod selected;
@@ -45,6 +48,7 @@ pub use beside::{ROOM, Unanswered, is_open};
 pub use conformance::{Difference, is_ready, judge};
 pub use description::Description;
 pub use device::Device;
+pub use encoded::Encoded;
 pub use endpoint_zero::EndpointZero;
 pub use owned_device::OwnedDevice;
 pub use request::is_set_address;

@@ -6,7 +6,7 @@ ghost use Rattle.usb_device.specs.View.{served_by, after};
 ghost use Rattle.usb_device.specs.Transactions.{packet_of};
 
 use crate::conformance::{Difference, is_ready, judge};
-use crate::description::Description;
+use crate::encoded::Encoded;
 use crate::endpoint_zero::EndpointZero;
 use crate::stage::Stage;
 use crate::transaction::{NzgPacket, tell};
@@ -18,7 +18,7 @@ use usb_fields::{Answer, Setup, Transaction};
 #[derive(Drop)]
 pub struct OwnedDevice {
     /// The description.
-    pub description: Description,
+    pub description: Encoded,
     /// What changes.
     pub endpoint_zero: EndpointZero,
 }
@@ -41,7 +41,7 @@ impl OwnedDevice {
         ensures packet { packet.new ≡ packet_of (served_by self.old.description.file self.old.device (sent_of t.now) ready).reply packet.old }
     {
         // For the proof alone: the descriptors are accepted.
-        let _file = self.description.file();
+        self.description.known();
         tell(
             self.endpoint_zero.serve(&self.description, t, ready),
             packet,
@@ -63,7 +63,7 @@ impl OwnedDevice {
         ensures judged { IsJudged request (is_refusing self.old.device.stage) (sent_of t.now).token (reply_of came.entry) (served_by self.old.description.file self.old.device (sent_of t.now) (is_ready (reply_of came.entry))).reply result }
     {
         // For the proof alone: the descriptors are accepted.
-        let _file = self.description.file();
+        self.description.known();
         let refused = self.refuses();
         let has = self
             .endpoint_zero

@@ -1,26 +1,27 @@
 //! The table of standard requests: a function for each row (USB 2.0, 9.4).
 //!
 //! The functions are inlined, so that a response, which is of several shapes, needs no room in memory.
-ghost use Rattle.std.specs.Prelude.{◌≡◌, ◌∷◌, [], if◌then◌else◌};
+ghost use Rattle.std.specs.Prelude.{◌≡◌, ◌∷◌, [], find, if◌then◌else◌};
+ghost use Rattle.std.specs.Option.{option_copied};
 ghost use Rattle.usb_device.specs.Step.{is_set_address};
 
-use crate::description::Description;
+use crate::encoded::Encoded;
+use crate::outline::Outline;
 use crate::stage::{Change, Decision};
 use crate::state::State;
 use crate::{halts, selected};
 use usb_fields::{Class, Direction, Recipient, Setup, feature, request};
-use usb_set::Setting;
 
 /// A request, and the device that it is made to.
 #[derive(Clone, Copy)]
 pub(crate) struct Request<'r> {
-    pub(crate) description: &'r Description,
+    pub(crate) description: &'r Encoded,
     pub(crate) state: &'r State,
     pub(crate) setup: Setup,
 }
 
 impl<'r> Request<'r> {
-    ghost use Rattle.usb_device.specs.Requests.{answer, does, feature_of, get_configuration, get_descriptor, get_interface, get_status, halt_feature, is_device, is_interface, names_endpoint, names_endpoint_zero, names_interface, row, selected_settings, set_address, set_configuration, set_interface, status_of_device, status_of_endpoint, status_of_interface, tells, wakeup_feature};
+    ghost use Rattle.usb_device.specs.Requests.{answer, does, feature_of, get_configuration, get_descriptor, get_interface, get_status, halt_feature, has_value, is_device, is_interface, names_endpoint, names_endpoint_zero, names_interface, row, set_address, set_configuration, set_interface, status_of_device, status_of_endpoint, status_of_interface, tells, wakeup_feature};
     ghost use Rattle.usb_fields.specs.Setup.{recipient_of};
     ghost use Rattle.usb_device.specs.inside.Reactions.{changed, says, AsksFor};
 
@@ -83,7 +84,7 @@ impl<'r> Request<'r> {
         if !self.state.has_address() || self.setup.index != 0 {
             return Decision::Refused;
         }
-        let attributes = selected::attributes(self.description.file(), self.state);
+        let attributes = selected::attributes(self.sets(), self.state);
         self.status(attributes / 64 % 2 + 2 * u8::from(self.state.wakeup))
     }
 
@@ -144,7 +145,7 @@ impl<'r> Request<'r> {
         if self.state.has_address()
             && self.setup.value == feature::DEVICE_REMOTE_WAKEUP
             && self.setup.index == 0
-            && selected::any_can_wake(&self.description.file().sets)
+            && selected::any_can_wake(self.sets())
         {
             self.done(Change::Wakeup(on))
         } else {
@@ -241,7 +242,7 @@ impl<'r> Request<'r> {
             return Decision::Refused;
         }
         let value = self.setup.value as u8;
-        if value == 0 || selected::any_with_value(&self.description.file().sets, value) {
+        if value == 0 || selected::any_with_value(self.sets(), value) {
             self.done(Change::Configuration(value))
         } else {
             Decision::Refused
@@ -279,12 +280,13 @@ impl<'r> Request<'r> {
         }
         let number = self.setup.index as u8;
         let alternate = self.setup.value as u8;
-        let settings = self.settings();
-        if !selected::has_alternate(settings, number, alternate) {
-            return Decision::Refused;
+        match self.selected() {
+            Some(c) if c.has_alternate(number, alternate) => {
+                let halts = c.without_interface(self.state.halts, number);
+                self.done(Change::Alternate(number, alternate, halts))
+            }
+            _ => Decision::Refused,
         }
-        let halts = halts::without_interface(self.state.halts, settings, number);
-        self.done(Change::Alternate(number, alternate, halts))
     }
 
     /// What is done where no data stage is asked for.
@@ -338,18 +340,28 @@ impl<'r> Request<'r> {
         matches!(self.setup.recipient(), Recipient::Interface)
     }
 
-    /// The settings of the selected configuration.
-    fn settings(&self) -> &'r [Setting]
-        ensures { result.now ≡ selected_settings self.now.description.now.file self.now.state.now }
+    /// The selected configuration.
+    fn selected(&self) -> Option<&'r Outline>
+        ensures { option_copied result ≡ find (has_value self.now.state.now.selected) self.now.description.now.file.sets }
     {
-        selected::settings(self.description.file(), self.state)
+        selected::with_value(self.sets(), self.state.selected)
+    }
+
+    /// The sets.
+    fn sets(&self) -> &'r [Outline]
+        ensures { result.now ≡ self.now.description.now.file.sets }
+    {
+        self.description.sets()
     }
 
     /// Whether wIndex is an interface of the selected configuration.
     fn names_interface(&self) -> bool
         ensures { result ≡ names_interface self.now.description.now.file self.now.state.now self.now.setup.index }
     {
-        self.setup.index < 256 && selected::has_interface(self.settings(), self.setup.index as u8)
+        match self.selected() {
+            Some(c) => self.setup.index < 256 && c.has_interface(self.setup.index as u8),
+            None => false,
+        }
     }
 
     /// Whether wIndex is endpoint zero.
@@ -367,10 +379,9 @@ impl<'r> Request<'r> {
             return None;
         }
         let address = self.setup.index as u8;
-        if selected::has_chosen_endpoint(self.settings(), &self.state.alternates, address) {
-            Some(address)
-        } else {
-            None
+        match self.selected() {
+            Some(c) if c.has_endpoint(&self.state.alternates, address) => Some(address),
+            _ => None,
         }
     }
 }

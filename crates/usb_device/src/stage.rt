@@ -5,7 +5,7 @@ ghost use Rattle.usb_device.specs.Beside.{room_size};
 ghost use Rattle.usb_device.specs.Stages.{data_bytes, source_bytes, written_bytes, IsSource};
 
 use crate::beside::ROOM;
-use crate::description::Description;
+use crate::encoded::Encoded;
 use usb_fields::Toggle;
 
 /// What a device answers to a transaction, with the bytes left out.
@@ -134,7 +134,7 @@ impl DataStage {
 
     /// The packet that is due.
     #[inline(always)]
-    pub(crate) fn packet<'a>(&'a self, d: &'a Description) -> &'a [u8]
+    pub(crate) fn packet<'a>(&'a self, d: &'a Encoded) -> &'a [u8]
         requires source { IsSource d.now.file self.now.source }
         requires count { self.now.count ≤ length (source_bytes d.now.file self.now.source self.now.kept) }
         requires inside { self.now.offset ≤ self.now.count }
@@ -144,7 +144,7 @@ impl DataStage {
     }
 
     #[inline(always)]
-    fn source_bytes<'a>(&'a self, d: &'a Description) -> &'a [u8]
+    fn source_bytes<'a>(&'a self, d: &'a Encoded) -> &'a [u8]
         requires { IsSource d.now.file self.now.source }
         ensures { result.now ≡ source_bytes d.now.file self.now.source self.now.kept }
     {

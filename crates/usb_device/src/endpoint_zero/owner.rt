@@ -5,7 +5,7 @@ ghost use Rattle.usb_device.specs.Requests.{answer};
 
 use super::EndpointZero;
 use crate::beside::{ROOM, Unanswered, is_open};
-use crate::description::Description;
+use crate::encoded::Encoded;
 use crate::request::Request;
 use crate::stage::{Decision, Stage};
 use usb_fields::{Direction, Setup, Toggle};
@@ -34,7 +34,7 @@ impl EndpointZero {
     /// # Requires
     ///
     /// The description is the one that it was made for.
-    pub fn answer_with(&mut self, d: &Description, bytes: &[u8]) -> Result<(), Unanswered>
+    pub fn answer_with(&mut self, d: &Encoded, bytes: &[u8]) -> Result<(), Unanswered>
         requires { IsOf d.now.file self.old }
         ensures device { device_of d.now.file self.new ≡ answered room_size (Gives bytes.now) (device_of d.now.file self.old) }
         ensures ok { OnOk result (unanswered (unfit_bytes room_size bytes.now) (refused_in (device_of d.now.file self.old).stage) ≡ None) }
@@ -65,7 +65,7 @@ impl EndpointZero {
     /// # Requires
     ///
     /// The description is the one that it was made for.
-    pub fn accept(&mut self, d: &Description) -> Result<(), Unanswered>
+    pub fn accept(&mut self, d: &Encoded) -> Result<(), Unanswered>
         requires { IsOf d.now.file self.old }
         ensures device { device_of d.now.file self.new ≡ accepted room_size (device_of d.now.file self.old) }
         ensures ok { OnOk result (unaccepted room_size (device_of d.now.file self.old).stage ≡ None) }
@@ -116,7 +116,7 @@ impl EndpointZero {
 
     /// Refuses the request that the owner was to answer, or has answered or accepted: as
     /// [`Device::refuse`](crate::Device::refuse).
-    pub fn refuse(&mut self, d: &Description)
+    pub fn refuse(&mut self, d: &Encoded)
         ensures device { device_of d.now.file self.new ≡ rejected (answer d.now.file) (device_of d.now.file self.old) }
         ensures of { IsOf d.now.file self.old → IsOf d.now.file self.new }
     {
@@ -134,7 +134,7 @@ impl EndpointZero {
 
     /// Whether the request is left to the owner: the device itself rejects it.
     #[inline(never)]
-    fn is_left(&self, d: &Description) -> bool
+    fn is_left(&self, d: &Encoded) -> bool
         ensures { result ≡ is_left (answer d.now.file self.now.state self.now.request) }
     {
         let request = Request {
@@ -160,7 +160,7 @@ impl EndpointZero {
     /// OUT where no status stage to the device can be: in a write, or in a transfer that has no OUT. Whether it is
     /// acknowledged, and else answered by STALL.
     #[inline(never)]
-    pub(super) fn takes(&mut self, d: &Description, toggle: Toggle, bytes: &[u8]) -> bool
+    pub(super) fn takes(&mut self, d: &Encoded, toggle: Toggle, bytes: &[u8]) -> bool
         requires of { IsOf d.now.file self.old }
         requires other { has_status_out self.old.stage ≡ false }
         requires heard { self.old.pending ≡ false }
@@ -183,7 +183,7 @@ impl EndpointZero {
     /// A packet of a write, whether it is acknowledged: kept, or discarded where it came again. A STALL answers one that is
     /// no whole packet and not all that is left.
     #[tactic(auto, using(crate::proofs::WriteLemmas::writes))]
-    fn gathers(&mut self, d: &Description, toggle: Toggle, bytes: &[u8]) -> bool
+    fn gathers(&mut self, d: &Encoded, toggle: Toggle, bytes: &[u8]) -> bool
         requires of { IsOf d.now.file self.old }
         requires at { self.old.stage ≡ Stage.Receiving }
         requires heard { self.old.pending ≡ false }

@@ -17,9 +17,9 @@ loop-host-init g c =
     let most_new = asks_less.at_most c.args.limits c.args.d.now.speed in
     record {
       leads = leads_none c.args.d.now.file c.args.d.now.speed c.args.limits c.args.fates.now (g.S.Steps.does c.args.d.now.file c.args.fates.now)
-          (both c.new-host.result c.new-device.result.device) c.args.w.now
-          (rw (new, c.new-device.ensures) refl);
-      description = ap (λ v. v.description) c.new-device.ensures;
+          (both c.new-host.result c.of-device.result.device) c.args.w.now
+          (rw (new, c.of-device.ensures) refl);
+      description = ap (λ v. v.description) c.of-device.ensures;
       few = rw new (omega arith);
     }
 
@@ -116,4 +116,4 @@ pub returns-clause-ends_well : goal.returns-clause-ends_well
 returns-clause-ends_well g c =
     let w = walked g c in
     c.an_enumeration_ends_well.ensures c.args.d.now.file c.args.d.now.speed c.args.limits c.args.fates.now (result g c)
-    c.file-file.ensures.accepted c.known.ensures c.known-2.ensures (w.leads.earlier, w.last, w.leads.runs, w.attempts, w.outcome, w.state)
+    c.known.ensures.accepted c.known.ensures.fits c.known-2.ensures (w.leads.earlier, w.last, w.leads.runs, w.attempts, w.outcome, w.state)

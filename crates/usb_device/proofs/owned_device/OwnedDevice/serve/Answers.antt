@@ -7,4 +7,4 @@ pub tell-requires : goal.tell-requires
 tell-requires c =
     let d = c.self.inside.description in
     reply_has_room d.file d.speed (device_of d.file c.self.inside.endpoint_zero) (sent_of c.args.t.now) c.args.ready (reply_of c.serve.result)
-    c.file-file.ensures.accepted c.serve.ensures.answer
+    c.known.ensures.accepted c.serve.ensures.answer

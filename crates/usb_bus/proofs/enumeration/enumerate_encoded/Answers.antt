@@ -1,4 +1,4 @@
-use Rattle.usb_bus.proofs.enumeration.enumerate.Goals as goal
+use Rattle.usb_bus.proofs.enumeration.enumerate_encoded.Goals as goal
 
 pub returns-clause-run : goal.returns-clause-run
 returns-clause-run c =
