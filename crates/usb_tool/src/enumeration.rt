@@ -16,8 +16,8 @@ use crate::result_line::{RefusedLine, SuccessLine, TroubleLine};
 use crate::settings::EnumerateFlags;
 use std::alloc::Global;
 use std::io::{Read, Write};
-use usb_bus::{Fate, Run, enumerate, enumerate_logged};
-use usb_device::{Description, DescriptionFault};
+use usb_bus::{Fate, Run, enumerate_encoded, enumerate_encoded_logged};
+use usb_device::{DescriptionFault, Encoded};
 use usb_fields::Speed;
 use usb_file::{DescriptorFile, FILE_LIMIT, read_completed, read_file};
 use usb_file_data::FileFault;
@@ -120,8 +120,8 @@ pub fn run_enumeration<R: Read, W: Write>(
     enumerate_bytes(alloc, bytes, w, l, s, fates, flags)
 }
 
-/// Writes what comes of the file that the bytes are, and flushes the writer. The bytes are let go before the enumeration, in
-/// which the file is there twice: the device's, and what the host has read.
+/// Writes what comes of the file that the bytes are, and flushes the writer. The bytes are let go as soon as they are read, and
+/// the file before the enumeration, so that it is there once at a time: the device keeps the bytes of its descriptors alone.
 fn enumerate_bytes<W: Write>(
     alloc: Global,
     bytes: Vec<u8>,
@@ -136,7 +136,7 @@ fn enumerate_bytes<W: Write>(
 {
     let file = file_of(alloc, &bytes, flags.with_strings)?;
     drop(bytes);
-    let description = match Description::new(alloc, file, s) {
+    let description = match Encoded::new(alloc, &file, s) {
         Ok(description) => description,
         Err(fault) => {
             if fault == DescriptionFault::Memory {
@@ -145,6 +145,7 @@ fn enumerate_bytes<W: Write>(
             return tell_refusal(alloc, fault, w);
         }
     };
+    drop(file);
     let run = run_over(alloc, &description, l, fates, flags, w)?;
     tell_run(alloc, &run, w)
 }
@@ -164,7 +165,7 @@ fn file_of(alloc: Global, bytes: &[u8], with_strings: bool) -> Result<Descriptor
 /// The enumeration of a device, whose speed is the description's, and its log where one is asked for.
 fn run_over<W: Write>(
     alloc: Global,
-    d: &Description,
+    d: &Encoded,
     l: Limits,
     fates: &[Fate],
     flags: EnumerateFlags,
@@ -174,10 +175,10 @@ fn run_over<W: Write>(
     ensures err { IfErr result (BreaksRun (under l d.now.speed fates.now flags) d.now.file (W.contents w.old) (W.contents w.new)) }
 {
     if flags.log {
-        let run = enumerate_logged(alloc, d, l, fates, flags.brief, w)?;
+        let run = enumerate_encoded_logged(alloc, d, l, fates, flags.brief, w)?;
         Ok(run)
     } else {
-        Ok(enumerate(alloc, d, l, fates))
+        Ok(enumerate_encoded(alloc, d, l, fates))
     }
 }
 

@@ -6,4 +6,4 @@ use Rattle.usb_tool.proofs.enumeration.run_over.Goals as goal
 pub returns-else-flags-clause-ok : goal.returns-else-flags-clause-ok
 returns-else-flags-clause-ok g c =
     let held = g.W.Write.contents c.args.w.now in
-    rw c.if-flags.false (record { log = []; enumerated = (c.enumerate.ensures.run, refl); written = appends_nothing held held (keeps_refl held) })
+    rw c.if-flags.false (record { log = []; enumerated = (c.enumerate_encoded.ensures.run, refl); written = appends_nothing held held (keeps_refl held) })
