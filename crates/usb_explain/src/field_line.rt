@@ -1,6 +1,7 @@
 //! The lines of fields.
 ghost use Rattle.std.specs.Prelude.{◌≡◌, option_map, IfSome, IsTrue, OnOk};
 ghost use Rattle.std.specs.Option.{option_copied};
+ghost use Rattle.std.specs.List.{flat_map};
 ghost use Rattle.usb_names.specs.Shown.{row_of};
 ghost use Rattle.usb_text.specs.Shown.{showing_all};
 ghost use Rattle.usb_explain.specs.Descriptors.{field_lines, fields, line_of_field};
@@ -14,6 +15,7 @@ use crate::field::Field;
 use crate::fields::Fields;
 use crate::form::put_form;
 use crate::line::NAME_WIDTH;
+use crate::role::Role;
 use crate::string_names::Names;
 use crate::subject::Subject;
 use std::alloc::AllocError;
@@ -53,8 +55,30 @@ fn put_all_fields<P: Page>(
     requires words { IfSome row (λ row. IsTrue (layout_has_words (row_layout (row_of row.now)))) }
     ensures { OnOk result (P.seen page.new ≡ showing_all P.showing (field_lines names.now (described d.now)) (P.seen page.old)) }
 {
-    for field in Fields::of_row(d.role, d.interface, row, d.bytes) {
+    let mut fields = Fields::of_row(d.role, d.interface, row, d.bytes);
+    put_type_field(page, names, d, &mut fields)?;
+    for field in fields {
         put_field(page, names, d, &field)?;
+    }
+    Ok(())
+}
+
+/// Puts the line of the first of these fields where that is bDescriptorType, and leaves those after it. It is apart from the
+/// loop, since a line that is the same of each class descriptor costs half as much.
+#[inline(always)]
+#[tactic(auto, using(usb_text::proofs::ShownLines::showing_joined))]
+fn put_type_field<P: Page>(
+    page: &mut P,
+    names: &Names,
+    d: &Descriptor<'_>,
+    fields: &mut Fields<'_>,
+) -> Result<(), AllocError>
+    ensures { OnOk result (showing_all P.showing (flat_map (line_of_field names.now (described d.now)) fields.new) (P.seen page.new) ≡ showing_all P.showing (flat_map (line_of_field names.now (described d.now)) fields.old) (P.seen page.old)) }
+{
+    if let Role::Raw = d.role {
+        if let Some(field) = fields.next() {
+            return put_field(page, names, d, &field);
+        }
     }
     Ok(())
 }

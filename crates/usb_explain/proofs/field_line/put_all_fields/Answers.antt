@@ -9,8 +9,9 @@ use Rattle.usb_explain.proofs.field_line.put_all_fields.Goals as goal
 
 pub loop-field-init : goal.loop-field-init
 loop-field-init g c =
-    ap (λ (fs : List PlacedField). showing_all g.P.Page.showing (flat_map (line_of_field c.args.names.now (described c.args.d.now)) fs) (g.P.Page.seen c.args.page.now))
-    (c.into_iter-field-iterator.ensures.into_iter_gives ∙ c.of_row-field-items.ensures)
+    ap (λ (fs : List PlacedField). showing_all g.P.Page.showing (flat_map (line_of_field c.args.names.now (described c.args.d.now)) fs) (g.P.Page.seen c.put_type_field.new.page)) c.into_iter-field-iterator.ensures.into_iter_gives
+    ∙ c.in_ok-put_type_field.ensures
+    ∙ ap (λ (fs : List PlacedField). showing_all g.P.Page.showing (flat_map (line_of_field c.args.names.now (described c.args.d.now)) fs) (g.P.Page.seen c.args.page.now)) c.of_row-fields.ensures
 
 pub loop-field-preserved : goal.loop-field-preserved
 loop-field-preserved g c =
