@@ -4,7 +4,7 @@ ghost use Rattle.usb_explain.specs.Associations.{has_association, is_without, la
 ghost use Rattle.usb_explain.specs.Trees.{descriptors};
 
 use crate::device_remark::tells_associations;
-use crate::rest_lines::descriptor_length;
+use crate::rest_lines::first_descriptor;
 use crate::role::{Role, is_association};
 use crate::standing::device_codes;
 use usb_fields::{after, byte_at, prefix, word_at};
@@ -14,11 +14,11 @@ fn has_association(set: &[u8]) -> bool
     ensures { result ≡ has_association (descriptors set.now) }
 {
     let mut rest = set;
-    while let Some(length) = descriptor_length(rest) {
-        if is_association(prefix(rest, length)) {
+    while let Some((d, behind)) = first_descriptor(rest) {
+        if is_association(d) {
             return true;
         }
-        rest = after(rest, length);
+        rest = behind;
     }
     false
 }

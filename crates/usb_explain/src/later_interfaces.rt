@@ -8,7 +8,7 @@ ghost use Rattle.usb_explain.specs.SettingRemarks.{follows, is_numbered};
 ghost use Rattle.usb_explain.specs.Trees.{descriptors};
 ghost use Rattle.usb_explain.specs.inside.Coming.{Awaits, Counts};
 
-use crate::rest_lines::descriptor_length;
+use crate::rest_lines::first_descriptor;
 use crate::role::{Role, is_interface};
 use std::marker::Model;
 use usb_fields::{after, byte_at, prefix, word_at};
@@ -56,9 +56,9 @@ impl LaterInterfaces {
     {
         self.counts = [0; 256];
         let mut rest = set;
-        while let Some(length) = descriptor_length(rest) {
-            self.add(prefix(rest, length));
-            rest = after(rest, length);
+        while let Some((d, behind)) = first_descriptor(rest) {
+            self.add(d);
+            rest = behind;
         }
     }
 

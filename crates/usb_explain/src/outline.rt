@@ -15,7 +15,7 @@ use crate::role::Role;
 use crate::speed::SetSpeed;
 use crate::standing::Standing;
 use std::marker::Model;
-use usb_fields::{after, byte_at, prefix};
+use usb_fields::byte_at;
 use usb_file_data::Found;
 
 /// The descriptors of an input that are left, in the order of its bytes. In a contract it is the list of them.
@@ -92,7 +92,7 @@ impl<'b> Iterator for Outline<'b> {
             &self.later,
         );
         self.found = left;
-        self.ahead = after(self.ahead, count);
+        (_, self.ahead) = self.ahead.split_at(count);
         Some(here)
     }
 }
@@ -117,8 +117,8 @@ impl Standing {
         ensures standing { self.new ≡ passed role (take count ahead.now) (entered role running ahead.now self.old) }
     {
         self.enter(role, running, ahead);
-        let bytes = prefix(ahead, count);
-        let (here, left) = self.descriptor(role, running, found, bytes, after(ahead, count), later);
+        let (bytes, behind) = ahead.split_at(count);
+        let (here, left) = self.descriptor(role, running, found, bytes, behind, later);
         self.pass(role, bytes);
         (here, left)
     }

@@ -1,8 +1,8 @@
 //! What is left of an input.
-ghost use Rattle.std.specs.Prelude.{◌≡◌, ◌≤◌, length, IfSome, OnOk};
+ghost use Rattle.std.specs.Prelude.{◌≡◌, ◌≤◌, ◌+◌, ◌∷◌, [], length, IfSome, MatchOption, OnOk};
 ghost use Rattle.usb_text.specs.Shown.{showing_all};
 ghost use Rattle.usb_explain.specs.Explanations.{more_shown, rest_heading, rest_line, rest_lines};
-ghost use Rattle.usb_explain.specs.Trees.{descriptor_length};
+ghost use Rattle.usb_explain.specs.Trees.{descriptor_length, descriptors};
 
 use crate::line::{NAME_WIDTH, put_place};
 use crate::manner::Look;
@@ -96,5 +96,18 @@ pub(crate) fn descriptor_length(b: &[u8]) -> Option<usize>
                 Some(len)
             }
         }
+    }
+}
+
+/// The descriptor that the bytes begin with, where all of it is there, and the bytes after it.
+#[tactic(auto, using(crate::proofs::Cuts::descriptors_end, crate::proofs::Cuts::descriptors_step))]
+pub(crate) fn first_descriptor(b: &[u8]) -> Option<(&[u8], &[u8])>
+    ensures first { MatchOption result (descriptors b.now ≡ []) (λ cut. descriptors b.now ≡ cut.0.now ∷ descriptors cut.1.now) }
+    ensures least { IfSome result (λ cut. 2 ≤ length cut.0.now) }
+    ensures whole { IfSome result (λ cut. length cut.0.now + length cut.1.now ≡ length b.now) }
+{
+    match descriptor_length(b) {
+        None => None,
+        Some(length) => Some(b.split_at(length)),
     }
 }

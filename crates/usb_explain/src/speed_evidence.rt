@@ -4,9 +4,9 @@ ghost use Rattle.usb_explain.specs.SetSpeeds.{evidence_of, has_multiple, is_abov
 ghost use Rattle.usb_explain.specs.Trees.{descriptors};
 ghost use Rattle.usb_explain.specs.inside.Walking.{heard};
 
-use crate::rest_lines::descriptor_length;
+use crate::rest_lines::first_descriptor;
 use crate::role::{is_endpoint, is_interface};
-use usb_fields::{after, byte_at, descriptor_type, prefix, word_at};
+use usb_fields::{byte_at, descriptor_type, word_at};
 use usb_set::TransferType;
 
 /// The type of a SuperSpeed endpoint companion (USB 3.2, 9.6.7).
@@ -47,9 +47,9 @@ impl Evidence {
     {
         let mut evidence = Evidence::none();
         let mut rest = sets;
-        while let Some(length) = descriptor_length(rest) {
-            evidence.add(prefix(rest, length));
-            rest = after(rest, length);
+        while let Some((d, behind)) = first_descriptor(rest) {
+            evidence.add(d);
+            rest = behind;
         }
         evidence
     }

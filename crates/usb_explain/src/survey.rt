@@ -5,9 +5,8 @@ ghost use Rattle.usb_explain.specs.SetSpeeds.{survey_of};
 
 use crate::bindings::Bindings;
 use crate::interface_numbers::InterfaceNumbers;
-use crate::rest_lines::descriptor_length;
+use crate::rest_lines::first_descriptor;
 use crate::speed_evidence::Evidence;
-use usb_fields::{after, prefix};
 
 /// Gathers what the bytes of a set say, as far as they go: which association binds each interface, and the numbers of the
 /// interfaces. Answers what they say of the speed.
@@ -24,12 +23,11 @@ pub(crate) fn survey(
     let mut evidence = Evidence::none();
     let mut associations = 0;
     let mut rest = set;
-    while let Some(length) = descriptor_length(rest) {
-        let d = prefix(rest, length);
+    while let Some((d, behind)) = first_descriptor(rest) {
         evidence.add(d);
         associations = bindings.add(associations, d);
         interfaces.add(d);
-        rest = after(rest, length);
+        rest = behind;
     }
     evidence
 }

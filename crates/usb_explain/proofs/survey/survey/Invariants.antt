@@ -3,11 +3,11 @@ use Rattle.usb_explain.specs.Trees.{descriptors}
 use Rattle.usb_explain.specs.inside.Walking.{Gathers}
 use Rattle.usb_explain.proofs.survey.survey.Given as goal
 
-abbrev pub invariant-loop-length : goal.invariant-loop-length
-invariant-loop-length l = record {
+abbrev pub invariant-loop-d : goal.invariant-loop-d
+invariant-loop-d l = record {
   gathers : Gathers (descriptors l.set) l.evidence l.bindings l.associations l.interfaces (descriptors l.rest);
   count : l.associations + length l.rest ≤ length l.set;
 }
 
-abbrev pub decreases-loop-length : goal.decreases-loop-length
-decreases-loop-length l = length l.rest
+abbrev pub decreases-loop-d : goal.decreases-loop-d
+decreases-loop-d l = length l.rest

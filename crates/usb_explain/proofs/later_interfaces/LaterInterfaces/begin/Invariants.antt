@@ -3,12 +3,12 @@ use Rattle.usb_explain.specs.Trees.{descriptors}
 use Rattle.usb_explain.specs.inside.Coming.{interfaces_of}
 use Rattle.usb_explain.proofs.later_interfaces.LaterInterfaces.begin.Given as goal
 
-abbrev pub invariant-loop-length : goal.invariant-loop-length
-invariant-loop-length l = record {
+abbrev pub invariant-loop-d : goal.invariant-loop-d
+invariant-loop-d l = record {
   cells : length l.self ≡ 256;
   each : (n : ℕ) → n < 256 → slice_index l.self n + interfaces_of n (descriptors l.rest) ≡ interfaces_of n (descriptors l.set);
   room : (n : ℕ) → n < 256 → slice_index l.self n + length l.rest ≤ length l.set;
 }
 
-abbrev pub decreases-loop-length : goal.decreases-loop-length
-decreases-loop-length l = length l.rest
+abbrev pub decreases-loop-d : goal.decreases-loop-d
+decreases-loop-d l = length l.rest

@@ -28,14 +28,14 @@ invariant_of-self-2 c =
     let b = c.self.inside.ahead.now in
     let next : Role × ℕ = (c.in-Some.role, c.in-Some.count) in
     let at : c.step_over.new.self.position.at ≡ (after_next c.self.inside.running c.self.inside.standing b next).position.at = ap (λ (s : Standing). s.position.at) c.step_over.ensures.standing in
-    let left : length c.after-self-inside.result.now ≡ length (drop c.in-Some.count b) = ap length c.after-self-inside.ensures in
+    let left : length c.split_at.result.1.now ≡ length (drop c.in-Some.count b) = ap length c.split_at.ensures.back in
     let entered : Position = position_at c.in-Some.role b c.self.inside.standing.position in
     let taken : length (take c.in-Some.count b) ≡ c.in-Some.count = length-take-le c.in-Some.count b c.in-Some.ensures.most in
     let still : c.step_over.new.self.position.left ≡ entered.left - c.in-Some.count =
     ap (λ (s : Standing). s.position.left) c.step_over.ensures.standing ∙ after_left c.in-Some.role (take c.in-Some.count b) entered ∙ ap (λ k. entered.left - k) taken in (
       subst (λ (s : Standing). Counted s.position) (sym c.step_over.ensures.standing) (stays_counted c.self.inside.running c.self.inside.standing b next c.self.invariant.0 c.in-Some.ensures.least c.in-Some.ensures.most),
       omega (arith, at, left, stays_room c.self.inside.running c.self.inside.standing b next c.in-Some.ensures.most c.self.invariant.1),
-      rw (still, c.after-self-inside.ensures) (c.pass.ensures c.self.inside.standing.position (sym c.next_role.ensures.next ∙ c.in-Some.is) c.self.invariant.2),
+      rw (still, c.split_at.ensures.back) (c.pass.ensures c.self.inside.standing.position (sym c.next_role.ensures.next ∙ c.in-Some.is) c.self.invariant.2),
     )
 
 pub returns-clause-steps : goal.returns-clause-steps
@@ -44,7 +44,7 @@ returns-clause-steps c =
     let next : Role × ℕ = (c.in-Some.role, c.in-Some.count) in
     sym c.self.view_is ∙ outline_next c.self.inside.running c.self.inside.standing c.self.inside.found.now b next (sym c.next_role.ensures.next ∙ c.in-Some.is)
     ∙ ap₂ ◌∷◌ (sym c.step_over.ensures.here)
-    (left_same c.self.inside.running _ _ _ _ _ _ (sym c.step_over.ensures.standing) (sym c.step_over.ensures.left) (sym c.after-self-inside.ensures))
+    (left_same c.self.inside.running _ _ _ _ _ _ (sym c.step_over.ensures.standing) (sym c.step_over.ensures.left) (sym c.split_at.ensures.back))
 
 pub returns-clause-goes : goal.returns-clause-goes
 returns-clause-goes c =
@@ -52,5 +52,5 @@ returns-clause-goes c =
     let next : Role × ℕ = (c.in-Some.role, c.in-Some.count) in
     let step = sym c.self.view_is ∙ outline_next c.self.inside.running c.self.inside.standing c.self.inside.found.now b next (sym c.next_role.ensures.next ∙ c.in-Some.is)
     ∙ ap₂ ◌∷◌ (sym c.step_over.ensures.here)
-    (left_same c.self.inside.running _ _ _ _ _ _ (sym c.step_over.ensures.standing) (sym c.step_over.ensures.left) (sym c.after-self-inside.ensures)) in
+    (left_same c.self.inside.running _ _ _ _ _ _ (sym c.step_over.ensures.standing) (sym c.step_over.ensures.left) (sym c.split_at.ensures.back)) in
     let shorter = ap (λ (l : List Described). length l) step in search rules

@@ -1,5 +1,4 @@
-use Rattle.std.proofs.Common.{◌≡◌, ◌∙◌, ap, arith, length, subst, sym}
-use Rattle.std.proofs.lemmas.List.{length-take-le}
+use Rattle.std.proofs.Common.{◌≡◌, ◌∙◌, ap, arith, subst, sym}
 use Rattle.usb_explain.specs.declared.standing.Standing.{Standing}
 use Rattle.usb_explain.specs.SetStart.{entered}
 use Rattle.usb_explain.specs.inside.Walking.{Counted}
@@ -15,5 +14,4 @@ pub pass-requires-clause-room : goal.pass-requires-clause-room
 pass-requires-clause-room c =
     let same : c.enter.new.self.position.at ≡ c.args.self.now.position.at =
     ap (λ (s : Standing). s.position.at) c.enter.ensures ∙ same_at c.args.role c.args.ahead.now c.args.self.now.position in
-    let taken : length c.prefix-bytes.result.now ≡ c.args.count = ap length c.prefix-bytes.ensures ∙ length-take-le c.args.count c.args.ahead.now c.requires.most in
-    omega (arith, same, taken, c.requires.room, c.requires.most)
+    omega (arith, same, c.split_at.ensures.front_len, c.requires.room, c.requires.most)
