@@ -6,7 +6,7 @@ ghost use Rattle.usb_text.specs.Shown.{ends, showing_all};
 ghost use Rattle.usb_text.specs.Written.{WritesLess, WritesLines, is_words, written};
 ghost use Rattle.usb_explain.specs.Descriptors.{lines_of};
 ghost use Rattle.usb_explain.specs.Explanations.{EndsBetween, before_fault, ending, explanation, first_line, found_of, last_line};
-ghost use Rattle.usb_explain.specs.Outline.{bytes_of};
+ghost use Rattle.usb_explain.specs.Outline.{bytes_of, outline};
 ghost use Rattle.usb_explain.specs.inside.Explaining.{PutsDescriptors, StopsBetween};
 
 use crate::descriptor_lines::put_descriptor;
@@ -14,6 +14,7 @@ use crate::fault_line::{fault_place, put_fault_lines};
 use crate::manner::Manner;
 use crate::outline::Outline;
 use crate::rest_lines::put_rest;
+use crate::speed::SetSpeed;
 use crate::subject::Subject;
 use std::alloc::{AllocError, Global};
 use std::io::Write;
@@ -48,8 +49,8 @@ pub fn explain<W: Write>(
     let subject = Subject::of(alloc, manner, read)?;
     let mut lines = Lines::with_room(alloc, manner.look.utf8)?;
     put_first_line(&mut lines, read, bytes)?;
-    let outline = Outline::of(before_fault(read, bytes), manner.speed, &found);
-    let place = write_descriptors(&mut lines, &subject, outline, w)?;
+    let described = before_fault(read, bytes);
+    let place = write_descriptors(&mut lines, &subject, described, manner.speed, &found, w)?;
     put_ending(&mut lines, manner, read, found.len(), bytes, place)?;
     lines.finish(w)
 }
@@ -74,20 +75,22 @@ fn before_fault<'b>(read: &Result<Input, InputFault>, bytes: &'b [u8]) -> &'b [u
     }
 }
 
-/// Writes the lines of the descriptors of an outline. Answers how many bytes those have.
+/// Writes the lines of the descriptors of these bytes, as their outline has them. Answers how many bytes those have.
 fn write_descriptors<W: Write>(
     lines: &mut Lines,
     subject: &Subject,
-    outline: Outline<'_>,
+    bytes: &[u8],
+    running: Option<SetSpeed>,
+    found: &[Found],
     w: &mut W,
 ) -> Result<usize, OutFault>
-    requires { length (bytes_of outline) < 2 ^ 63 }
-    ensures ok { IfOk result (PutsDescriptors subject.now outline.entry (W.contents w.old) (W.contents w.new) (written lines.old) (written lines.new)) }
-    ensures err { OnErr result (WritesLess lines.old.utf8 ((written lines.old).ended + ends (flat_map (lines_of subject.now) outline.entry)) (W.contents w.old) (W.contents w.new)) }
-    ensures memory { IfErr result (λ fault. fault ≡ OutFault.Memory → StopsBetween subject.now outline.entry (written lines.old) (W.contents w.old) (W.contents w.new)) }
+    requires { length (bytes_of (outline running found.now bytes.now)) < 2 ^ 63 }
+    ensures ok { IfOk result (PutsDescriptors subject.now (outline running found.now bytes.now) (W.contents w.old) (W.contents w.new) (written lines.old) (written lines.new)) }
+    ensures err { OnErr result (WritesLess lines.old.utf8 ((written lines.old).ended + ends (flat_map (lines_of subject.now) (outline running found.now bytes.now))) (W.contents w.old) (W.contents w.new)) }
+    ensures memory { IfErr result (λ fault. fault ≡ OutFault.Memory → StopsBetween subject.now (outline running found.now bytes.now) (written lines.old) (W.contents w.old) (W.contents w.new)) }
 {
     let mut place = 0;
-    for descriptor in outline {
+    for descriptor in Outline::of(bytes, running, found) {
         put_descriptor(lines, subject, &descriptor)?;
         lines.pass_on(w)?;
         place += descriptor.bytes.len();

@@ -1,11 +1,11 @@
-use Rattle.std.proofs.Common.{◌≡◌, ◌∷◌, arith}
+use Rattle.std.proofs.Common.{◌≡◌, ◌∷◌, ◌∙◌, arith}
 use Rattle.usb_text.proofs.Pages.{on_err}
 use Rattle.usb_explain.specs.Outline.{described}
 use Rattle.usb_explain.proofs.Explaining.{done_within, failed_at, none_done, one_done, stopped_at}
 use Rattle.usb_explain.proofs.explanation.write_descriptors.Goals as goal
 
 pub loop-descriptor-init : goal.loop-descriptor-init
-loop-descriptor-init g c = none_done _ _ _ _ _ c.into_iter-descriptor-iterator.ensures.into_iter_gives
+loop-descriptor-init g c = none_done _ _ _ _ _ (c.into_iter-descriptor-iterator.ensures.into_iter_gives ∙ c.of-descriptor-items.ensures)
 
 pub loop-descriptor-preserved : goal.loop-descriptor-preserved
 loop-descriptor-preserved g c =
