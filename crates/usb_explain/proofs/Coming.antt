@@ -1,16 +1,16 @@
 -- Which interfaces are still to come in a set, descriptor by descriptor.
-use Rattle.std.proofs.Common.{◌≡◌, ◌≤◌, ◌<◌, ◌∙◌, ℕ, zero, suc, ◌+◌, ◌-◌, ◌==◌, ◌||◌, Bool, true, false, List, [], ◌∷◌, if◌then◌else◌, nat_le, nat_lt, length, slice_index, take, drop, Option, Some, None, IfSome, option_and_then, refl, sym, ap, arith, length-drop}
+use Rattle.std.proofs.Common.{◌≡◌, ◌≤◌, ◌<◌, ◌∙◌, ℕ, zero, suc, ◌+◌, ◌-◌, ◌==◌, ◌&&◌, ◌||◌, Bool, true, false, List, [], ◌∷◌, if◌then◌else◌, nat_le, nat_lt, length, slice_index, take, drop, Option, Some, None, IfSome, option_and_then, refl, sym, ap, arith, length-drop}
 use Rattle.std.specs.Borrow.{Bor}
 use Rattle.std.specs.Option.{option_copied, option_map}
 use Rattle.std.proofs.lemmas.Bool.Decides.{nat_tests}
-use Rattle.std.proofs.lemmas.Option.{none-some}
+use Rattle.std.proofs.lemmas.Option.{none-some, same_Some}
 use Rattle.std.proofs.lemmas.List.{length-take-le}
 use Rattle.usb_explain.specs.declared.position.Position.{Position}
 use Rattle.usb_explain.specs.declared.role.Role.{Role}
 use Rattle.usb_explain.specs.declared.role.Role.TheVariants.{Device, Qualifier, Configuration, Association, Interface, Endpoint, Raw, Languages, Text}
 use Rattle.usb_explain.specs.Contexts.{rest_of_set}
 use Rattle.usb_explain.specs.Positions.{position_at}
-use Rattle.usb_explain.specs.Roles.{inner_role, next_role, outer_role, role_of}
+use Rattle.usb_explain.specs.Roles.{inner_role, is_interface, next_role, outer_role, role_of, typed_role}
 use Rattle.usb_explain.specs.SettingRemarks.{has_setting, is_numbered}
 use Rattle.usb_explain.specs.Standings.{start}
 use Rattle.usb_explain.specs.Trees.{descriptor_length, descriptors}
@@ -185,6 +185,56 @@ pub awaits_next : (p : Position) (role : Role) (counts new : List ℕ) (count : 
     → Awaits new (p.left - count) (drop count ahead)
 awaits_next p role counts new count ahead e awaits cells minus =
     awaits_on counts new p.left count ahead (next_says p ahead (role, count) e) (fits_set p ahead (role, count) e) awaits cells minus
+
+-- ---- a descriptor whose role is no interface's is no interface
+
+inner_interface : (set four long : Bool) (x : Option Role) (role : Role) → (if set then None else if four then Some (typed_role long Interface) else x) ≡ Some role → (role ≡ Interface → ⊥) → (four && long) ≡ false
+inner_interface set false long x role e other = refl
+inner_interface set true false x role e other = refl
+inner_interface true true true x role e other = absurd (none-some role e)
+inner_interface false true true x role e other = absurd (other (sym (same_Some Interface role e)))
+
+outer_interface : (kind : ℕ) (long : Bool) (a b c d : Option Role) (role : Role)
+    → (if kind == 1 then a else if kind == 6 then b else if (kind == 2) || (kind == 7) then c else if kind == 3 then d else None) ≡ Some role → ((kind == 4) && long) ≡ false
+outer_interface kind long a b c d role e = grind (arith, nat_tests)
+
+of_role : (outside fits : Bool) (x y : Option Role) (role : Role) (is : Bool) → (if outside then x else if fits then y else None) ≡ Some role
+    → (x ≡ Some role → is ≡ false) → (y ≡ Some role → is ≡ false) → is ≡ false
+of_role true fits x y role is e outer inner = outer e
+of_role false true x y role is e outer inner = inner e
+of_role false false x y role is e outer inner = absurd (none-some role e)
+
+no_interface : (p : Position) (d : List ℕ) (role : Role) → role_of p d ≡ Some role → (role ≡ Interface → ⊥) → is_interface d ≡ false
+unfolding role_of inner_role outer_role
+no_interface p d role e other =
+    of_role (p.left == 0) (nat_le (length d) p.left) (outer_role p d) (inner_role p d) role (is_interface d) e
+    (λ outer. outer_interface (slice_index d 1) (nat_le 9 (length d)) _ _ _ _ role outer)
+    (λ inner. inner_interface _ (slice_index d 1 == 4) (nat_le 9 (length d)) _ role inner other)
+
+mapped_role : (o : Option Role) (n : ℕ) (next : Role × ℕ) → option_map (λ role. (role, n)) o ≡ Some next → o ≡ Some next.0
+mapped_role None n next e = absurd (none-some next e)
+mapped_role (Some role) n next e = ap (λ (o : Option (Role × ℕ)). option_map (λ (next : Role × ℕ). next.0) o) e
+
+next_is : (p : Position) (ahead : List ℕ) (len : Option ℕ) (next : Role × ℕ) → len ≡ Some next.1
+    → option_and_then (λ n. option_map (λ role. (role, n)) (role_of p (take n ahead))) len ≡ Some next → role_of p (take next.1 ahead) ≡ Some next.0
+next_is p ahead None next is e = absurd (none-some next.1 is)
+next_is p ahead (Some n) next is e = rw (same_Some n next.1 is) at (mapped_role (role_of p (take n ahead)) n next e)
+
+next_role_is : (p : Position) (ahead : List ℕ) (next : Role × ℕ) → next_role p ahead ≡ Some next → role_of p (take next.1 ahead) ≡ Some next.0
+unfolding next_role
+next_role_is p ahead next e = next_is p ahead (descriptor_length ahead) next (next_says p ahead next e) e
+
+less_nothing : (is number : Bool) (k : ℕ) → is ≡ false → k ≡ k - (if is && number then 1 else 0)
+less_nothing false number k e = omega arith
+less_nothing true number k e = absurd (cc)
+
+-- past it nothing is left out
+pub awaits_other : (p : Position) (role : Role) (counts : List ℕ) (count : ℕ) (ahead : List ℕ) → next_role p ahead ≡ Some (role, count) → (role ≡ Interface → ⊥) → Awaits counts p.left ahead
+    → Awaits counts (p.left - count) (drop count ahead)
+awaits_other p role counts count ahead e other awaits =
+    let none : is_interface (take count ahead) ≡ false = no_interface p (take count ahead) role (next_role_is p ahead (role, count) e) other in
+    awaits_next p role counts counts count ahead e awaits (λ len. len)
+    (λ len n within. less_nothing (is_interface (take count ahead)) (slice_index (take count ahead) 2 == n) (slice_index counts n) none)
 
 -- where the bytes end, nothing comes
 pub awaits_end : (counts : List ℕ) (left : ℕ) (ahead : List ℕ) → Awaits counts left ahead → Awaits counts left []

@@ -58,16 +58,12 @@ impl InterfaceNumbers {
     fn first_missing(&self, numbers: &[u8]) -> Option<u8>
         ensures { result ≡ first_missing self.now numbers.now }
     {
-        match numbers {
-            [] => None,
-            [number, rest @ ..] => {
-                if self.has(*number) {
-                    self.first_missing(rest)
-                } else {
-                    Some(*number)
-                }
+        for number in numbers {
+            if !self.has(*number) {
+                return Some(*number);
             }
         }
+        None
     }
 
     /// The first interface that a descriptor names, behind an interface of these codes, and that isn't there.

@@ -45,7 +45,8 @@ impl LaterInterfaces {
                 let set = prefix(ahead, usize::from(word_at(ahead, 2)));
                 self.begin(after(set, count));
             }
-            _ => self.leave(prefix(ahead, count)),
+            Role::Interface => self.leave(prefix(ahead, count)),
+            _ => {}
         }
     }
 
