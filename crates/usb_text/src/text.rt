@@ -181,20 +181,19 @@ impl Text {
         self.put_long_decimal(number)
     }
 
-    /// The same of a number of more than one digit, apart so that one digit costs no call. Room is made first, so that a call
-    /// of what makes it has nothing to keep but the number.
+    /// The same of a number of more than one digit, apart so that one digit costs no call. One that is seldom put, or that there
+    /// is no room for, is left to what makes room: so this calls nothing, and has nothing to keep.
     #[inline(never)]
     #[tactic(auto, using(crate::proofs::Columns::written_behind))]
     fn put_long_decimal(&mut self, number: u64) -> Result<(), AllocError>
         requires { 10 ≤ number }
         ensures { OnOk result (self.new ≡ self.old ++ decimal number) }
     {
-        if number >= 100_000 {
-            return self.put_great_decimal(number);
+        if number < 100_000 && self.bytes.len() - self.used >= 5 {
+            self.used += overwrite_by_decimal(&mut self.bytes, self.used, number);
+            return Ok(());
         }
-        make_room(&mut self.bytes, self.used, 5)?;
-        self.used += overwrite_by_decimal(&mut self.bytes, self.used, number);
-        Ok(())
+        self.put_great_decimal(number)
     }
 
     #[inline(never)]
