@@ -1,5 +1,5 @@
 -- Bits of halted endpoints.
-use Rattle.std.proofs.Common.{◌≡◌, ◌≢◌, ℕ, zero, suc, ◌+◌, ◌<◌, ◌*◌, ◌/◌, ◌%◌, ◌^◌, ◌==◌, ◌||◌, ◌&&◌, not, Bool, true, false, List, [], ◌∷◌, ◌++◌, fold, bit_or, bit_and, inl, inr, refl, subst, arith}
+use Rattle.std.proofs.Common.{◌≡◌, ◌≢◌, ℕ, zero, suc, ◌+◌, ◌<◌, ◌*◌, ◌/◌, ◌%◌, ◌^◌, ◌==◌, ◌||◌, ◌&&◌, not, Bool, true, false, bit_or, bit_and, inl, inr, refl, subst, arith}
 use Rattle.std.proofs.lemmas.Bool.{cases_lt}
 use Rattle.std.proofs.lemmas.Bool.Decides.{nat_tests}
 use Rattle.std.proofs.lemmas.Nat.Bits.{bit_at-zero, bit_at-lt, bit_at_set_same, bit_at_set_other, bit_at_clear_same, bit_at_clear_other, same_from_bits_below}
@@ -13,11 +13,6 @@ pub one_shl : (k : ℕ) → k < 32 → 1 * 2 ^ k % 2 ^ 32 ≡ 2 ^ k
 one_shl k below =
     let one : 1 * 2 ^ k ≡ 2 ^ k = grind arith in
     rw one (mod-eq_of_lt (pow_below k 32 below))
-
--- a fold goes on where it was left
-pub fold_append : (halts : ℕ) (xs ys : List ℕ) → fold without_halt halts (xs ++ ys) ≡ fold without_halt (fold without_halt halts xs) ys
-fold_append halts [] ys = refl
-fold_append halts (x ∷ xs) ys = fold_append (without_halt halts x) xs ys
 
 -- an endpoint has one of 32 places
 place_within : (e : ℕ) → halt_place e < 32

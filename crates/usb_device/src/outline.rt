@@ -77,6 +77,7 @@ impl Outline {
     }
 
     /// Whether an interface has this number.
+    #[tactic(auto, using(crate::proofs::OutlineLemmas::numbered))]
     pub(crate) fn has_interface(&self, number: u8) -> bool
         ensures { result ≡ list_any (is_of_interface number) self.now.settings }
     {
@@ -84,6 +85,7 @@ impl Outline {
     }
 
     /// Whether an interface with this number has this alternate setting.
+    #[tactic(auto, using(crate::proofs::OutlineLemmas::named))]
     pub(crate) fn has_alternate(&self, number: u8, alternate: u8) -> bool
         ensures { result ≡ list_any (is_alternate number alternate) self.now.settings }
     {
@@ -91,6 +93,7 @@ impl Outline {
     }
 
     /// Whether a setting that is chosen has an endpoint with this address.
+    #[tactic(auto, using(crate::proofs::OutlineLemmas::chosen))]
     pub(crate) fn has_endpoint(&self, alternates: &[u8; 256], address: u8) -> bool
         ensures { result ≡ list_any (has_endpoint alternates.now address) self.now.settings }
     {
@@ -98,6 +101,7 @@ impl Outline {
     }
 
     /// The halts without those of the endpoints of all settings of an interface.
+    #[tactic(auto, using(crate::proofs::OutlineLemmas::cleared))]
     pub(crate) fn without_interface(&self, halts: u32, number: u8) -> u32
         ensures { result ≡ fold without_halt halts (interface_addresses self.now.settings number) }
     {
