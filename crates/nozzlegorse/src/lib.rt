@@ -54,8 +54,8 @@ pub mod rules {
 /// The device's end of a control pipe (USB 2.0, 8.5.3 and 9.4).
 pub mod device {
     pub use usb_device::{
-        Description, DescriptionFault, Device, DeviceStage, DeviceState, Encoded, EndpointZero, ROOM,
-        State, Unanswered, is_open, is_set_address,
+        Description, DescriptionFault, Device, DeviceStage, DeviceState, Encoded, EndpointZero,
+        ROOM, State, Unanswered, is_open, is_set_address,
     };
 }
 

@@ -5,7 +5,7 @@ ghost use Rattle.usb_file_data.specs.File.{file_bytes};
 ghost use Rattle.usb_device.specs.inside.Descriptions.{languages_of, other_count, place_in};
 
 use crate::acceptance::{DescriptionFault, examine};
-use crate::encoded_file::{add_speeds, add_strings};
+use crate::encoded_file::{add_speeds, add_strings, empty_image};
 use crate::image::{Image, Ranks};
 use crate::outline::Outline;
 use std::alloc::{AllocError, Global};
@@ -76,7 +76,7 @@ impl Encoded {
         // An accepted file has no reason to be rejected.
         ensures only { Accepted f.now s → refusal_of f.now s ≡ None }
     {
-        let mut image = Image::new(alloc);
+        let mut image = empty_image(alloc, f)?;
         let others = add_speeds(&mut image, f)?;
         let strings = image.len();
         let named = Ranks::new(named(alloc, f)?);
@@ -250,11 +250,11 @@ fn place_of(languages: &[u16], language: u16) -> Option<usize>
 fn outlines_of(alloc: Global, sets: &[Configuration]) -> Result<Sequence<Outline>, AllocError>
     ensures { IfOk result (λ them. them ≡ sets.now) }
 {
-    let mut them = Sequence::new(alloc);
+    let mut them = Vec::with_capacity(alloc, sets.len())?;
     for c in sets {
         them.push(Outline::new(alloc, c)?)?;
     }
-    Ok(them)
+    Ok(Sequence::from_vec(them))
 }
 
 /// How many sets the second speed has, if there is one.

@@ -10,10 +10,21 @@ ghost use Rattle.usb_device.specs.Descriptors.{main_descriptors, other_descripto
 
 use crate::acceptance::{DescriptionFault, has_wrong_sets};
 use crate::image::Image;
-use std::alloc::AllocError;
+use std::alloc::{AllocError, Global};
 use usb_fields::UnitFault;
 use usb_file_data::{DescriptorFile, Other, Strings, has_wrong_count, has_wrong_kind};
 use usb_set::{Configuration, EncodeFault, Sequence};
+
+/// An image for the descriptors of a file, without any.
+pub(crate) fn empty_image(alloc: Global, f: &DescriptorFile) -> Result<Image, DescriptionFault>
+    ensures ok { IfOk result (λ image. image ≡ []) }
+    ensures err { IfErr result (λ fault. (s : Speed) → Refuses f.now s fault) }
+{
+    match Image::new(alloc) {
+        Ok(image) => Ok(image),
+        Err(_) => Err(first_reason(f)),
+    }
+}
 
 /// Adds the descriptors of both speeds, and answers how many are before those of the second.
 pub(crate) fn add_speeds(image: &mut Image, f: &DescriptorFile) -> Result<usize, DescriptionFault>
@@ -28,7 +39,7 @@ pub(crate) fn add_speeds(image: &mut Image, f: &DescriptorFile) -> Result<usize,
     }
 }
 
-/// Why the sets could not be added.
+/// Why the sets could not be added: out of memory, where nothing is wrong with them.
 #[cold]
 fn first_reason(f: &DescriptorFile) -> DescriptionFault
     ensures { (s : Speed) → Refuses f.now s result }

@@ -1,7 +1,7 @@
 //! Byte strings one after another in one buffer, and the rank of each among sorted numbers.
 ghost use Rattle.std.specs.Prelude.{◌≡◌, ◌<◌, ◌≤◌, ◌==◌, length, position, IfSome};
 ghost use Rattle.usb_device.specs.inside.Ranks.{HasRanks};
-ghost use Rattle.std.specs.Prelude.{◌≡◌, ◌<◌, ◌++◌, ◌∷◌, [], false, length, slice_get, IfErr, OnErr, OnOk, Some};
+ghost use Rattle.std.specs.Prelude.{◌≡◌, ◌<◌, ◌++◌, ◌∷◌, [], false, length, slice_get, IfErr, IfOk, OnErr, OnOk, Some};
 ghost use Rattle.std.specs.List.{AllByRecursion};
 ghost use Rattle.usb_fields.specs.Bytes.{AreBytes};
 ghost use Rattle.usb_fields.specs.Units.{units_bytes, WriteUnitsFails};
@@ -89,6 +89,11 @@ struct Span {
     count: usize,
 }
 
+/// Room for the bytes of most files, and for their descriptors, a set as one.
+const BYTES: usize = 1024;
+
+const SPANS: usize = 16;
+
 /// A list of byte strings in one buffer.
 #[derive(Debug, Drop)]
 pub(crate) struct Image {
@@ -109,14 +114,14 @@ impl Model for Image {
 }
 
 impl Image {
-    /// An image without any.
-    pub(crate) fn new(alloc: Global) -> Image
-        ensures { result ≡ [] }
+    /// An image without any, with room for those of most files, so that it seldom grows.
+    pub(crate) fn new(alloc: Global) -> Result<Image, AllocError>
+        ensures { IfOk result (λ image. image ≡ []) }
     {
-        Image {
-            bytes: Vec::new(alloc),
-            spans: Vec::new(alloc),
-        }
+        Ok(Image {
+            bytes: Vec::with_capacity(alloc, BYTES)?,
+            spans: Vec::with_capacity(alloc, SPANS)?,
+        })
     }
 
     /// How many there are.

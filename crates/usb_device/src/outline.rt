@@ -158,7 +158,8 @@ fn alternates_of(alloc: Global, settings: &[Setting]) -> Result<Sequence<Alterna
 fn endpoints_of(alloc: Global, settings: &[Setting]) -> Result<Sequence<EndpointIn>, AllocError>
     ensures { IfOk result (λ them. them ≡ flat_map endpoints_in settings.now) }
 {
-    let mut them = Vec::new(alloc);
+    // Most settings that have endpoints have one or two.
+    let mut them = Vec::with_capacity(alloc, settings.len())?;
     for setting in settings {
         add_endpoints(&mut them, alternate_of(setting), &setting.endpoints)?;
     }
