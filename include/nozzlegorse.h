@@ -3,7 +3,10 @@
  * docs/callers.md says who owns what, and how a program without a C library links. In short:
  *
  *  - A pointer and its length are lent for the call. The pointer is never NULL, also where the length is 0; the length
- *    is below 2^63; what is written overlaps nothing else that is passed. A pointer to a struct is not NULL.
+ *    is below 2^63, and below 2^31 where a pointer has 32 bits; what is written overlaps nothing else that is passed. A
+ *    pointer to a struct is not NULL.
+ *  - A struct is laid out and aligned as C does it by itself. Where -fpack-struct or a pragma changes that, this header
+ *    does not compile; include it outside of that.
  *  - Apart from that a call takes any bytes, any numbers, in any order of calls.
  *  - A text or bytes go into the caller's buffer whole, or the buffer is as it was: then the status is NZG_NO_ROOM, and
  *    `length` is what is wanted. A room of 0 asks for it. No NUL is written after a text.
@@ -23,8 +26,18 @@
 extern "C" {
 #endif
 
+/* Of each length and place: 64 bits on every target, as the proofs have them. A handle's pointer has a place of eight bytes on
+ * every target, so that all structs are alike. */
+#if defined __SIZEOF_POINTER__ && __SIZEOF_POINTER__ == 4
+typedef uint64_t nzg_size __attribute__((aligned(8)));
+#define NZG_HELD void *held __attribute__((aligned(8))); uint32_t upper
+#else
+typedef size_t nzg_size;
+#define NZG_HELD void *held
+#endif
+
 /* That of `usbdesc --version`. */
-#define NZG_VERSION "0.1.0"
+#define NZG_VERSION "0.2.0-dev"
 
 enum nzg_status {
     NZG_DONE = 0,
@@ -37,7 +50,9 @@ enum nzg_status {
     NZG_NO_ROOM = 7,           /* length is wanted */
     NZG_NO_MEMORY = 8,
     NZG_CLOSED = 9,            /* the handle holds nothing */
-    NZG_BAD_ARGUMENT = 10,     /* number: 1 address, 2 attempts, 3 speed, 4 a fate, 5 a rule, 6 no string, 7 a packet size, 8 a reply */
+    NZG_BAD_ARGUMENT = 10,     /* number: 1 address, 2 attempts, 3 speed, 4 a fate, 5 a rule, 6 no string, 7 a packet size, 8 a reply,
+                                * 9 a request without data to the device, 10 data that are not wLength bytes, 11 numbers of no transfer,
+                                * 12 no packet */
     NZG_TROUBLE = 11,          /* number 1..7: why a transfer or an enumeration failed */
     NZG_UNANSWERED = 12,       /* number 1..4: why the device doesn't take the answer to a request */
     NZG_NO_BYTES = 13          /* number: why the file of a host has no bytes; a law of the library says it doesn't come */
@@ -46,15 +61,15 @@ enum nzg_status {
 struct nzg_answer {
     uint32_t status; /* enum nzg_status */
     uint32_t number;
-    size_t place;
-    size_t length; /* how many bytes were taken or written, or are wanted */
+    nzg_size place;
+    nzg_size length; /* how many bytes were taken or written, or are wanted */
 };
 
 /* The three functions by which the library takes memory. A block is aligned as asked for, at most to 16. Where `ok` is
  * false, `at` is any pointer but NULL, and the old block stays. */
 struct nzg_block { bool ok; unsigned char *at; };
-struct nzg_block rattle_alloc(size_t length, size_t align);
-struct nzg_block rattle_realloc(unsigned char *at, size_t kept, size_t length, size_t align);
+struct nzg_block rattle_alloc(nzg_size length, nzg_size align);
+struct nzg_block rattle_realloc(unsigned char *at, nzg_size kept, nzg_size length, nzg_size align);
 void rattle_dealloc(unsigned char *at);
 
 /* --- from a buffer into a buffer: what `usbdesc` writes -------------------------------------------------------- */
@@ -64,19 +79,19 @@ enum nzg_options { NZG_BRIEF = 1, NZG_PLACES = 2, NZG_UTF8 = 4, NZG_FORMATS = 8 
 enum nzg_speed { NZG_LOW = 1, NZG_FULL = 2, NZG_HIGH = 3, NZG_SUPER = 4 }; /* 0: not known; 0 and super for explain and remarks alone */
 
 /* one set where the second byte is 2 or 7, and else a file; with `any` a dump too */
-struct nzg_answer nzg_show(const uint8_t *bytes, size_t len, bool any, uint8_t *text, size_t room);
+struct nzg_answer nzg_show(const uint8_t *bytes, nzg_size len, bool any, uint8_t *text, nzg_size room);
 /* a line for each finding in a file, or `no findings`; with `any` in one set or a dump too */
-struct nzg_answer nzg_check(const uint8_t *bytes, size_t len, bool any, uint8_t *text, size_t room);
+struct nzg_answer nzg_check(const uint8_t *bytes, nzg_size len, bool any, uint8_t *text, nzg_size room);
 /* one set, a file, a dump, and also broken bytes: then the status is the fault, and the text goes as far as they do */
-struct nzg_answer nzg_explain(const uint8_t *bytes, size_t len, uint32_t options, uint8_t speed, uint8_t *text, size_t room);
+struct nzg_answer nzg_explain(const uint8_t *bytes, nzg_size len, uint32_t options, uint8_t speed, uint8_t *text, nzg_size room);
 /* with `comments` lines that are empty or begin with # are dropped, and so is a carriage return before a line feed */
-struct nzg_answer nzg_build(const uint8_t *text, size_t len, bool comments, uint8_t *bytes, size_t room);
+struct nzg_answer nzg_build(const uint8_t *text, nzg_size len, bool comments, uint8_t *bytes, nzg_size room);
 
 /* step 1 first, 2 address, 3 device, 4 header, 5 set, 6 qualifier, 7 other header, 8 other set, 9 languages, 10 text,
  * 11 configure; 0 after success */
 struct nzg_outcome { uint64_t transactions; uint8_t attempts, address, selected, step, index; uint16_t language; };
 /* fates: one letter a transaction, as for `usbdesc enumerate --fates`. The text is the listing of what was read. */
-struct nzg_answer nzg_enumerate(const uint8_t *bytes, size_t len, uint8_t speed, uint16_t naks, uint8_t attempts, const uint8_t *fates, size_t fates_len, struct nzg_outcome *outcome, uint8_t *text, size_t room);
+struct nzg_answer nzg_enumerate(const uint8_t *bytes, nzg_size len, uint8_t speed, uint16_t naks, uint8_t attempts, const uint8_t *fates, nzg_size fates_len, struct nzg_outcome *outcome, uint8_t *text, nzg_size room);
 
 /* --- descriptors as numbers: no memory is asked for ------------------------------------------------------------ */
 
@@ -90,9 +105,9 @@ enum nzg_role {
  * not apply is 0. Class, subclass and protocol are those of the interface setting that it belongs to, of a device its
  * own; endpoint is the address of the endpoint that it is or belongs to. */
 struct nzg_descriptor {
-    size_t place;             /* of its first byte */
-    size_t languages_place;   /* of the list of languages, once it came */
-    size_t endpoint_number;   /* number of the endpoint in its setting, from 0: as findings count */
+    nzg_size place;             /* of its first byte */
+    nzg_size languages_place;   /* of the list of languages, once it came */
+    nzg_size endpoint_number;   /* number of the endpoint in its setting, from 0: as findings count */
     uint64_t named[4];        /* bit i % 64 of word i / 64, i from 1 on: a descriptor so far names string i */
     uint16_t language;        /* of a string */
     uint8_t length, type;     /* bLength, bDescriptorType */
@@ -103,14 +118,14 @@ struct nzg_descriptor {
                                * owner, and what is in no set has 0 */
     uint8_t part;             /* 0 device, 1 its sets, 2 its qualifier and the sets of the other speed */
     uint8_t index;            /* of a string */
-    size_t next;              /* place of the byte after it */
-    size_t left;              /* bytes of its set after it */
-    size_t strings;           /* strings that came, it included */
-    size_t main_sets, other_sets; /* sets that came, of the device and of the other speed */
-    size_t set;               /* number of the set in its part, from 0 */
-    size_t associations, settings; /* of this set that came, it included */
-    size_t setting;           /* number of the setting in its set, from 0 */
-    size_t endpoints;         /* endpoints of this setting that came, it included */
+    nzg_size next;              /* place of the byte after it */
+    nzg_size left;              /* bytes of its set after it */
+    nzg_size strings;           /* strings that came, it included */
+    nzg_size main_sets, other_sets; /* sets that came, of the device and of the other speed */
+    nzg_size set;               /* number of the set in its part, from 0 */
+    nzg_size associations, settings; /* of this set that came, it included */
+    nzg_size setting;           /* number of the setting in its set, from 0 */
+    nzg_size endpoints;         /* endpoints of this setting that came, it included */
     uint8_t interface_, alternate, class_, subclass, protocol;
     uint8_t endpoint;         /* bEndpointAddress */
     uint8_t below;            /* depth of a raw one that comes next, and the role of its owner */
@@ -120,43 +135,79 @@ struct nzg_descriptor {
 
 /* The first descriptor after {0}, or the one after it. False where none can stand there: nothing changes then. Of bytes
  * that nzg_judge takes it goes to their end; of others as far as they can be read. */
-bool nzg_next(const uint8_t *bytes, size_t len, struct nzg_descriptor *descriptor);
+bool nzg_next(const uint8_t *bytes, nzg_size len, struct nzg_descriptor *descriptor);
 
 struct nzg_field {
-    size_t place;       /* of its first byte */
+    nzg_size place;       /* of its first byte */
     uint64_t value;     /* of a field of at most eight bytes, little-endian; else 0 */
     uint8_t width;      /* bytes */
     uint8_t name_length;
     uint8_t name[62];   /* as in the standard of its descriptor; the bytes after it are 0 */
 };
 /* The n-th field of a descriptor, from 0. False where it has none, or is none of these bytes: nothing changes then. */
-bool nzg_field(const uint8_t *bytes, size_t len, const struct nzg_descriptor *descriptor, size_t n, struct nzg_field *field);
+bool nzg_field(const uint8_t *bytes, nzg_size len, const struct nzg_descriptor *descriptor, nzg_size n, struct nzg_field *field);
 
 /* --- facts about bytes; these ask for memory ----------------------------------------------------------------------- */
 
 /* what the bytes are: done, and number 1 a set, 2 a descriptor file, 3 a dump; or the fault */
-struct nzg_answer nzg_judge(const uint8_t *bytes, size_t len);
+struct nzg_answer nzg_judge(const uint8_t *bytes, nzg_size len);
 
 struct nzg_finding {
-    size_t place;                  /* of the descriptor that breaks the rule */
-    size_t set, setting, endpoint; /* the numbers of `usbdesc check`, from 0 */
+    nzg_size place;                  /* of the descriptor that breaks the rule */
+    nzg_size set, setting, endpoint; /* the numbers of `usbdesc check`, from 0 */
     uint8_t rule, part, role;      /* 1 to 13; as in nzg_descriptor */
 };
 /* Each broken rule, in the order of the bytes, or the fault of nzg_judge. Room and length count findings. */
-struct nzg_answer nzg_findings(const uint8_t *bytes, size_t len, struct nzg_finding *found, size_t room);
+struct nzg_answer nzg_findings(const uint8_t *bytes, nzg_size len, struct nzg_finding *found, nzg_size room);
 struct nzg_remark {
-    size_t place;                  /* of the descriptor on which it is */
-    size_t set, setting, endpoint; /* as in nzg_finding */
+    nzg_size place;                  /* of the descriptor on which it is */
+    nzg_size set, setting, endpoint; /* as in nzg_finding */
     uint8_t number, part, role;    /* of the table of remarks in docs/formats.md, from 1; as in nzg_descriptor */
 };
 /* The same of remarks, which break no rule: those of `usbdesc check --remarks`. The speed is that at which the device ran. */
-struct nzg_answer nzg_remarks(const uint8_t *bytes, size_t len, uint8_t speed, struct nzg_remark *remarks, size_t room);
+struct nzg_answer nzg_remarks(const uint8_t *bytes, nzg_size len, uint8_t speed, struct nzg_remark *remarks, nzg_size room);
 /* what breaks a rule from 1 to 13, in words, as in docs/formats.md; this asks for no memory */
-struct nzg_answer nzg_rule(uint8_t rule, uint8_t *text, size_t room);
+struct nzg_answer nzg_rule(uint8_t rule, uint8_t *text, nzg_size room);
 /* A string, as UTF-8 with escapes as by `usbdesc explain --utf8`. Role, place and length say where it stands. */
-struct nzg_answer nzg_text(const uint8_t *bytes, size_t len, const struct nzg_descriptor *string, uint8_t *text, size_t room);
+struct nzg_answer nzg_text(const uint8_t *bytes, nzg_size len, const struct nzg_descriptor *string, uint8_t *text, nzg_size room);
 /* a dump as a descriptor file, with the strings that `usbdesc enumerate --with-strings` puts; a file stays as it is */
-struct nzg_answer nzg_with_strings(const uint8_t *dump, size_t len, uint8_t *file, size_t room);
+struct nzg_answer nzg_with_strings(const uint8_t *dump, nzg_size len, uint8_t *file, nzg_size room);
+
+/* --- packets of the bus, from PID to CRC: no memory is asked for -------------------------------------------------- */
+
+/* the first byte of a packet: the four bits of its PID, and above them their complement. PRE and ERR are one. */
+enum nzg_pid {
+    NZG_PID_OUT = 0xe1, NZG_PID_IN = 0x69, NZG_PID_SOF = 0xa5, NZG_PID_SETUP = 0x2d, NZG_PID_DATA0 = 0xc3, NZG_PID_DATA1 = 0x4b,
+    NZG_PID_DATA2 = 0x87, NZG_PID_MDATA = 0x0f, NZG_PID_ACK = 0xd2, NZG_PID_NAK = 0x5a, NZG_PID_STALL = 0x1e, NZG_PID_NYET = 0x96,
+    NZG_PID_PRE = 0x3c, NZG_PID_SPLIT = 0x78, NZG_PID_PING = 0xb4
+};
+/* Why bytes are no packet, which a receiver ignores (8.7.1): the first that holds. */
+enum nzg_damage {
+    NZG_UNDAMAGED = 0,
+    NZG_EMPTY = 1,      /* no byte */
+    NZG_PID_CHECK = 2,  /* the upper bits of the first byte aren't the complement of the lower ones (8.3.1) */
+    NZG_RESERVED = 3,   /* the PID 0000 */
+    NZG_LENGTH = 4,     /* another number of bytes than a packet with this PID has: with data at most 1,024 and three */
+    NZG_CRC5 = 5,       /* of a token, SOF or SPLIT (8.3.5.1) */
+    NZG_CRC16 = 6       /* of data (8.3.5.2) */
+};
+/* What a packet does not have is 0. */
+struct nzg_packet_fields {
+    uint32_t split;             /* of SPLIT its 19 bits: 6..0 the hub, 7 SC, 14..8 the port, 15 S, 16 E, 18..17 ET */
+    uint16_t frame;             /* of SOF */
+    uint16_t place, length;     /* of data: where they are among its bytes, and how many */
+    uint8_t pid;                /* enum nzg_pid */
+    uint8_t address, endpoint;  /* of OUT, IN, SETUP and PING */
+};
+/* enum nzg_damage. Of damaged bytes the struct stays as it was. */
+uint8_t nzg_packet_parse(const uint8_t *bytes, nzg_size len, struct nzg_packet_fields *packet);
+/* The bytes with their CRC, at most 1,027. Of the struct what the packet has is looked at, but for place and length: the data of a data
+ * packet are given. A PID that is none, a field that does not fit, or more than 1,024 bytes of data are a bad argument. */
+struct nzg_answer nzg_packet_write(const struct nzg_packet_fields *packet, const uint8_t *data, nzg_size len, uint8_t *bytes, nzg_size room);
+/* of the lowest `width` bits of a number, 32 at most: 11 in a token and in SOF, 19 in SPLIT, above which it stands in the packet */
+uint8_t nzg_crc5(uint32_t fields, uint32_t width);
+/* of data, after which it is sent, the low byte first */
+uint16_t nzg_crc16(const uint8_t *bytes, nzg_size len);
 
 /* --- transactions ------------------------------------------------------------------------------------------------ */
 
@@ -173,21 +224,22 @@ struct nzg_setup { uint8_t bytes[8]; };
 
 /* --- the device end: only _open asks for memory -------------------------------------------------------------------- */
 
-struct nzg_device { void *held; };
+struct nzg_device { NZG_HELD; };
 struct nzg_state { uint32_t halts; uint8_t address, selected; bool wakeup; uint8_t alternates[256]; };
 
-struct nzg_answer nzg_device_open(struct nzg_device *device, const uint8_t *file, size_t len, uint8_t speed);
+struct nzg_answer nzg_device_open(struct nzg_device *device, const uint8_t *file, nzg_size len, uint8_t speed);
 bool nzg_device_reset(struct nzg_device *device);
 /* False where nothing is held, or where the stage or the toggle of OUT has no meaning: the packet is then as it was. */
-bool nzg_device_serve(struct nzg_device *device, const struct nzg_transaction *transaction, const uint8_t *data, size_t len, bool ready, struct nzg_packet *packet);
+bool nzg_device_serve(struct nzg_device *device, const struct nzg_transaction *transaction, const uint8_t *data, nzg_size len, bool ready, struct nzg_packet *packet);
 bool nzg_device_acked(struct nzg_device *device);
 /* The request that is refused, before the host is answered; an answer to it; and the request that was carried out. Accepted is a
  * request without data, one whose data go to the device, at most 512 bytes, and then the write once all of them have come. */
 bool nzg_device_refused(struct nzg_device *device, struct nzg_setup *setup);
-struct nzg_answer nzg_device_answer_with(struct nzg_device *device, const uint8_t *bytes, size_t len);
+struct nzg_answer nzg_device_answer_with(struct nzg_device *device, const uint8_t *bytes, nzg_size len);
 struct nzg_answer nzg_device_accept(struct nzg_device *device);
-/* The write whose data have all come and that wasn't answered yet, and those data; open where there is none. */
-struct nzg_answer nzg_device_written(struct nzg_device *device, struct nzg_setup *setup, uint8_t *data, size_t room);
+/* The write whose data have all come and that wasn't answered yet, and those data; open where there is none. With no room for the
+ * data the setup is written all the same. */
+struct nzg_answer nzg_device_written(struct nzg_device *device, struct nzg_setup *setup, uint8_t *data, nzg_size room);
 /* STALL until the next SETUP, where the device itself rejects the request, and its status stage wasn't answered yet. */
 bool nzg_device_refuse(struct nzg_device *device);
 bool nzg_device_carried_out(struct nzg_device *device, struct nzg_setup *setup);
@@ -200,35 +252,68 @@ enum nzg_difference {
     NZG_NOT_TAKEN = 1,  /* no ACK of a SETUP (8.4.6.4) */
     NZG_ADDRESS = 2,    /* an answer at another address, or none at its own: a new one holds after the status stage (9.4.6) */
     NZG_TOGGLE = 3,     /* DATA0 for DATA1 or the reverse: DATA1 is first, and each packet that is acknowledged flips it (8.5.3, 8.6) */
-    NZG_NOT_EMPTY = 4,  /* no empty packet, after a whole multiple of the packet size (8.5.3.2) or as the status (8.5.3.1) */
-    NZG_BYTES = 5,      /* other bytes (8.5.3.2, 9.4) */
-    NZG_STALLED = 6,    /* STALL of a request that the device has (9.4) */
+    NZG_NOT_EMPTY = 4,  /* another packet for an empty one, after whole ones (8.5.3.2) or as the status (8.5.3.1) */
+    NZG_BYTES = 5,      /* other bytes (8.5.3.2, 9.4), or more or fewer than may come (8.5.3, 8.6.4) */
+    NZG_STALLED = 6,    /* STALL of a request that the device has, or has carried out (9.4) */
     NZG_NOT_STALLED = 7, /* no STALL of a request that it does not have, or before the SETUP after one (9.2.7, 8.5.3.4) */
     NZG_OTHER_PACKET = 8, /* data for OUT, or an ACK for IN (8.4.6.1, 8.4.6.3) */
     NZG_NOT_JUDGED = 9  /* nothing is held, or a stage, a toggle, a reply or a length above 64 has no meaning: nothing changes */
 };
+/* What such a device has answered in the transfer of a request that is open to it: zeroed at first. A SETUP begins it anew. */
+struct nzg_open_transfer { uint16_t acknowledged, sent; uint8_t last, stage; };
 /* A device under test was sent this in the transfer of this request, and that came. The device here has the same, and is ready
- * where the other one was: its answer goes into `has`. Of what came is allowed: the same; anything in the transfer of a request
- * that this one refuses and its owner may answer; and a status of a device that differs in bit 0 (9.4.5). */
-uint8_t nzg_judge_device(struct nzg_device *device, const struct nzg_setup *request, const struct nzg_transaction *transaction, const uint8_t *data, size_t len, const struct nzg_packet *came, struct nzg_packet *has);
+ * where the other one was: its answer goes into `has`. Of what came is allowed: the same; a status of a device that differs in
+ * bit 0 (9.4.5); and what keeps chapter 8 where this one refuses the request and its owner may answer it, or a device may do either
+ * (SET_INTERFACE of the only setting, 9.4.10; halts of endpoint zero and of isochronous ones, 9.4.5): `open` follows that. */
+uint8_t nzg_judge_device(struct nzg_device *device, struct nzg_open_transfer *open, const struct nzg_setup *request, const struct nzg_transaction *transaction, const uint8_t *data, nzg_size len, const struct nzg_packet *came, struct nzg_packet *has);
+/* The host's ACK of the packet that was judged right before has reached the device: with nzg_device_acked. */
+void nzg_judge_acked(struct nzg_open_transfer *open);
 
-/* --- the host end: one control transfer; only _open asks for memory ------------------------------------------------ */
+/* --- the host end: one control transfer as numbers: no memory is asked for ------------------------------------------ */
 
-struct nzg_transfer { void *held; };
+enum nzg_transfer_stage {
+    NZG_AT_SETUP = 0, NZG_AT_DATA_IN = 1, NZG_AT_DATA_OUT = 2, NZG_AT_STATUS_OUT = 3, NZG_AT_STATUS_IN = 4, NZG_COMPLETED = 5, NZG_FAILED = 6
+};
 
-/* address: 0 to 127; packet: bMaxPacketSize0, 1 to 255; naks: how many NAKs without progress are taken. After a fault the
- * handle is as it was. */
+/* A transfer with its state, so a copy is a place to come back to. Any numbers are safe. They are those of a transfer where each
+ * is in its range, and {0} is none. */
+struct nzg_transfer {
+    uint16_t naks;      /* how many NAKs without progress are taken */
+    uint16_t nak_count; /* NAKs since the last progress: at most naks */
+    uint16_t kept;      /* bytes of the data stage that came, or that the device has acknowledged: at most wLength */
+    uint8_t address;
+    uint8_t packet;     /* bMaxPacketSize0: 1 to 255 */
+    uint8_t stage;      /* enum nzg_transfer_stage */
+    uint8_t why;        /* after NZG_FAILED the number of the trouble, 1 to 7; else 0 */
+    uint8_t toggle;     /* that of the next data packet: 0 or 1 */
+    uint8_t strikes;    /* losses since the last progress: at most 2 */
+    uint8_t setup[8];   /* the request */
+};
+
+/* Begins a transfer. address: 0 to 127; packet: 1 to 255. After a bad argument the transfer is as it was. */
 struct nzg_answer nzg_transfer_open(struct nzg_transfer *transfer, uint8_t address, uint8_t packet, uint16_t naks, const struct nzg_setup *setup);
-/* False once it has ended, or where nothing is held: the transaction is then as it was. */
-bool nzg_transfer_next(struct nzg_transfer *transfer, struct nzg_transaction *transaction);
+/* False once it has ended, or where the numbers are of no transfer: the transaction is then as it was. An OUT is empty;
+ * nzg_write_next has data. */
+bool nzg_transfer_next(const struct nzg_transfer *transfer, struct nzg_transaction *transaction);
 /* open: it goes on, and the first `length` of these bytes, all or none, are new; done; trouble with its number. A reply, or a
- * toggle of NZG_DATA, that has no meaning is a bad argument: nothing changes then. */
-struct nzg_answer nzg_transfer_take(struct nzg_transfer *transfer, uint8_t reply, uint8_t toggle, const uint8_t *data, size_t len);
-void nzg_transfer_close(struct nzg_transfer *transfer);
+ * toggle of NZG_DATA, that has no meaning, or numbers of no transfer are a bad argument: nothing changes then. */
+struct nzg_answer nzg_transfer_take(struct nzg_transfer *transfer, uint8_t reply, uint8_t toggle, const uint8_t *data, nzg_size len);
+
+/* --- the host end: one write, a control transfer with data to the device, as numbers: no memory is asked for ------------- */
+
+struct nzg_write { struct nzg_transfer transfer; };
+
+/* As nzg_transfer_open; a request without data to the device is a bad argument. */
+struct nzg_answer nzg_write_open(struct nzg_write *write, uint8_t address, uint8_t packet, uint16_t naks, const struct nzg_setup *setup);
+/* Done: of these wLength bytes a data packet has `length` from `place` on. Open once it has ended: the transaction is then as it
+ * was, and so where the numbers are of no transfer, or the bytes are not wLength, which are bad arguments. */
+struct nzg_answer nzg_write_next(const struct nzg_write *write, const uint8_t *data, nzg_size len, struct nzg_transaction *transaction);
+/* As nzg_transfer_take. */
+struct nzg_answer nzg_write_take(struct nzg_write *write, uint8_t reply, uint8_t toggle, const uint8_t *data, nzg_size len);
 
 /* --- the host end: _open, _take and _outcome ask for memory ---------------------------------------------------------- */
 
-struct nzg_host { void *held; };
+struct nzg_host { NZG_HELD; };
 enum nzg_action { NZG_RESET = 0, NZG_SEND = 1, NZG_ENDED = 2, NZG_NONE = 3 };
 struct nzg_trouble { uint8_t why, step, index; uint16_t language; };
 /* step and index and language as in nzg_outcome; naks so far in a row, bytes kept so far, strikes: losses in a row */
@@ -239,22 +324,53 @@ struct nzg_answer nzg_host_open(struct nzg_host *host, uint8_t address, uint16_t
 uint8_t nzg_host_next(struct nzg_host *host, struct nzg_transaction *transaction);
 bool nzg_host_reset_done(struct nzg_host *host);
 /* False where nothing is held, or where the reply or the toggle of NZG_DATA has no meaning: nothing changes then. */
-bool nzg_host_take(struct nzg_host *host, uint8_t reply, uint8_t toggle, const uint8_t *data, size_t len);
+bool nzg_host_take(struct nzg_host *host, uint8_t reply, uint8_t toggle, const uint8_t *data, nzg_size len);
 /* The request that the host makes now, for a log; false where there is none, and the step is then as it was. */
 bool nzg_host_step(struct nzg_host *host, struct nzg_step *step);
 uint8_t nzg_host_attempts(struct nzg_host *host);
-struct nzg_answer nzg_host_outcome(struct nzg_host *host, struct nzg_trouble *trouble, uint8_t *file, size_t room);
+struct nzg_answer nzg_host_outcome(struct nzg_host *host, struct nzg_trouble *trouble, uint8_t *file, nzg_size room);
 void nzg_host_close(struct nzg_host *host);
 
 /* --- a set in pieces -------------------------------------------------------------------------------------------------- */
 
-struct nzg_decoder { void *held; };
+struct nzg_decoder { NZG_HELD; };
 
 struct nzg_answer nzg_decoder_open(struct nzg_decoder *decoder);
-struct nzg_answer nzg_decoder_feed(struct nzg_decoder *decoder, const uint8_t *piece, size_t len);
+struct nzg_answer nzg_decoder_feed(struct nzg_decoder *decoder, const uint8_t *piece, nzg_size len);
 /* also closes the decoder, whatever it answers */
-struct nzg_answer nzg_decoder_list(struct nzg_decoder *decoder, uint8_t *text, size_t room);
+struct nzg_answer nzg_decoder_list(struct nzg_decoder *decoder, uint8_t *text, nzg_size room);
 void nzg_decoder_close(struct nzg_decoder *decoder);
+
+/* --- sizes, on every target ---------------------------------------------------------------------------------------- */
+
+#if defined __cplusplus && __cplusplus >= 201103L
+#define NZG_SIZE(name, size) static_assert(sizeof(struct name) == size, "nozzlegorse.h is included where structs are packed")
+#elif defined __STDC_VERSION__ && __STDC_VERSION__ >= 201112L
+#define NZG_SIZE(name, size) _Static_assert(sizeof(struct name) == size, "nozzlegorse.h is included where structs are packed")
+#else
+#define NZG_SIZE(name, size) typedef char name##_size[sizeof(struct name) == size ? 1 : -1]
+#endif
+NZG_SIZE(nzg_answer, 24);
+NZG_SIZE(nzg_outcome, 16);
+NZG_SIZE(nzg_descriptor, 168);
+NZG_SIZE(nzg_field, 80);
+NZG_SIZE(nzg_finding, 40);
+NZG_SIZE(nzg_remark, 40);
+NZG_SIZE(nzg_packet_fields, 16);
+NZG_SIZE(nzg_transaction, 11);
+NZG_SIZE(nzg_packet, 67);
+NZG_SIZE(nzg_open_transfer, 6);
+NZG_SIZE(nzg_state, 264);
+NZG_SIZE(nzg_transfer, 20);
+NZG_SIZE(nzg_write, 20);
+NZG_SIZE(nzg_trouble, 6);
+NZG_SIZE(nzg_step, 18);
+NZG_SIZE(nzg_setup, 8);
+NZG_SIZE(nzg_device, 8);
+NZG_SIZE(nzg_host, 8);
+NZG_SIZE(nzg_decoder, 8);
+#undef NZG_SIZE
+#undef NZG_HELD
 
 #ifdef __cplusplus
 }

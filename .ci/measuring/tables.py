@@ -183,6 +183,11 @@ def explanations():
     yield "9,330 findings", explained(shape("endpoints", 9359), 2, 4)
 
 
+def packets():
+    yield "`crc16`", [a_byte("crc", LONGEST, 100, 1100, 1.2)]
+    yield "`write`, then `parse`", [a_byte("packet-read", LONGEST, 100, 1100, 1.2)]
+
+
 def hexadecimal():
     for form in ("array", "hexdump", "wireshark", "xxd"):
         yield f"keyboard, {form}", [a_byte("hexadecimal", f"{KEYBOARD}.{form}", 100, 1100)]
@@ -198,4 +203,5 @@ def tables():
     yield Table("enumerations", "Whole enumeration", ["Each transaction"], list(enumerations()))
     yield Table("walk", "Input", ["`nzg_next`"], list(walks()))
     yield Table("explanations", "Input", ["`explain`"], list(explanations()))
+    yield Table("packets", "Work", ["1,024 bytes of data"], list(packets()))
     yield Table("hexadecimal", "Text", ["`parse`"], list(hexadecimal()))

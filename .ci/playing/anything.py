@@ -10,7 +10,7 @@ import sys
 import threading
 
 import nozzlegorse as usb
-from nozzlegorse import ends
+from nozzlegorse import ends, packets
 
 FILE = usb.build("device 0110 00 00 00 08 1234 5678 0100 00 00 00 01\nconfiguration 01 01 00 80 32 -\ninterface 00 00 00 ff 00 00 00 -\n")
 
@@ -27,17 +27,18 @@ class Odd(int):
     __ge__ = __le__
 
 
-SOME = [None, True, 5, -1, 128, 256, 257, 65536, 1 << 70, 1.5, float("nan"), "", "full", "super", "in", "duan", "ä\ud800", b"", b"\x09\x02", FILE, FILE[18:], bytes(8), bytes(300), bytearray(b"\x12\x01"),
+REPORT = bytes.fromhex("2109000200000100")
+SOME = [REPORT, None, True, 5, -1, 128, 256, 257, 65536, 1 << 70, 1.5, float("nan"), "", "full", "super", "in", "duan", "ä\ud800", b"", b"\x09\x02", FILE, FILE[18:], bytes(8), bytes(300), bytearray(b"\x12\x01"),
         memoryview(b"abcdefgh"), memoryview(bytes(64))[::3], [], [9, 2], {}, (), object(), Odd(3), len, usb.Device, ends.ACK, ends.NAK, ends.Reply("data", 1, bytes(100)),
         ends.Transaction(0, "in"), ends.Transaction(0, "out", toggle=1), ends.Transaction.setup(0, bytes.fromhex("8006000100001200"))]
-MAKES = [usb.Decoder, ends.Device, ends.Host, ends.Transfer]
+MAKES = [usb.Decoder, ends.Device, ends.Host, ends.Transfer, ends.Write]
 CALLS = [getattr(usb, name) for name in ("read", "walk", "check", "remarks", "judge", "show", "build", "explain", "enumerate", "with_strings", "message")]
-CALLS += [ends.Transaction, ends.Transaction.setup, ends.Reply, *MAKES]
+CALLS += [ends.Transaction, ends.Transaction.setup, ends.Reply, packets.Packet, packets.parse, packets.crc5, packets.crc16, *MAKES]
 raised = collections.Counter()
 
 
 def names_of(it):
-    return [name for name in dir(it) if not name.startswith("_")] + ["__copy__", "__repr__", "__enter__", "__exit__", "__init__"]
+    return [name for name in dir(it) if not name.startswith("_") or name in ("__copy__", "__repr__", "__enter__", "__exit__", "__init__")]
 
 
 class Player:
@@ -56,7 +57,7 @@ class Player:
             repr(made), str(made), list(made) if hasattr(made, "__next__") else None
         elif what == 1:
             at = self.rng.randrange(len(MAKES))
-            self.held[at] = MAKES[at](*self.rng.choice((self.words(), [], [FILE], [bytes(8)])))
+            self.held[at] = MAKES[at](*self.rng.choice((self.words(), [], [FILE], [bytes(8)], [REPORT])))
         elif what == 2 and self.rng.random() < .3:
             self.of_descriptor(self.rng.choice(list(usb.walk(self.rng.choice((FILE, FILE[18:], bytes(300))))) or [None]))
         else:
@@ -76,7 +77,7 @@ class Player:
 
 
 def main(count):
-    held = [usb.Decoder(), ends.Device(FILE), ends.Host(), ends.Transfer(bytes(8))]
+    held = [usb.Decoder(), ends.Device(FILE), ends.Host(), ends.Transfer(bytes(8)), ends.Write(REPORT)]
     Player(0, held).play(count)
     wrong = []
     threading.excepthook = wrong.append

@@ -12,7 +12,7 @@ from enumerating import named, word  # noqa: E402
 # These are asked of the libraries, by the program crates/examples.
 OF_LIBRARIES = set(
     "setup device qualifier endpoint units write_units set feed encode file write assemble named failing_reads"
-    " failing_writes failing_write failing_flush".split()
+    " failing_writes failing_write failing_flush packet changed_packet write_packet crc5 crc16".split()
 )
 
 

@@ -20,11 +20,12 @@ def text_of(path):
 def of_c(text):
     """What a text of C declares: the fields of structs, and the types of calls."""
     text = re.sub(r"/\*.*?\*/|^\s*#.*?$", "", text, flags=re.S | re.M)
+    # What lengths and handles are where a pointer has 64 bits.
+    text = text.replace("nzg_size", "size_t").replace("NZG_HELD", "void *held")
     found = {}
     for name, body in re.findall(r"struct (nzg_(?!block)\w+) \{(.*?)\};", text, re.S):
         found[f"struct {name}"] = []
-        for line in filter(None, map(str.strip, body.split(";"))):
-            kind, declared = line.split(maxsplit=1)
+        for kind, declared in re.findall(r"((?:struct )?\w+) ([^;]+);", body):
             found[f"struct {name}"] += [(field, f"{kind}{' *' * bool(star)}{count}") for star, field, count in re.findall(r"(\*?)(\w+)(\[\d+\])?", declared)]
     for result, name, parameters in re.findall(r"((?:struct )?\w+) (nzg_\w+)\(([^)]*)\);", text):
         types = [" ".join(re.findall(r"const|struct|\*|\b(?:nzg_|u?int\d|size_t|bool)\w*", it)) for it in parameters.split(",")]

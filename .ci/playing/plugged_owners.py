@@ -3,6 +3,7 @@ runs it.
 
     plugged_owners.py USBDESC
 """
+import collections
 import re
 import struct
 import subprocess
@@ -53,6 +54,20 @@ def serial_line():
         waits = host.submit(1, 512)
         host.write(2, b"again")
         same("an echo", host.returned(), (waits, 0, b"again"))
+        # As Linux has it for `cat`: writes of 10,240 bytes at most, and sixteen INs of two packets that wait.
+        data = bytes(place * 7 % 251 for place in range(20_000))
+        waits = collections.deque(host.submit(1, 1024) for _ in range(16))
+        host.outs = [host.submit(2, len(piece), data=piece) for piece in (data[:10_240], data[10_240:])]
+        came, outs = b"", 0
+        while len(came) < len(data) or outs < 2:
+            number, status, piece = host.returned()
+            if number in host.outs:
+                outs += 1
+                continue
+            same("20,000 bytes in order", (number, status, len(piece) <= 1024), (waits.popleft(), 0, True))
+            came += piece
+            waits.append(host.submit(1, 1024))
+        same("an echo of 20,000 bytes", came, data)
 
 
 def checksum(data):
@@ -100,13 +115,13 @@ def rndis():
 def disk():
     file, ended = "testdata/binding/gadget-storage.file", []
 
-    def command(words, wanted, is_in, *data):
+    def command(words, wanted, is_in, *data, in_reads=1):
         """A command: what it reads, and how it ended, which is how many bytes are left and the status."""
         ended.append(0)
         host.write(2, b"USBC" + struct.pack("<IIBBB", len(ended), wanted, is_in << 7, 0, len(words) // 2) + bytes.fromhex(words).ljust(16, b"\0"))
         for piece in data:
             host.write(2, piece)
-        came = host.read(1, wanted) if is_in and wanted else b""
+        came = b"".join(host.read(1, wanted // in_reads) for _ in range(in_reads)) if is_in and wanted else b""
         signature, tag, left, status = struct.unpack("<4sIIB", host.read(1, 13))
         same("the disk", (signature, tag), (b"USBS", len(ended)))
         return came, left, status
@@ -123,6 +138,10 @@ def disk():
         blocks[63] = b"".join(b"last"[at : at + 1] * 128 for at in range(4))
         same("64 blocks", [command(f"280000{number:06x}00000100", 512, True) for number in range(64)], [(block, 0, 0) for block in blocks])
         same("64 blocks", command("28000000000000004000", 64 * 512, True), (b"".join(blocks), 0, 0))
+        for count in (1, 2, 8):
+            same("reads of 4 KB", command("28000000000000000800", 4096, True, in_reads=count), (b"".join(blocks[:8]), 0, 0))
+        # Fewer blocks than the host has room for: an empty packet ends them.
+        same("less than is wanted", command("28000000000000000100", 1024, True), (blocks[0], 512, 0))
         same("past the end", [command("28000000004000000100", 512, True), command("030000001200", 18, True)[0][2]], [(b"", 512, 1), 5])
 
 

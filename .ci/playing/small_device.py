@@ -23,7 +23,7 @@ class SmallDevice:
         self.reset()
 
     def reset(self):
-        self.address = self.selected = 0
+        self.address = self.selected = self.wakes = 0
         self.new_address, self.stage, self.data, self.toggle, self.sent = None, "halted", b"", 1, None
         self.alternates, self.halts = {}, set()
 
@@ -65,12 +65,18 @@ class SmallDevice:
         chosen = [it for it in self.settings() if it.alternate == self.alternates.get(it.interface, 0)]
         has_endpoint = index in [it.address for setting in chosen for it in setting.endpoints]
         match q[0], q[1]:
-            case 0x80, 6 if length:
-                return self.described(q, index)
+            case 0x80, 6:
+                found = self.described(q, index)
+                return found if length or found is None else lambda: None
             case 0x80, 0 if self.address and (value, index, length) == (0, 0, 2):
-                return bytes([self.sets[0].data[7] >> 6 & 1, 0])
-            case 0x82, 0 if has_endpoint and length == 2:
+                shown = next((it for it in self.sets if it.value == self.selected), self.sets[0])
+                return bytes([shown.data[7] >> 6 & 1 | self.wakes << 1, 0])
+            case 0x81, 0 if length == 2 and not value and any(it.interface == index for it in chosen):
+                return bytes(2)
+            case 0x82, 0 if length == 2 and not value and (has_endpoint or self.address and index in (0, 0x80)):
                 return bytes([index in self.halts, 0])
+            case 0, (1 | 3) as request if self.address and (value, index, length) == (1, 0, 0) and any(it.data[7] >> 5 & 1 for it in self.sets):
+                return lambda: setattr(self, "wakes", request >> 1)
             case 0x80, 8 if self.address and length == 1:
                 return bytes([self.selected])
             case 0x81, 10 if length == 1 and any(it.interface == index for it in chosen):
@@ -80,12 +86,17 @@ class SmallDevice:
             case 0, 9 if self.address and value in [0, *(it.value for it in self.sets)]:
                 return lambda: (setattr(self, "selected", value), self.alternates.clear(), self.halts.clear())
             case 1, 11 if any((it.interface, it.alternate) == (index, value) for it in self.settings()):
-                return lambda: self.alternates.update({index: value})
+                return lambda: self.chosen(index, value)
             case 2, 3 if has_endpoint and value == 0:
                 return lambda: self.halts.add(index)
             case 2, 1 if has_endpoint and value == 0:
                 return lambda: self.halts.discard(index)
         return None
+
+    def chosen(self, interface, alternate):
+        """Another setting of an interface: none of its endpoints is halted."""
+        self.alternates[interface] = alternate
+        self.halts -= {it.address for setting in self.settings() if setting.interface == interface for it in setting.endpoints}
 
     def input(self):
         if self.stage == "status in":

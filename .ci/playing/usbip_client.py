@@ -50,6 +50,13 @@ class Served:
     def text(self):
         return bytes_of(self.out.name).decode()
 
+    def settled(self):
+        """What is printed, once nothing more has come for a while."""
+        text = None
+        while text != (text := self.text()):
+            time.sleep(0.3)
+        return text
+
     def printed(self, pattern):
         """What fits a pattern in what is printed, once it is."""
         until = time.monotonic() + SECONDS

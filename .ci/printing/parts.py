@@ -4,7 +4,7 @@ import glob
 import os
 import re
 
-from . import definitions, drawing, fields, files, measured, promises, reach, rules, sources, variants
+from . import definitions, drawing, fields, files, measured, processors, promises, reach, rules, sources, variants
 
 PART = re.compile(r"(<!-- printed: (\w+)([^>]*?) -->\n)(.*?)(<!-- end -->)", flags=re.S)
 
@@ -81,6 +81,7 @@ KINDS = {
     "counts": of_counts,
     "crates": drawing.printed,
     "measured": measured.printed,
+    "processors": processors.printed,
 }
 
 

@@ -28,13 +28,17 @@ def printed(path, name):
 
 
 # What is put in a line beside words, and how a table shows it.
-PUT = {"put_decimal": "N", "put_a_type": "a TYPE", "put_sizes": "SIZES", "speed.words": "SPEED"}
+PUT = {
+    **{"put_decimal": "N", "put_release": "N.NN", "put_word_code": "0xNNNN", "put_size_found": "wMaxPacketSize is N bytes"},
+    **{"put_sizes": "SIZES", "speed.words": "SPEED", "packet_section": " (SECTION)"},
+}
 
 
 def texts_of(arm):
-    """The texts that an arm puts: one of its words and numbers, and one of each that it names."""
+    """The texts that an arm puts: one of its words and numbers, and one of each that it names or that it puts else."""
     texts, arm = [""], re.sub(r'if [^{]*\{ "[^"]*" \} else', "", arm)
-    for named, count, unit, word, value in re.findall(r'(let \w+ = )|(put_count)\([^"]*"(\w+)"|"([^"]*)"|(put_decimal|put_a_type|put_sizes|speed\.words)\(', arm):
+    values = "|".join(map(re.escape, PUT))
+    for named, count, unit, word, value in re.findall(rf'(let \w+ = |\}} else \{{)|(put_count)\([^"]*"(\w+)"|"([^"]*)"|({values})\(', arm):
         if named:
             texts.append("")
         texts[-1] += f"N {unit}s" if count else word or PUT.get(value, "")

@@ -40,18 +40,18 @@ static struct nzg_block take(struct piece *p) {
     return (struct nzg_block){true, (unsigned char *)(p + 1)};
 }
 
-struct nzg_block rattle_alloc(size_t length, size_t align) {
+struct nzg_block rattle_alloc(nzg_size length, nzg_size align) {
     (void)align;
     pool_calls++;
     struct piece *p = &pool.first;
     if (!p->length) p->length = POOL - sizeof *p;
     if (length > POOL || pool_allowed == 0) return (struct nzg_block){false, &nothing};
     if (pool_allowed > 0) pool_allowed--;
-    length = (length + 15) & ~(size_t)15;
+    length = (length + 15) & ~(nzg_size)15;
     for (; p; p = p->next) {
         join_behind(p);
         if (p->used || p->length < length) continue;
-        split(p, length);
+        split(p, (size_t)length);
         return take(p);
     }
     return (struct nzg_block){false, &nothing};
@@ -64,10 +64,10 @@ void rattle_dealloc(unsigned char *at) {
     pool_held -= p->length;
 }
 
-struct nzg_block rattle_realloc(unsigned char *at, size_t kept, size_t length, size_t align) {
+struct nzg_block rattle_realloc(unsigned char *at, nzg_size kept, nzg_size length, nzg_size align) {
     struct nzg_block grown = rattle_alloc(length, align);
     if (!grown.ok) return grown;
-    for (size_t i = 0; i < kept && i < length; i++) grown.at[i] = at[i];
+    for (nzg_size i = 0; i < kept && i < length; i++) grown.at[i] = at[i];
     rattle_dealloc(at);
     return grown;
 }

@@ -9,7 +9,7 @@ static uint8_t bytes[1 << 16], text[1 << 20], again[1 << 20];
 static size_t length;
 static long calls, refusals;
 
-enum { SHOW, CHECK, CHECK_ANY, EXPLAIN, BUILD, BUILD_COMMENTS, ENUMERATE, JUDGE, FINDINGS, REMARKS, TEXT, WITH_STRINGS, DEVICE, HOST, DECODER, TRANSFER, KINDS };
+enum { SHOW, CHECK, CHECK_ANY, EXPLAIN, BUILD, BUILD_COMMENTS, ENUMERATE, JUDGE, FINDINGS, REMARKS, TEXT, WITH_STRINGS, DEVICE, HOST, DECODER, KINDS };
 
 static struct nzg_answer in_pieces(uint8_t *out) {
     struct nzg_decoder decoder = {0};
@@ -56,20 +56,6 @@ static struct nzg_answer opened_twice(void) {
     /* after any fault nothing is held */
     if (answer.status != NZG_DONE && nzg_device_state(&device, &state)) answer.status = 99;
     nzg_device_close(&device);
-    return answer;
-}
-
-/* A transfer in the place of another, which stays where memory is refused. */
-static struct nzg_answer transferred_twice(void) {
-    const struct nzg_setup setup = {{0x80, 6, 0, 1, 0, 0, 18, 0}};
-    struct nzg_transfer transfer = {0};
-    struct nzg_transaction due = {0, 0, 0, {0}};
-    uint8_t address = nzg_transfer_open(&transfer, 1, 64, 16, &setup).status == NZG_DONE ? 1 : 0;
-    struct nzg_answer answer = nzg_transfer_open(&transfer, 2, 64, 16, &setup);
-    if (answer.status == NZG_DONE) address = 2;
-    if (nzg_transfer_next(&transfer, &due) != (address > 0) || due.address != address) answer.status = 99;
-    nzg_transfer_close(&transfer);
-    nzg_transfer_close(&transfer);
     return answer;
 }
 
@@ -128,7 +114,6 @@ static struct nzg_answer call(int kind, uint8_t *out) {
     case WITH_STRINGS: return nzg_with_strings(bytes, length, out, sizeof text);
     case DEVICE: return opened_twice();
     case HOST: return by_host(out);
-    case TRANSFER: return transferred_twice();
     default: return in_pieces(out);
     }
 }

@@ -5,7 +5,7 @@
 #include <nozzlegorse.h>
 #include "hosted.h"
 
-static uint8_t bytes[1 << 21];
+static uint8_t bytes[1 << 22];
 static uint8_t text[1 << 23];
 
 static struct nzg_answer call(const char *command, size_t length, size_t room) {

@@ -40,6 +40,28 @@ static bool is_written(void) {
     return answer.status == NZG_DONE && answer.length == 9 && !memcmp(data, sent, 9) && data[9] == 0xa5 && !memcmp(setup.bytes, report, 8);
 }
 
+/* The whole write by a host, and what it refuses; the owner takes the data and accepts them. */
+static bool is_sent(void) {
+    struct nzg_write write = {0};
+    struct nzg_setup request;
+    struct nzg_transaction due = {0, 0, 0, {0}};
+    struct nzg_answer next, heard = {0, 0, 0, 0};
+    memcpy(request.bytes, reading, 8);
+    if (nzg_write_open(&write, 0, 8, 0, &request).number != 9 || nzg_write_open(&write, 0, 0, 0, &request).number != 7) return false;
+    memcpy(request.bytes, report, 8);
+    if (nzg_write_open(&write, 0, 8, 0, &request).status != NZG_DONE || nzg_write_next(&write, sent, 8, &due).number != 10) return false;
+    size_t count = 0;
+    while ((next = nzg_write_next(&write, sent, 9, &due)).status == NZG_DONE && count < 16) {
+        if (due.stage == NZG_OUT && (next.place != 8 * (count - 1) || next.length != (count == 1 ? 8 : 1))) return false;
+        nzg_device_serve(&device, &due, sent + next.place, next.length, true, &packet);
+        if (packet.reply == NZG_DATA) nzg_device_acked(&device);
+        if (count == 0 || count == 2) nzg_device_accept(&device);
+        heard = nzg_write_take(&write, packet.reply, packet.toggle, packet.data, packet.length);
+        count++;
+    }
+    return next.status == NZG_OPEN && heard.status == NZG_DONE && count == 4;
+}
+
 int main(void) {
     memset(data, 0xa5, sizeof data);
     if (nzg_device_written(&device, &setup, data, 16).status != NZG_CLOSED || nzg_device_refuse(&device)) return 1;
@@ -61,6 +83,7 @@ int main(void) {
     if (serve(NZG_SETUP, 0, descriptor, sent, 0) != NZG_ACK || !nzg_device_refuse(&device)) return 15;
     if (serve(NZG_IN, 0, descriptor, sent, 0) != NZG_DATA || packet.length != 8) return 16;
     if (pool_calls != before) return 17;
+    if (!is_sent()) return 18;
     nzg_device_close(&device);
-    return pool_live ? 18 : 0;
+    return pool_live ? 19 : 0;
 }

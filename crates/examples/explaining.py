@@ -46,6 +46,11 @@ INTERVALS = {
 }
 
 
+# Where the standard has these sizes, and that low speed has no such endpoints.
+SIZE_SECTIONS = {"control": "5.5.3", "isochronous": "5.6.3", "interrupt": "5.7.3", "bulk": "5.8.3"}
+NO_ENDPOINTS = {"isochronous": "5.6.4", "bulk": "5.8.4"}
+
+
 def read_classes():
     names = {}
     with open(os.path.join(HERE, "data/explain/classes.txt"), encoding="ascii") as table:
@@ -186,7 +191,8 @@ def attribute_words(a):
 
 def size_words(attributes, size, speed):
     words, more = count(size % 2048, "byte"), size >> 11 & 3
-    if attributes % 2 == 0 or more == 0 or speed != HIGH:
+    counts = speed == HIGH or (speed == FULL_OR_HIGH and has_multiple(size))
+    if attributes % 2 == 0 or more == 0 or not counts:
         return words
     return f"{words}, reserved multiple" if more == 3 else f"{more + 1} x {words} a microframe"
 
@@ -220,7 +226,7 @@ def wrong_at(table, n, speed):
 
 def interval_remark(transfer, n, speed):
     right = wrong_at(INTERVALS.get(transfer, {}), n, speed)
-    return right and f"{with_article(transfer)} interval is {right[0]} to {right[-1]} at {speed}"
+    return right and f"bInterval is {n}; at {speed} it must be {right[0]} to {right[-1]} (9.6.6)"
 
 
 def size_remark(transfer, n, speed):
@@ -228,10 +234,10 @@ def size_remark(transfer, n, speed):
     if right is None:
         return None
     if not right:
-        return f"{speed} has no {transfer} endpoints"
+        return f"{with_article(transfer)} endpoint; at {speed} there are none ({NO_ENDPOINTS[transfer]})"
     first = ", ".join(map(str, right[:-1]))
     words = f"at most {right[-1]}" if right[0] == 0 else f"{first} or {right[-1]}" if first else right[-1]
-    return f"{with_article(transfer)} packet is {words} bytes at {speed}"
+    return f"wMaxPacketSize is {count(n, 'byte')}; at {speed} it must be {words} ({SIZE_SECTIONS[transfer]})"
 
 
 # Table 9-14: the sizes of packets by bits 12 to 11 of wMaxPacketSize. Greater ones have a remark of their own.
@@ -243,8 +249,9 @@ def multiple_remark(transfer, size, more, speed):
     if HIGH in OPEN.get(speed, (speed,)) and transfer in INTERVALS:
         if more not in COUNTED:
             return "3 in bits 12 to 11 of wMaxPacketSize is reserved"
-        fits = size in COUNTED[more]
-        return None if fits else f"packets of {more + 1} transactions a microframe have at least {COUNTED[more][0]} bytes"
+        least = COUNTED[more][0]
+        words = f"wMaxPacketSize is {count(size, 'byte')}; with {more + 1} transactions it must be at least {least} (9.6.6)"
+        return words if size not in COUNTED[more] else None
     return "bits 12 to 11 of wMaxPacketSize are reserved here" if more else None
 
 
@@ -296,17 +303,19 @@ FIRST_PACKETS = {LOW: "8", FULL: "8, 16, 32 or 64", HIGH: "64", SUPER: "9"}
 OF_INTERFACES = bytes.fromhex("01 03 05 06 07 08 0a 0b 0d 0e 0f 10")
 
 
-def device_remarks(usb, class_, packet, sets, speed):
-    """Of a device; of a qualifier nothing is known of the packet, and of an input that has findings nothing of the sets."""
+def device_remarks(usb, class_, packet, sets, speed, is_device=True):
+    """Of a device or a qualifier, at the speed at which its packets are, if that is known. Of an input that has findings nothing is
+    known of the sets."""
     if bcd(usb) not in RELEASES:
         yield "bcdUSB is no release of USB"
-    elif packet is None and usb < 0x0200:
-        yield "bcdUSB of a qualifier is 2.00 at least"
+    elif not is_device and usb < 0x0200:
+        yield f"bcdUSB is {bcd(usb)}; of a qualifier it must be at least 2.00 (9.6.2)"
     if class_ in OF_INTERFACES:
         yield "this class is one of interfaces, and not of devices"
     right = FIRST_PACKETS.get(speed)
-    if packet is not None and right and str(packet) not in right.replace(",", "").split():
-        yield f"bMaxPacketSize0 is {right} at {speed}"
+    if right and str(packet) not in right.replace(",", "").split():
+        section = "USB 3.2, 9.6.1" if speed == SUPER else "5.5.3"
+        yield f"bMaxPacketSize0 is {packet}; at {speed} it must be {right} ({section})"
     if sets == 0:
         yield "bNumConfigurations is 0"
 
@@ -317,13 +326,17 @@ def power_remarks(milliamperes, speed):
         yield f"bMaxPower is {milliamperes} mA, and a device draws at most {most} mA"
 
 
-def association_remarks(d, device, numbers, later):
-    """Of an association, with the device descriptor or the qualifier before it, the numbers of the interfaces of its set, and the
-    descriptors after it, or None where they aren't all there."""
-    if device and tuple(device[4:7]) != (0xEF, 2, 1):
-        yield "a device with associations is of class 0xef, subclass 0x02, protocol 0x01"
-    if later is not None and d[2] in numbers and d[2] not in interface_numbers(later):
-        yield "an association stands before its interfaces"
+def association_remarks(d, before):
+    """Of an association, with the numbers of the interfaces of its set before it."""
+    if before & set(range(d[2], d[2] + d[3])):
+        yield "this association comes after its interfaces"
+
+
+def endpoints_remarks(speed, later):
+    """Of a set, with the descriptors after its first one, or None where they aren't all there."""
+    addresses = {d[2] for d in later or () if d[1] == 5 and len(d) >= 7 and d[2] & 0x0F}
+    if speed == LOW and len(addresses) > 2:
+        yield "more than two endpoints; low speed has two beside endpoint 0 (5.3.1.2)"
 
 
 def interface_numbers(descriptors):
@@ -336,51 +349,55 @@ def interface_remarks(d, own):
     if own is None:
         return
     if class_ == 3 and all(x[1] != 0x21 for x in own):
-        yield "a HID interface has a HID descriptor"
+        yield "no HID descriptor between interface and endpoints (HID 1.11, 7.1)"
     if class_ == 8 and protocol == 0x50:
         ways = {x[2] >> 7 for x in own if x[1] == 5 and len(x) >= 7 and x[3] % 4 == 2}
         if len(ways) < 2:
-            yield "a bulk-only interface has a bulk endpoint of each direction"
+            yield "a bulk IN or bulk OUT endpoint is missing (Bulk-Only 1.0, 4.4)"
     if class_ == 2 and subclass in range(1, 15) and subclass != 12 and all(x[1:3] != b"\x24\0" for x in own):
-        yield "a communications interface has a header functional descriptor"
+        yield "no header functional descriptor (CDC 1.2, 5.2.3)"
     if class_ == 3 and not any(x[1] == 5 and len(x) >= 7 and x[3] % 4 == 3 and x[2] >= 128 for x in own):
-        yield "a HID interface has an interrupt IN endpoint"
+        yield "no interrupt IN endpoint (HID 1.11, 4.4)"
 
 
 def setting_remarks(d, speed, interface, later):
     """Of an endpoint, with its interface and the descriptors of its set after it, or None where they aren't all there."""
     size = little(d[4:6]) & 0x7FF
     if d[3] % 4 == 1 and size and interface[3] == 0 and speed != SUPER:
-        yield "an isochronous packet is 0 bytes in alternate setting 0"
+        yield f"wMaxPacketSize is {count(size, 'byte')}; in alternate setting 0 it must be 0 (5.6.3)"
+    if d[3] % 4 == 3 and size > 64 and interface[3] == 0 and speed == HIGH:
+        yield f"wMaxPacketSize is {size} bytes; in alternate setting 0 it must be at most 64 (5.7.3)"
     follows = later is None or any(x[1] == 4 and x[2] == interface[2] for x in later)
     if size == 0 and interface[3] == 0 and not follows:
         yield "packets of 0 bytes hold no data, and no other setting follows"
 
 
 def hid_remarks(d, depth):
-    right = 6 + 3 * (d[5] if len(d) > 5 else 0)
-    if len(d) != right:
-        yield f"by bNumDescriptors it has {count(right, 'byte')}, and bLength is {len(d)}"
+    if len(d) < 6:
+        yield f"it is too short for bNumDescriptors: bLength is {len(d)} (HID 1.11, 6.2.1)"
+    elif len(d) != 6 + 3 * d[5]:
+        yield f"by bNumDescriptors it has {count(6 + 3 * d[5], 'byte')}, and bLength is {len(d)}"
     if len(d) >= 9 and d[6] != 0x22:
-        yield "a HID descriptor names its report descriptor first"
+        yield "it names no report descriptor first (HID 1.11, 6.2.1)"
     elif len(d) >= 9 and d[7:9] == b"\0\0":
         yield "the report descriptor has 0 bytes"
     if depth == 4:
-        yield "a HID descriptor stands before the endpoints"
+        yield "this HID descriptor comes after an endpoint (HID 1.11, 7.1)"
     if len(d) >= 4:
         yield from release_remarks(d[2:4])
 
 
 def functional_remarks(d, depth, numbers, later):
     if depth == 4:
-        yield "a functional descriptor stands before the endpoints"
+        yield "this functional descriptor comes after an endpoint (CDC 1.2, 5.2.3)"
     kind = d[2] if len(d) > 2 else None
     least = {0: 5, 1: 5, 2: 4, 6: 5}.get(kind, 0)
     if len(d) < least:
         yield f"this functional descriptor has at least {least} bytes, and bLength is {len(d)}"
         return
     if kind in (1, 6) and later is not None:
-        named = d[3:] if kind == 6 else d[4:5]
+        # The data interface of call management has a meaning only with both of its bits.
+        named = d[3:] if kind == 6 else d[4:5] if d[3] & 3 == 3 else b""
         yield from [f"it names interface {n}, which the set hasn't" for n in named if n not in numbers][:1]
     if kind == 0:
         yield from release_remarks(d[3:5])
@@ -401,11 +418,15 @@ def raw_remarks(d, codes, depth, numbers, later):
         yield from functional_remarks(d, depth, numbers, later)
 
 
-def proves_high(kind, size):
-    """By the size and bits 12 to 11 of wMaxPacketSize, as far as table 9-14 has them together."""
-    size, more = size & 0x7FF, size >> 11 & 3
-    counts = (more == 1 and 513 <= size <= 1024) or (more == 2 and 683 <= size <= 1024)
-    return {1: size > 1023 or counts, 2: size == 512, 3: size > 64}.get(kind, False)
+def has_multiple(max_packet):
+    """Whether table 9-14 has the size and bits 12 to 11 of wMaxPacketSize together, of several transactions."""
+    size, more = max_packet & 0x7FF, max_packet >> 11 & 3
+    return (more == 1 and 513 <= size <= 1024) or (more == 2 and 683 <= size <= 1024)
+
+
+def proves_high(kind, max_packet):
+    size = max_packet & 0x7FF
+    return {1: size > 1023 or has_multiple(max_packet), 2: size == 512, 3: size > 64}.get(kind, False)
 
 
 def is_super_device(d):
@@ -415,6 +436,21 @@ def is_super_device(d):
 def is_high_hub(d):
     """Of a device or a qualifier."""
     return d[4] == 9 and d[6] in (1, 2)
+
+
+def side_of(facts, descriptors, is_device):
+    """The speed of one side of a device of two speeds, by the device or the qualifier and the descriptors of its sets alone; None
+    where they leave it open."""
+    if is_device and is_super_device(facts):
+        return SUPER
+    if is_device and little(facts[2:4]) < 0x0200:
+        return FULL
+    ends = [(d[3] % 4, little(d[4:6])) for d in descriptors if d[1] == 5 and len(d) >= 7]
+    if is_high_hub(facts) or any(proves_high(kind, size) for kind, size in ends):
+        return HIGH
+    if any(kind == 2 and size % 2048 <= 64 for kind, size in ends) or facts[7] != 64:
+        return FULL
+    return None
 
 
 def speed_by(descriptors, known, facts, other):
@@ -560,6 +596,29 @@ def format_words(d, codes):
     return ""
 
 
+# What bytes begin as that holds others, by their first bytes.
+CONTAINERS = {
+    b"\xa1\xb2\xc3\xd4": "a pcap capture",
+    b"\xd4\xc3\xb2\xa1": "a pcap capture",
+    b"\xa1\xb2\x3c\x4d": "a pcap capture",
+    b"\x4d\x3c\xb2\xa1": "a pcap capture",
+    b"\n\r\r\n": "a pcapng capture",
+    b"\x7fELF": "an ELF file",
+    b"\x1f\x8b": "a gzip file",
+}
+
+
+def container_of(b):
+    """What bytes begin as that holds others, in words."""
+    for magic, name in CONTAINERS.items():
+        if b.startswith(magic):
+            return f"{name} ({magic.hex()})"
+    record = re.match(rb":((?:[0-9A-Fa-f]{2})+)", b)
+    record = bytes.fromhex(record[1].decode()) if record else b""
+    record = record[: record[0] + 5] if record else b""
+    return "a record of Intel HEX" if record and len(record) == record[0] + 5 and sum(record) % 256 == 0 else ""
+
+
 class Explanation:
     def __init__(self, kind, data, speed=None, fault=None, brief=False, places=True, utf8=False, decoded=False, formats=False):
         self.kind, self.data, self.asked, self.brief, self.places, self.utf8 = kind, data, speed, brief, places, utf8
@@ -572,8 +631,9 @@ class Explanation:
             if kind == "file":
                 self.find_names()
         self.device, self.qualifier, self.languages, self.own, self.other = None, None, None, None, (False, None)
+        self.sides = None, None
         self.sets = {"main": 0, "other": 0}
-        self.strings = 0
+        self.strings = self.remarked = 0
 
     # Names of strings
 
@@ -622,6 +682,7 @@ class Explanation:
     def remarks(self, depth, texts):
         for text in texts:
             if text:
+                self.remarked += 1
                 self.lines.append(" " * (2 * depth + 2) + f"? {text}")
 
     def fields(self, depth, fields):
@@ -666,9 +727,9 @@ class Explanation:
         if d[17] == 0:
             self.findings(0, [(10, "there is no configuration")], "main")
         self.findings(0, [(11, causes(self.packet_fault(d[7], usb >= 0x0300), self.subclass_fault(codes)))], "device")
-        speed = SUPER if self.is_super() else AT.get(self.asked)
+        speed = SUPER if self.is_super() else AT.get(self.asked) or (HIGH if self.sides[0] == HIGH else None)
         self.remarks(0, device_remarks(usb, d[4], d[7], d[17] or not self.fault, speed))
-        self.remarks(0, self.lack_remarks(codes, d[17], at + 18))
+        self.remarks(0, self.function_remarks(codes, d[17], at + 18))
         fields = [("bcdUSB", f"{word(usb)} ({bcd(usb)})"), *class_fields("bDevice", codes)]
         fields.append(("bMaxPacketSize0", self.device_packet(d[7])))
         fields += [("idVendor", word(little(d[8:10]))), ("idProduct", word(little(d[10:12])))]
@@ -676,17 +737,17 @@ class Explanation:
         fields += [(name, self.index(d[i])) for name, i in (("iManufacturer", 14), ("iProduct", 15), ("iSerialNumber", 16))]
         self.fields(0, [*fields, ("bNumConfigurations", d[17])])
 
-    def lack_remarks(self, codes, sets, at):
-        """Of a device or a qualifier whose sets begin here, if it has some and they are all there."""
-        has = False
+    def function_remarks(self, codes, sets, at):
+        """Of a device or a qualifier by the associations of its sets, which begin here."""
+        tells, end, whole = tuple(codes) == (0xEF, 2, 1), at, sets > 0
         for _ in range(sets):
-            end = at + little(self.data[at + 2 : at + 4])
-            if end < at + 9 or end > self.limit:
-                return
-            has = has or any(d[1] == 11 and len(d) >= 8 for _, d in cut(self.data, at, end))
-            at = end
-        if tuple(codes) == (0xEF, 2, 1) and sets and not has:
-            yield "class 0xef, subclass 0x02, protocol 0x01 is that of a device with associations"
+            total = little(self.data[end + 2 : min(end + 4, self.limit)])
+            whole, end = whole and total >= 9 and end + total <= self.limit, end + total
+        has = any(d[1] == 11 and len(d) >= 8 for _, d in cut(self.data, at, min(end, self.limit)))
+        if has and not tells:
+            yield "its class isn't 0xef, 0x02, 0x01; with associations it must be (ECN)"
+        if tells and whole and not has:
+            yield "its class is 0xef, 0x02, 0x01, and it has no association (ECN)"
 
     def of_qualifier(self, d, at):
         self.qualifier = d
@@ -696,8 +757,12 @@ class Explanation:
             self.findings(0, [(10, "there is no configuration")], "other")
         wrong = causes(self.packet_fault(d[7], False), self.subclass_fault(codes), (d[9] != 0, "bReserved isn't 0"))
         self.findings(0, [(11, wrong)], "other")
-        self.remarks(0, device_remarks(usb, d[4], None, d[8] or not self.fault, None))
-        self.remarks(0, self.lack_remarks(codes, d[8], at + 10))
+        own, other = self.sides
+        speed = OTHER_SPEED.get(AT.get(self.asked)) or (HIGH if other == HIGH or own == FULL else None)
+        self.remarks(0, device_remarks(usb, d[4], d[7], d[8] or not self.fault, speed, is_device=False))
+        self.remarks(0, self.function_remarks(codes, d[8], at + 10))
+        if own == other and own in OTHER_SPEED:
+            self.remarks(0, [f"its sets are at {own}, as are those before it; they must differ (9.6.2)"])
         fields = [("bcdUSB", f"{word(usb)} ({bcd(usb)})"), *class_fields("bDevice", codes)]
         self.fields(0, [*fields, ("bMaxPacketSize0", d[7]), ("bNumConfigurations", d[8]), ("bReserved", byte(d[9]))])
 
@@ -728,11 +793,13 @@ class Explanation:
         at = 18
         for _ in range(self.device[17]):
             at += little(self.data[at + 2 : min(at + 4, limit)])
-        self.own = self.speed_before([d for _, d in cut(self.data, 18, min(at, limit))], (True, None))
-        self.other = False, None
+        sets = [d for _, d in cut(self.data, 18, min(at, limit))]
+        self.own = self.speed_before(sets, (True, None))
+        self.other, self.sides = (False, None), (side_of(self.device, sets, True), None)
         if at + 10 <= limit and self.data[at : at + 2] == b"\x0a\x06":
             sets = [d for _, d in cut(self.data, at + 10, limit)]
             self.other = True, self.speed_after(self.data[at : at + 10], sets, None, None)
+            self.sides = self.sides[0], side_of(self.data[at : at + 10], sets, False)
 
     def of_set(self, at, limit):
         """The set at this place, as far as it goes; answers where what is left of the input begins."""
@@ -746,7 +813,8 @@ class Explanation:
         speed = self.speed_of([d for _, d in descriptors])
         associations = [d for _, d in descriptors[1:] if d[1] == 11]
         numbers = interface_numbers(d for _, d in descriptors[1:])
-        self.of_configuration(header, at, main, place, speed, len(numbers))
+        inner = [d for _, d in descriptors[1:]] if end_of_set <= limit else None
+        self.of_configuration(header, at, main, place, speed, len(numbers), inner)
         codes, owner, setting, endpoint, association = None, 1, -1, 0, 0
         interface = None
         for i, (p, d) in enumerate(descriptors[1:], 1):
@@ -763,13 +831,14 @@ class Explanation:
                 self.of_endpoint(d, p, place + (setting, endpoint), speed, codes, setting_remarks(d, speed, interface, later))
                 endpoint += 1
             elif d[1] == 11:
-                self.of_association(d, p, place + (association,), numbers, later)
+                before = interface_numbers(x for _, x in descriptors[1:i])
+                self.of_association(d, p, place + (association,), before)
                 association += 1
             else:
                 self.of_raw(d, p, owner + 1, codes, numbers, later)
         return descriptors[-1][0] + len(descriptors[-1][1])
 
-    def of_configuration(self, d, at, main, place, speed, interfaces):
+    def of_configuration(self, d, at, main, place, speed, interfaces, later):
         power = "self-powered" if d[7] & 0x40 else "bus-powered"
         current = f"{d[8] * (8 if speed == SUPER else 2)} mA"
         kind = "configuration" if main else "other-speed configuration"
@@ -784,6 +853,7 @@ class Explanation:
         ]
         self.findings(1, texts, *place)
         self.remarks(1, power_remarks(d[8] * (8 if speed == SUPER else 2), speed))
+        self.remarks(1, endpoints_remarks(speed, later))
         wakeup = ", remote wakeup" if d[7] & 0x20 else ""
         fields = [
             ("wTotalLength", little(d[2:4])),
@@ -795,14 +865,14 @@ class Explanation:
         ]
         self.fields(1, fields + tail(d[9:]))
 
-    def of_association(self, d, at, place, numbers, later):
+    def of_association(self, d, at, place, before):
         first, n = d[2], d[3]
         bound = "no interface" if n == 0 else f"interface {first}" if n == 1 else f"interfaces {first} to {first + n - 1}"
         self.heading(2, f"association {place[2]} of {bound}, {function_class_words('bFunction', d[4:7])}", at, len(d))
         wrong = "it binds an interface that the set hasn't" if n else "it binds no interface"
         self.findings(2, [(13, wrong)], *place)
         forbidden = [] if d[4] else ["class 0x00 is not allowed"]
-        self.remarks(2, [*forbidden, *association_remarks(d, self.qualifier or self.device, numbers, later)])
+        self.remarks(2, [*forbidden, *association_remarks(d, before)])
         fields = [("bFirstInterface", first), ("bInterfaceCount", n), *class_fields("bFunction", d[4:7])]
         self.fields(2, [*fields, ("iFunction", self.index(d[7])), *tail(d[8:])])
 
@@ -862,7 +932,8 @@ class Explanation:
             self.languages = units
             self.heading(0, " ".join(["languages", *map(word, units)]), at, len(d))
             if not names_languages(d):
-                self.remarks(0, ["a language has bits 9 to 8 zero, and not all of bits 15 to 10"])
+                wrong = next(unit for unit in units if unit & 0x0300 or unit < 0x0400)
+                self.remarks(0, [f"{word(wrong)} is not a LANGID: bits 9 to 8 must be 0 and bits 15 to 10 must not all be 0 (9.6.7)"])
             return
         place = ""
         if self.string_places:
@@ -871,7 +942,7 @@ class Explanation:
         self.strings += 1
         self.heading(0, f"string{place} {quoted(units, self.utf8)}", at, len(d))
         if units[-1:] == [0]:
-            self.remarks(0, ["a string isn't ended by a unit 0"])
+            self.remarks(0, ["the string ends in a NUL, which USB strings don't have (9.6.7)"])
 
     # The whole
 
@@ -889,6 +960,10 @@ class Explanation:
     def likeness(self):
         """What bytes that are no input look like, which are not read as a set: in words, if they look like anything."""
         b, (place, line) = self.data, self.fault
+        container = container_of(b)
+        if container:
+            yield f"the bytes begin as {container}; no descriptors are read out of it"
+            return
         if b[1:2] in (b"\x02", b"\x07"):
             yield from self.frame()
             return
@@ -952,7 +1027,8 @@ class Explanation:
             self.lines += [f"  ? {words}" for words in self.likeness()]
         self.put_rest(at)
         if not self.fault:
-            self.lines.append(count(len(self.found), "finding") if self.found else "no findings")
+            findings = count(len(self.found), "finding") if self.found else "no findings"
+            self.lines.append(findings + (f", {count(self.remarked, 'remark')}" if self.remarked else ""))
         return "".join(line + "\n" for line in self.lines)
 
 
@@ -988,7 +1064,7 @@ class Fragment(Explanation):
         elif kind == 6 and n == 10:
             self.of_qualifier(d, at)
         elif kind in (2, 7) and n >= 9:
-            self.of_configuration(d, at, kind == 2, ("main",), self.speed, 0)
+            self.of_configuration(d, at, kind == 2, ("main",), self.speed, 0, None)
         elif kind == 3 and n % 2 == 0:
             self.of_string(d, at)
         elif kind == 4 and n >= 9:
@@ -996,7 +1072,7 @@ class Fragment(Explanation):
         elif kind == 5 and n >= 7:
             self.of_endpoint(d, at, ("main",), self.speed, self.codes, [])
         elif kind == 11 and n >= 8:
-            self.of_association(d, at, ("main", 0, self.associations), (), None)
+            self.of_association(d, at, ("main", 0, self.associations), set())
             self.associations += 1
         else:
             hid, hub = kind == 0x21 and n == 6 + 3 * sum(d[5:6]), kind == 0x29 and n == 7 + 2 * (sum(d[2:3]) // 8 + 1)

@@ -18,8 +18,9 @@ DIGIT = rb"[0-9A-Fa-f]"
 ITEM = re.compile(rb"[\t\r ,]|(?:0x|\\x)(?=[0-9A-Fa-f]{2}(?![0-9A-Fa-f]))|([0-9A-Fa-f]{2})")
 BEFORE = rb"[\t >\xef\xbb\xbf]*"
 ZEROS = re.compile(rb"0{4,}(?=:[\t ]|[\t ])")
-OFFSET = re.compile(rb"(?:0x)?(" + DIGIT + rb"{4,})(?: <[^\n>]*>?)?(:?)[\t ]*")
-ADDRESS = re.compile(rb"(?:0x)?(" + DIGIT + rb"{4,})(?: <[^\n>]*>?)?:[\t ]")
+NAME = rb"(?: <[^\n>]*(?:[\n>]|\Z)|(?! <))"
+OFFSET = re.compile(rb"(?:0x)?(" + DIGIT + rb"{4,})" + NAME + rb"(:?)[\t ]*")
+ADDRESS = re.compile(rb"(?:0x)?(" + DIGIT + rb"{4,})" + NAME + rb":[\t ]")
 NUMBERED = re.compile(rb"(?:0x)?" + DIGIT + rb"*(?:[\t\n\r ,]|\Z)")
 AFTER = rb"(?:[\t\n\r ,]|\Z)"
 # What two readings would take differently: words after a blank; bits, the numbers of columns, or an offset before two bytes.
@@ -31,6 +32,9 @@ WORDS = re.compile(
 COUNTED = re.compile(
     BEFORE + rb"(" + DIGIT + rb"{4,}|00" + DIGIT + rb"?)([\t ][^\n]*)\n" + BEFORE + rb"(" + DIGIT + rb"+)"
 )
+# What could be an offset at the start of a later line of a text without columns.
+LATER = re.compile(BEFORE + rb"(" + DIGIT + rb"{4,})(?:([\t ]+" + DIGIT + rb"{2}[\t ]" + DIGIT + rb"{2})|" + AFTER + rb")")
+BYTE_WORD = re.compile(rb"(?:(?<=[\t\r ,])|\A)(?:0x|\\x)?" + DIGIT + rb"{2}" + AFTER.replace(rb"(?:", rb"(?=", 1))
 LITERAL = re.compile(BEFORE + rb"(?![0-9])(?:[^\\,{\"']*[^\\,{\"'\w])?b(?=[\"']\\)")
 ESCAPES = {b"0": 0, b"n": 10, b"r": 13, b"t": 9, b"\\": 92, b"'": 39, b'"': 34}
 NAMED = rb"Data \(Hex[^\n:]*:?[\t ]*"
@@ -53,7 +57,8 @@ COLUMNS = {
     "rows": (2, re.compile(rb"  ")),
     "addresses": (2, re.compile(rb"  ")),
 }
-COMMENT = re.compile(rb"/\*.*?(?:\*/|\Z)|//[^\n]*|# [^\n]*|^[\t >]*```[^\n]*", re.M | re.S)
+DIRECTIVE = rb"[\t ]*(?:if|ifdef|ifndef|elif|else|endif|include)(?!\w)"
+COMMENT = re.compile(rb"/\*.*?(?:\*/|\Z)|//[^\n]*|# (?!" + DIRECTIVE + rb")[^\n]*|^" + BEFORE + rb"(?:```[^\n]*)?", re.M | re.S)
 GAP = rb"[\t\n\r ,;]"
 CLOSING = rb"\)[\t\n\r ,;)]*\Z"
 # Of each style what is between bytes, and how a byte is written.
@@ -63,11 +68,12 @@ STYLES = {
         GAP + rb'|"',
         rb"(?:0[xX]|\$)(" + DIGIT + rb"{1,2})(?:[uU]8?)?(?!\w)|([0-9])(?!\w)(?![\t ]+(?:0[xX]|\$))",
     ),
-    "suffixed": (GAP + rb"|0(?=" + DIGIT + rb"?.[hH](?!\w))(?!.[hH](?!\w))", rb"(" + DIGIT + rb"{2})[hH](?!\w)"),
-    "pairs": (GAP + rb"|[\"']|" + CLOSING, rb"(" + DIGIT + rb"{2})"),
+    "suffixed": (GAP + rb"|0(?=(?s:..)[hH](?!\w))(?!(?s:.)[hH](?!\w))", rb"(" + DIGIT + rb"{2})[hH](?!\w)"),
+    "pairs": (GAP + rb"|[\"']|" + CLOSING, rb"(" + DIGIT + rb"{2})(?![\"'](?:[\"']|" + DIGIT + rb"))"),
     "separated": (GAP, rb"(" + DIGIT + rb"{2})(?:[:-](?=" + DIGIT + rb")|(?=[\n\r])|\Z)"),
     "loose": (GAP, rb"(" + DIGIT + rb"{1,2})(?!\w)"),
     "decimals": (GAP, rb"(0|[1-9][0-9]{0,2})(?!\w)"),
+    "either": (GAP, rb"(?!)"),
 }
 
 
@@ -88,10 +94,23 @@ def columns_of(text):
         if ZEROS.match(text, start) or ADDRESS.match(text, start):
             return start
         is_empty = text[start : start + 1] in (b"", b"\n", b"\r")
-        if NUMBERED.match(text, start) and not is_empty and text[start : start + 8] != b"00 01 02":
+        has_numbers = NUMBERED.match(text, start) or has_bytes(text[start:].partition(b"\n")[0])
+        if has_numbers and not is_empty and text[start : start + 8] != b"00 01 02":
             return None
         at = text.find(b"\n", start) + 1 or len(text)
     return None
+
+
+def has_bytes(line):
+    """Whether two words of a line or more are bytes, but for those that number columns."""
+    words = [word.start() for word in BYTE_WORD.finditer(line)]
+    return len(words) > 1 and not line.startswith(b"00 01 02", words[0])
+
+
+def has_offset_after(count, text, at):
+    """Whether what could be an offset begins the line there, after so many bytes of a text without columns."""
+    offset = LATER.match(text, at)
+    return offset and (offset[2] or any(value(offset[1], radix) == count for radix in (16, 10)))
 
 
 def form_at(text, at):
@@ -119,8 +138,8 @@ def is_in_order(text):
         offset = OFFSET.match(line)
         shown, _, characters = line[offset.end() if offset else 0 :].partition(b"  ")
         characters = b"" if characters.startswith(b" ") else characters
-        for pair, c in zip(re.findall(DIGIT + rb"{2}", shown), characters):
-            if 32 < c < 127 and c != 46:
+        for pair, c in zip(re.findall(DIGIT + rb".", shown), characters):
+            if 32 < c < 127 and c != 46 and re.fullmatch(DIGIT + rb"{2}", pair):
                 return c == int(pair, 16)
     return True
 
@@ -196,15 +215,16 @@ def as_it_is(text):
         return in_columns(text, 0)
     if columns_of(text) is not None or has_two_readings(text) or ASSEMBLER.match(text):
         raise Fault(*place(text, 0))
-    found = bytearray()
-    for number, line in enumerate(text.split(b"\n"), 1):
-        at = 0
-        while at < len(line):
-            item = ITEM.match(line, at)
-            if not item:
-                raise Fault(number, at + 1)
-            found += bytes.fromhex((item[1] or b"").decode())
-            at = item.end()
+    found, at = bytearray(), 0
+    while True:
+        end = text.find(b"\n", at)
+        end = len(text) if end < 0 else end
+        items(text, at, end, None, found)
+        if end == len(text):
+            break
+        if has_offset_after(len(found), text, end + 1):
+            raise Fault(*place(text, end))
+        at = end + 1
     if not found:
         raise Fault(*place(text, len(text)))
     return bytes(found)
@@ -219,26 +239,32 @@ def between(code):
     """The kind of brackets of a text, and what is between the first one and its partner."""
     opening, closing = (b"{", b"}") if b"{" in code else (b"[", b"]")
     if opening not in code:
-        return False, code
+        return None, code
     start = code.index(b"=") + 1 if opening == b"[" and b"=" in code else 0
     at = code.find(opening, start)
     if at < 0:
-        return True, spaces(code)
+        return opening, spaces(code)
     end = code.find(closing, at)
     end = len(code) if end < 0 else end
     again = code.find(opening, end)
     again = len(code) if again < 0 else again
     rest = code[again : again + 1] + spaces(code[again + 1 :])
-    return True, spaces(code[: at + 1]) + code[at + 1 : end] + spaces(code[end:again]) + rest
+    partner = code[end : end + 1] if precedes_bytes(code[end + 1 :]) else spaces(code[end : end + 1])
+    return opening, spaces(code[: at + 1]) + code[at + 1 : end] + partner + spaces(code[end + 1 : again]) + rest
 
 
-def style_of(is_array, inner):
+def precedes_bytes(rest):
+    """Whether bytes are after the partner of the first bracket."""
+    return re.match(rb"\W*(?:0x|" + DIGIT + rb"{2,}(?!\w))", rest) or has_bytes(rest.partition(b"\n")[0])
+
+
+def style_of(bracket, inner):
     """How a text has its bytes."""
     if b"\\" in inner:
         return "escaped"
     if re.search(rb"[xX$]", inner):
         return "prefixed"
-    if not is_array:
+    if not bracket:
         if re.search(rb"[:-]", inner):
             return "separated"
         return "suffixed" if re.search(rb"[hH]", inner) else "pairs"
@@ -246,14 +272,20 @@ def style_of(is_array, inner):
         return "suffixed"
     if re.search(rb"[^0-9\t\n\r ,;]", inner):
         return "loose"
-    return "decimals" if re.search(rb"[0-9]{2}", inner) else "pairs"
+    if bracket == b"{":
+        return "decimals" if re.search(rb"[0-9]{2}", inner) else "pairs"
+    return "either" if re.search(rb"[0-9]{2}", inner) and not re.search(rb"[0-9]{3}", inner) else "decimals"
 
 
 def uncommented(comment):
-    """What is in place of a comment. One that doesn't end is wrong at the end of the text."""
-    if comment[0].startswith(b"/*") and not (comment[0].endswith(b"*/") and len(comment[0]) > 3):
-        return spaces(comment[0][:-1]) + b"*"
-    return spaces(comment[0])
+    """What is in place of a comment. One that doesn't end is wrong at the end of the text, and one of a line at its last backslash."""
+    if comment[0].startswith(b"/*"):
+        is_ended = comment[0].endswith(b"*/") and len(comment[0]) > 3
+        return spaces(comment[0]) if is_ended else spaces(comment[0][:-1]) + b"*"
+    shown = bytearray(spaces(comment[0]))
+    for slash in re.compile(rb"\\(?=[\t ]*[\n\r])").finditer(comment.string, comment.start(), comment.end() + 1):
+        shown[slash.start() - comment.start()] = ord("*")
+    return bytes(shown)
 
 
 def in_literals(text, at):
@@ -307,17 +339,18 @@ def source(text):
         return in_names(text)
     code = COMMENT.sub(uncommented, text)
     code = re.sub(rb"\xef\xbb\xbf", b"   ", code)
-    code = re.sub(rb"^[\t >]+", lambda it: it[0].replace(b">", b" "), code, flags=re.M)
     code = LABEL.sub(lambda it: spaces(it[0]), code)
     code = re.sub(rb"\\(?=[\n\r])", b" ", code)
-    is_array, inner = between(code)
+    bracket, inner = between(code)
     if has_two_readings(text):
         raise Fault(*place(inner, 0))
-    style = style_of(is_array, inner)
+    style = style_of(bracket, inner)
     gap, number = (re.compile(it) for it in STYLES[style])
     found, at = bytearray(), 0
     while at < len(inner):
         item, byte = gap.match(inner, at), number.match(inner, at)
+        if inner[at : at + 1] == b"\n" and has_offset_after(len(found), inner, at + 1):
+            raise Fault(*place(inner, at))
         if not item:
             value = int(byte[byte.lastindex], 10 if style == "decimals" else 16) if byte else 256
             if value > 255:

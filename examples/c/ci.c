@@ -7,10 +7,10 @@ int main(void) {
     static struct nzg_finding found[1000];
     size_t len = fread(bytes, 1, sizeof bytes, stdin);
     struct nzg_answer a = nzg_findings(bytes, len, found, 1000);
-    if (a.status != NZG_DONE) return printf("status %u, fault %u at %zu\n", a.status, a.number, a.place), 2;
+    if (a.status != NZG_DONE) return printf("status %u, fault %u at %lu\n", a.status, a.number, (unsigned long)a.place), 2;
     for (size_t i = 0; i < a.length; i++) {
         struct nzg_answer text = nzg_rule(found[i].rule, words, sizeof words);
-        printf("at %zu: V%u: %.*s\n", found[i].place, found[i].rule, (int)text.length, (char *)words);
+        printf("at %lu: V%u: %.*s\n", (unsigned long)found[i].place, found[i].rule, (int)text.length, (char *)words);
     }
     return a.length > 0;
 }

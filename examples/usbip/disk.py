@@ -35,9 +35,10 @@ class Disk(usbip.Owner):
             self.write = tag, place * BLOCK, wanted
             return
         found = self.found(command, place, count)
+        data = (found or b"")[:wanted]
         if is_in and wanted:
-            self.send(INPUT, (found or b"")[:wanted])
-        self.end(tag, wanted - len((found or b"")[:wanted]), FAILED if found is None else GOOD)
+            self.send(INPUT, data, ends=len(data) < wanted)
+        self.end(tag, wanted - len(data), FAILED if found is None else GOOD)
 
     def found(self, command, place, count):
         match command[0]:

@@ -12,7 +12,7 @@ class Keyboard(usbip.Owner):
         if setup[:2] == b"\x21\x0a":  # SET_IDLE
             return True
         if setup[:4] == b"\x21\x09\0\x02" and len(data) == 1:  # SET_REPORT of the output report
-            print("lamps:", ", ".join(it for bit, it in enumerate(LAMPS) if data[0] >> bit & 1) or "none", flush=True)
+            self.tell("lamps: " + (", ".join(it for bit, it in enumerate(LAMPS) if data[0] >> bit & 1) or "none"))
             return True
         return None
 

@@ -24,7 +24,7 @@ class Rndis(usbip.Owner):
 
     def received(self, endpoint, data):
         if data[:4] == b"\1\0\0\0" and (frame := answered(data[44:])):  # a packet; Linux puts its frame after 44 bytes
-            self.send(0x81, struct.pack("<4I28x", 1, 44 + len(frame), 36, len(frame)) + frame)
+            self.send(0x81, struct.pack("<4I28x", 1, 44 + len(frame), 36, len(frame)) + frame, ends=True)
 
 
 def answered(frame):

@@ -14,7 +14,7 @@ class SerialLine(usbip.Owner):
         return True if setup[:2] in (b"\x21\x22", b"\x21\x23") else None  # SET_CONTROL_LINE_STATE, SEND_BREAK
 
     def received(self, endpoint, data):
-        self.send(0x81, data)
+        self.send(0x81, data, ends=True)
 
 
 if __name__ == "__main__":

@@ -3,7 +3,7 @@ from __future__ import annotations
 
 import re
 
-from ._plug import Owner
+from ._owner import Owner
 from .ends import ROOM, Device, Transaction
 from .faults import Fault
 
@@ -39,6 +39,10 @@ class Answers(Owner):
         if line.kind == "taken":
             self.kept[line.request] = data
         return self.kept.get(line.of, b"") if line.of else line.answer
+
+    def has(self, request: str) -> bool:
+        """Whether a line is for a request, of which these are the first six bytes in hexadecimal."""
+        return any(it.fits(bytes.fromhex(request)) for it in self.lines)
 
     def check(self, device: Device) -> None:
         """That the device refuses each of these requests, and takes its answer."""

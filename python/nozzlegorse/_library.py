@@ -16,14 +16,17 @@ struct nzg_descriptor { size_t place, languages_place, endpoint_number; uint64_t
 struct nzg_field { size_t place; uint64_t value; uint8_t width, name_length, name[62]; };
 struct nzg_finding { size_t place, set, setting, endpoint; uint8_t rule, part, role; };
 struct nzg_remark { size_t place, set, setting, endpoint; uint8_t number, part, role; };
+struct nzg_packet_fields { uint32_t split; uint16_t frame, place, length; uint8_t pid, address, endpoint; };
 struct nzg_transaction { uint8_t address, stage, toggle, setup[8]; };
 struct nzg_packet { uint8_t reply, toggle, length, data[64]; };
 struct nzg_setup { uint8_t bytes[8]; };
+struct nzg_open_transfer { uint16_t acknowledged, sent; uint8_t last, stage; };
 struct nzg_state { uint32_t halts; uint8_t address, selected; bool wakeup; uint8_t alternates[256]; };
 struct nzg_trouble { uint8_t why, step, index; uint16_t language; };
 struct nzg_step { uint16_t naks, kept, language; uint8_t step, index, strikes, setup[8]; };
 struct nzg_device { void *held; };
-struct nzg_transfer { void *held; };
+struct nzg_transfer { uint16_t naks, nak_count, kept; uint8_t address, packet, stage, why, toggle, strikes, setup[8]; };
+struct nzg_write { struct nzg_transfer transfer; };
 struct nzg_host { void *held; };
 struct nzg_decoder { void *held; };
 struct nzg_answer nzg_show(const uint8_t *, size_t, bool, uint8_t *, size_t);
@@ -40,6 +43,10 @@ struct nzg_answer nzg_remarks(const uint8_t *, size_t, uint8_t, struct nzg_remar
 struct nzg_answer nzg_rule(uint8_t, uint8_t *, size_t);
 struct nzg_answer nzg_text(const uint8_t *, size_t, const struct nzg_descriptor *, uint8_t *, size_t);
 struct nzg_answer nzg_with_strings(const uint8_t *, size_t, uint8_t *, size_t);
+uint8_t nzg_packet_parse(const uint8_t *, size_t, struct nzg_packet_fields *);
+struct nzg_answer nzg_packet_write(const struct nzg_packet_fields *, const uint8_t *, size_t, uint8_t *, size_t);
+uint8_t nzg_crc5(uint32_t, uint32_t);
+uint16_t nzg_crc16(const uint8_t *, size_t);
 struct nzg_answer nzg_device_open(struct nzg_device *, const uint8_t *, size_t, uint8_t);
 bool nzg_device_reset(struct nzg_device *);
 bool nzg_device_serve(struct nzg_device *, const struct nzg_transaction *, const uint8_t *, size_t, bool, struct nzg_packet *);
@@ -52,12 +59,15 @@ bool nzg_device_refuse(struct nzg_device *);
 bool nzg_device_carried_out(struct nzg_device *, struct nzg_setup *);
 bool nzg_device_state(struct nzg_device *, struct nzg_state *);
 void nzg_device_close(struct nzg_device *);
-uint8_t nzg_judge_device(struct nzg_device *, const struct nzg_setup *, const struct nzg_transaction *, const uint8_t *, size_t,
-    const struct nzg_packet *, struct nzg_packet *);
+uint8_t nzg_judge_device(struct nzg_device *, struct nzg_open_transfer *, const struct nzg_setup *, const struct nzg_transaction *,
+    const uint8_t *, size_t, const struct nzg_packet *, struct nzg_packet *);
+void nzg_judge_acked(struct nzg_open_transfer *);
 struct nzg_answer nzg_transfer_open(struct nzg_transfer *, uint8_t, uint8_t, uint16_t, const struct nzg_setup *);
-bool nzg_transfer_next(struct nzg_transfer *, struct nzg_transaction *);
+bool nzg_transfer_next(const struct nzg_transfer *, struct nzg_transaction *);
 struct nzg_answer nzg_transfer_take(struct nzg_transfer *, uint8_t, uint8_t, const uint8_t *, size_t);
-void nzg_transfer_close(struct nzg_transfer *);
+struct nzg_answer nzg_write_open(struct nzg_write *, uint8_t, uint8_t, uint16_t, const struct nzg_setup *);
+struct nzg_answer nzg_write_next(const struct nzg_write *, const uint8_t *, size_t, struct nzg_transaction *);
+struct nzg_answer nzg_write_take(struct nzg_write *, uint8_t, uint8_t, const uint8_t *, size_t);
 struct nzg_answer nzg_host_open(struct nzg_host *, uint8_t, uint16_t, uint8_t, uint8_t);
 uint8_t nzg_host_next(struct nzg_host *, struct nzg_transaction *);
 bool nzg_host_reset_done(struct nzg_host *);
@@ -81,8 +91,7 @@ _TYPES = {"void": None, "void *": ctypes.c_void_p, "bool": ctypes.c_bool, "size_
 
 def _struct(name: str, body: str) -> type:
     fields = []
-    for line in filter(str.strip, body.split(";")):
-        kind, declared = line.split(maxsplit=1)
+    for kind, declared in re.findall(r"((?:struct )?\w+) ([^;]+);", body):
         for star, field, count in re.findall(r"(\*?)(\w+)(?:\[(\d+)\])?", declared):
             it = _TYPES[kind + " *" * bool(star)]
             fields.append((field, it * int(count) if count else it))
@@ -102,14 +111,16 @@ def _declared(library, text: str) -> dict[str, type]:
     return structs
 
 
-def _load() -> ctypes.PyDLL:
-    """NOZZLEGORSE_LIBRARY, else what is beside this file, else what the system has. PyDLL keeps one call at a time, so that
-    threads may share a handle."""
-    beside = os.path.join(os.path.dirname(os.path.abspath(__file__)), "libnozzlegorse.so")
-    return ctypes.PyDLL(os.environ.get("NOZZLEGORSE_LIBRARY") or (beside if os.path.exists(beside) else "libnozzlegorse.so.0"))
+def load(name: str) -> ctypes.PyDLL:
+    """A library of this name in the folder of NOZZLEGORSE_LIBRARY, else beside this file, else in the system. PyDLL keeps one call at
+    a time, so that threads may share a handle."""
+    given, beside = os.environ.get("NOZZLEGORSE_LIBRARY"), os.path.join(os.path.dirname(os.path.abspath(__file__)), f"{name}.so")
+    if given:
+        return ctypes.PyDLL(given if name == "libnozzlegorse" else os.path.join(os.path.dirname(given), f"{name}.so"))
+    return ctypes.PyDLL(beside if os.path.exists(beside) else f"{name}.so.0")
 
 
-lib = _load()
+lib = load("libnozzlegorse")
 structs = _declared(lib, DECLARATIONS)
 
 

@@ -1,18 +1,20 @@
 """USB/IP 1.1.1 as a server speaks it, apart from any socket: by the fields of Linux's Documentation/usb/usbip_protocol."""
 from __future__ import annotations
 
+import collections
 import struct
 
-from ._plug import Plug
+from ._plug import Pending, Plug
 
 VERSION, LIST, IMPORT = 0x0111, 0x8005, 0x8003
 SUBMIT, UNLINK, RETURN_SUBMIT, RETURN_UNLINK = 1, 2, 3, 4
 # What the stub drivers of Linux answer to an import: taken by another host, and no such device.
 BUSY, NO_DEVICE = 2, 4
-EPIPE, ECONNRESET = -32, -104
+EINVAL, EPIPE = -22, -32
 SPEEDS = {"low": 1, "full": 2, "high": 3}
-# The most bytes of a transfer, the most packets of an isochronous one, and the most transfers that wait.
-MOST, MOST_PACKETS, MOST_WAITING = 1 << 20, 1024, 1024
+# The most bytes of a transfer, the most packets of an isochronous one, the most transfers that wait, and how many messages are not
+# done yet when no more are read.
+MOST, MOST_PACKETS, MOST_WAITING, MOST_UNDONE = 1 << 20, 1024, 1024, 4
 
 
 class Refused(Exception):
@@ -39,10 +41,17 @@ def interfaces(plug: Plug) -> bytes:
 
 
 class Client:
-    """A USB/IP client: its bytes come in pieces, and what is sent to it goes to `send`."""
+    """A USB/IP client: its bytes come in pieces, and what is sent to it goes to `send`. What it asks of its device is done by that
+    one's `run`, after which `changed` is called where the client had asked for as much as is kept."""
 
-    def __init__(self, plugs: list, send):
+    def __init__(self, plugs: list, send, changed=lambda: None):
         self.plugs, self.send, self.plug, self.buffer = plugs, send, None, bytearray()
+        self.undone, self._changed = collections.deque(), changed
+
+    @property
+    def is_full(self) -> bool:
+        """Whether nothing more is to be read of it until something is done."""
+        return len(self.undone) >= MOST_UNDONE
 
     def take(self, data: bytes) -> None:
         """Takes a piece of what it sent, or is `Refused`."""
@@ -50,12 +59,18 @@ class Client:
         while (length := self._length()) is not None and len(self.buffer) >= length:
             message = bytes(self.buffer[:length])
             del self.buffer[:length]
-            self._submitted(message) if self.plug else self._asked(message)
+            if self.plug is None:
+                self._asked(message)
+            elif len(self.plug.pending) + len(self.undone) >= MOST_WAITING:
+                raise Refused(f"{MOST_WAITING} transfers wait")
+            else:
+                self.undone.append(message)
+                self.plug.run(self._submitted)
 
     def close(self) -> None:
         """Its connection has ended: what it imported is free again."""
         if self.plug:
-            self.plug.detach()
+            self.plug.run(self.plug.detach)
 
     def returned(self, number: int, data: bytes | None, count: int = 0, status: int = 0) -> None:
         """Sends what came of a transfer, None for a STALL; `count` is how many bytes of an OUT were taken."""
@@ -84,38 +99,37 @@ class Client:
         if code == LIST:
             listed = b"".join(described(it) + interfaces(it) for it in self.plugs)
             return self.send(struct.pack(">HHII", VERSION, LIST & 0xFF, 0, len(self.plugs)) + listed)
-        found = [it for it in self.plugs if it.bus_id.encode() == message[8:].rstrip(b"\0")]
-        status = NO_DEVICE if not found else BUSY if found[0].client else 0
-        self.send(struct.pack(">HHI", VERSION, IMPORT & 0xFF, status) + (b"" if status else described(found[0])))
+        found = next((it for it in self.plugs if it.bus_id.encode() == message[8:].rstrip(b"\0")), None)
+        status = NO_DEVICE if not found else 0 if found.claim(self) else BUSY
+        self.send(struct.pack(">HHI", VERSION, IMPORT & 0xFF, status) + (b"" if status else described(found)))
         if not status:
-            self.plug = found[0]
-            self.plug.attach(self)
+            self.plug = found
+            found.run(found.attach)
 
-    def _submitted(self, message: bytes) -> None:
+    def _submitted(self) -> None:
+        """Does what the oldest message asks."""
+        message = self.undone.popleft()
         command, number, _, direction, endpoint = struct.unpack(">5I", message[:20])
         if command == UNLINK:
             (unlinked,) = struct.unpack(">I", message[20:24])
-            status = ECONNRESET if self.plug.waiting.pop(unlinked, None) else 0
-            return self.send(struct.pack(">5Ii24x", RETURN_UNLINK, number, 0, 0, 0, status))
-        size, _, packets = struct.unpack(">III", message[24:36])
-        if endpoint == 0:
-            setup, data = message[40:48], message[48:]
-            came = self.plug.control(setup, data)
-            self.plug.tell(f"{setup.hex()}{' ' + data.hex() if data else ''} -> {'stall' if came is None else came.hex() or 'done'}")
-            return self.returned(number, came, len(data))
-        self._of_endpoint(number, endpoint & 15 | bool(direction) << 7, size, 0 < packets < 1 << 31, message[48:])
-
-    def _of_endpoint(self, number: int, endpoint: int, size: int, is_isochronous: bool, data: bytes) -> None:
-        if len(self.plug.waiting) == MOST_WAITING:
-            raise Refused(f"{MOST_WAITING} transfers wait")
-        if self.plug.is_halted(endpoint):
-            self.returned(number, None)
-        elif is_isochronous:
-            # Nothing comes of it until it is unlinked.
-            self.plug.waiting[number] = None, size
-        elif endpoint > 0x7F:
-            self.plug.wait(number, endpoint, size)
+            self.send(struct.pack(">5Ii24x", RETURN_UNLINK, number, 0, 0, 0, self.plug.unlink(unlinked)))
+        elif number in self.plug.pending or endpoint > 15:
+            self.returned(number, b"", status=EINVAL)
         else:
-            self.plug.tell(f"endpoint {endpoint:02x}: {data.hex() or 'empty'}")
-            self.returned(number, b"", len(data))
-            self.plug.owner.received(endpoint, data)
+            size, _, packets = struct.unpack(">III", message[24:36])
+            it = Pending(number, endpoint and endpoint | bool(direction) << 7, size, message[40:48], message[48:])
+            self._transfer(it, 0 < packets < 1 << 31)
+        if len(self.undone) == MOST_UNDONE - 1:
+            self._changed()
+
+    def _transfer(self, it: Pending, is_isochronous: bool) -> None:
+        """A transfer: of an endpoint that isn't halted an OUT is over at once, and nothing comes of an isochronous one."""
+        if it.endpoint and self.plug.is_halted(it.endpoint):
+            return self.returned(it.number, None)
+        if it.endpoint and is_isochronous:
+            it.endpoint = None
+        if it.endpoint is None or it.endpoint == 0 or it.endpoint > 0x7F:
+            return self.plug.submit(it)
+        self.plug.tell_transfer(f"endpoint {it.endpoint:02x}:", it.data, "" if it.data else "empty")
+        self.returned(it.number, b"", len(it.data))
+        self.plug.owner.received(it.endpoint, it.data)

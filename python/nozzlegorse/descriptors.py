@@ -2,17 +2,20 @@
 from __future__ import annotations
 
 from collections.abc import Iterator
-from dataclasses import dataclass, field
 
 from . import _library as c
+from ._value import Value, new
 from .faults import done
 
 ROLES = (None, "device", "configuration", "interface", "endpoint", "association", "raw", "qualifier", "languages", "string")
 PARTS = ("device", "main", "other")
 
 
-@dataclass(frozen=True)
-class Field:
+def _name(it) -> str:
+    return bytes(it.name)[:it.name_length].decode("ascii")
+
+
+class Field(Value):
     """A field of a descriptor: its name in the standard, its place in the input, and its bytes."""
 
     name: str
@@ -28,8 +31,7 @@ class Field:
         return f"<{self.name} {self.data[::-1].hex()}, at {self.place}>"
 
 
-@dataclass(frozen=True, repr=False)
-class Descriptor:
+class Descriptor(Value):
     """A descriptor where it is in its input; `it["bInterval"]` is a field by its name in the standard. What doesn't apply is 0.
 
     `owner` is the role of what an association or raw descriptor belongs to. `part` is 'device', 'main' or 'other', the set a
@@ -49,8 +51,9 @@ class Descriptor:
     interface: int
     alternate: int
     codes: tuple[int, int, int]
-    _input: bytes = field(compare=False)
-    _at: bytes = field(compare=False)
+    _input: bytes
+    _at: bytes
+    _free = ("_input", "_at", "extras", "endpoints", "interfaces")
 
     @property
     def type(self) -> int:
@@ -60,17 +63,22 @@ class Descriptor:
     @property
     def fields(self) -> list[Field]:
         """Each field in the order of the bytes, of descriptors of classes too."""
-        found, at, it = [], self._numbers(), c.structs["field"]()
-        while c.lib.nzg_field(*c.lend(self._input), at, len(found), it):
-            name = bytes(it.name)[:it.name_length].decode("ascii")
-            found.append(Field(name, it.place, self._input[it.place:it.place + it.width]))
-        return found
+        return [Field(_name(it), it.place, self._bytes_of(it)) for it in self._fields()]
 
     def __getitem__(self, name: str) -> int:
-        for it in self.fields:
-            if it.name == name:
-                return it.value
+        for it in self._fields():
+            if _name(it) == name:
+                return int.from_bytes(self._bytes_of(it), "little")
         raise KeyError(name)
+
+    def _fields(self):
+        number, at, it = 0, self._numbers(), c.structs["field"]()
+        while c.lib.nzg_field(self._input, len(self._input), at, number, it):
+            yield it
+            number += 1
+
+    def _bytes_of(self, it):
+        return self._input[it.place:it.place + it.width]
 
     def _numbers(self):
         return c.structs["descriptor"].from_buffer_copy(self._at)
@@ -152,11 +160,10 @@ class String(Descriptor):
         return f" {self.index} in {self.language:04x} {self.text!r}"
 
 
-@dataclass(frozen=True, repr=False)
 class Endpoint(Descriptor):
     """An endpoint, and the descriptors that belong to it."""
 
-    extras: list[Descriptor] = field(default_factory=list, compare=False)
+    extras: list[Descriptor] = new(list)
 
     @property
     def address(self) -> int:
@@ -192,23 +199,21 @@ class Endpoint(Descriptor):
         return f" {self.address:02x}: {self.transfer_type} {self.direction} {self.number}, {self.max_packet_size} bytes"
 
 
-@dataclass(frozen=True, repr=False)
 class Interface(Descriptor):
     """An interface at one of its settings, with its endpoints and the other descriptors that belong to it."""
 
-    endpoints: list[Endpoint] = field(default_factory=list, compare=False)
-    extras: list[Descriptor] = field(default_factory=list, compare=False)
+    endpoints: list[Endpoint] = new(list)
+    extras: list[Descriptor] = new(list)
 
     def _words(self):
         return f" {self.interface}.{self.alternate}, class {bytes(self.codes).hex(' ')}, {len(self.endpoints)} endpoints"
 
 
-@dataclass(frozen=True, repr=False)
 class Configuration(Descriptor):
     """A configuration set: its interfaces at each of their settings, and the other descriptors that belong to it."""
 
-    interfaces: list[Interface] = field(default_factory=list, compare=False)
-    extras: list[Descriptor] = field(default_factory=list, compare=False)
+    interfaces: list[Interface] = new(list)
+    extras: list[Descriptor] = new(list)
 
     @property
     def value(self) -> int:
@@ -219,8 +224,7 @@ class Configuration(Descriptor):
         return f" {self.value}, {len(self.interfaces)} settings"
 
 
-@dataclass(frozen=True)
-class Finding:
+class Finding(Value):
     """A rule of chapter 9 that is broken, by which descriptor, and what breaks it in words. Sets, settings and endpoints are
     numbers from 0, each in what it belongs to."""
 
@@ -237,8 +241,7 @@ class Finding:
         return f"at {self.place}: V{self.rule}: {self.message}"
 
 
-@dataclass(frozen=True)
-class Remark:
+class Remark(Value):
     """What is remarked of a descriptor, which breaks no rule. The number is that of the table of remarks in docs/formats.md; the
     others are as in a `Finding`. `str` is the line of `usbdesc check --remarks`."""
 
@@ -254,17 +257,16 @@ class Remark:
         return f"R{self.number} {self.part} {self.set} {self.setting} {self.endpoint}"
 
 
-@dataclass(frozen=True, repr=False)
-class Descriptors:
+class Descriptors(Value):
     """All that a set, a descriptor file or a dump says. `kind` is 'set', 'file' or 'dump'."""
 
     kind: str
     device: Device | None = None
-    configurations: list[Configuration] = field(default_factory=list)
+    configurations: list[Configuration] = new(list)
     qualifier: Qualifier | None = None
-    other_configurations: list[Configuration] = field(default_factory=list)
-    languages: list[int] = field(default_factory=list)
-    strings: list[String] = field(default_factory=list)
+    other_configurations: list[Configuration] = new(list)
+    languages: list[int] = new(list)
+    strings: list[String] = new(list)
 
     @property
     def interfaces(self) -> list[Interface]:

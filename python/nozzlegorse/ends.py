@@ -7,10 +7,9 @@ Reply(kind='ack', toggle=0, data=b'')
 """
 from __future__ import annotations
 
-from dataclasses import dataclass
-
 from . import _library as c
 from ._handle import Handle
+from ._value import Value
 from .faults import STATUSES, Fault, done, step_word
 
 # The most bytes of an answer or a write, which a device keeps.
@@ -31,8 +30,7 @@ def _request(data: bytes):
     return c.structs["setup"].from_buffer_copy(data)
 
 
-@dataclass(frozen=True)
-class Transaction:
+class Transaction(Value):
     """What a host sends: SETUP with its eight bytes, IN, or OUT with a toggle and data."""
 
     address: int
@@ -43,7 +41,7 @@ class Transaction:
 
     def __post_init__(self):
         for name in ("setup_bytes", "data"):
-            object.__setattr__(self, name, c.lend(getattr(self, name))[0])
+            self.__dict__[name] = c.lend(getattr(self, name))[0]
         self._numbers()
 
     @staticmethod
@@ -60,8 +58,7 @@ class Transaction:
                                         c.number(self.toggle, 0, 1, "a toggle"), _request(self.setup_bytes).bytes)
 
 
-@dataclass(frozen=True)
-class Reply:
+class Reply(Value):
     """What comes back: 'ack', 'nak', 'stall', 'data' with a toggle and bytes, or 'silence'."""
 
     kind: str
@@ -69,7 +66,7 @@ class Reply:
     data: bytes = b""
 
     def __post_init__(self):
-        object.__setattr__(self, "data", c.lend(self.data)[0])
+        self.__dict__["data"] = c.lend(self.data)[0]
         self._numbers()
 
     def __str__(self) -> str:
@@ -92,8 +89,7 @@ def _due(it) -> Transaction:
     return Transaction(it.address, STAGES[it.stage], bytes(it.setup), it.toggle)
 
 
-@dataclass(frozen=True)
-class State:
+class State(Value):
     """What a device keeps: bit i of `halts` is endpoint i OUT, bit 16 + i endpoint i IN; `alternates` by interface number."""
 
     address: int
@@ -162,23 +158,22 @@ class Device(Handle):
         return State(it.address, it.selected, it.wakeup, it.halts, bytes(it.alternates))
 
 
-class Transfer(Handle):
-    """One control transfer at the host's end.
+class _Transfer:
+    """One control transfer at the host's end. `ended` is None while it goes on, and then 'complete' or why it failed, as 'NoAnswer'.
+    It holds nothing of the library's, so a copy is a place to come back to."""
 
-    `data` are the bytes that came; `ended` is None while it goes on, and then 'complete' or why it failed, as 'NoAnswer'.
-    """
-
-    _of = "transfer"
+    _of = ""
 
     def __init__(self, request: bytes, address: int = 0, packet: int = 64, naks: int = 16):
-        self.data, self.ended = b"", None
-        self._open(c.number(address, 0, 255, "address"), c.number(packet, 0, 255, "packet"), c.number(naks, 0, 65535, "naks"),
-                   _request(request))
+        self.data, self.ended, self._state = b"", None, bytes(c.structs[self._of]())
+        done(self._call("open", c.number(address, 0, 255, "address"), c.number(packet, 0, 255, "packet"), c.number(naks, 0, 65535, "naks"),
+                        _request(request)))
 
-    def next(self) -> Transaction | None:
-        """The transaction that is due; None once it has ended."""
-        due = c.structs["transaction"]()
-        return _due(due) if self._call("next", due) else None
+    def _call(self, name: str, *rest):
+        numbers = c.structs[self._of].from_buffer_copy(self._state)
+        answer = getattr(c.lib, f"nzg_{self._of}_{name}")(numbers, *rest)
+        self._state = bytes(numbers)
+        return answer
 
     def take(self, reply: Reply) -> None:
         """Takes what came back of the transaction that is due."""
@@ -190,6 +185,35 @@ class Transfer(Handle):
             done(answer)
             self.data += reply.data[:answer.length]
             self.ended = "complete" if kind == "done" else None
+
+
+class Transfer(_Transfer):
+    """One control transfer at the host's end, without data for the device: `Write` has them.
+
+    `data` are the bytes that came; `ended` is None while it goes on, and then 'complete' or why it failed, as 'NoAnswer'.
+    """
+
+    _of = "transfer"
+
+    def next(self) -> Transaction | None:
+        """The transaction that is due; None once it has ended."""
+        due = c.structs["transaction"]()
+        return _due(due) if self._call("next", due) else None
+
+
+class Write(_Transfer):
+    """One control transfer with data to the device, at the host's end; `ended` is as of a `Transfer`."""
+
+    _of = "write"
+
+    def next(self, data: bytes) -> Transaction | None:
+        """The transaction that is due, where these are the wLength bytes of data; None once it has ended."""
+        (data, length), due = c.lend(data), c.structs["transaction"]()
+        answer = done(self._call("next", data, length, due))
+        if STATUSES[answer.status] == "open":
+            return None
+        packet = data[answer.place:answer.place + answer.length]
+        return Transaction(due.address, STAGES[due.stage], bytes(due.setup), due.toggle, packet)
 
 
 class Host(Handle):

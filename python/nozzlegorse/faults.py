@@ -9,9 +9,10 @@ _NAMES = {
     "file_fault": "Device Set SetKind Qualifier Text Truncated Trailing",
     "list_fault": "Line Word Place Field TooLong Missing",
     "description_fault": "Finding Texts Speed Memory Unwritable",
-    "bad_argument": "address attempts speed fate rule string packet reply",
+    "bad_argument": "address attempts speed fate rule string packet reply request data transfer fields",
     "trouble": "NoAnswer Busy Stalled TooLong Unexpected Malformed Memory",
     "unanswered": "Nothing Closed Shape Room",
+    "damage": "Empty Pid Reserved Length Crc5 Crc16",
 }
 _STEPS = ("", "first", "address", "device", "header {i}", "set {i}", "qualifier", "other_header {i}", "other_set {i}", "languages",
           "text {l:04x} {i:02x}", "configure")

@@ -1,15 +1,13 @@
 """What `usbdesc` writes, from bytes, and the bytes that a text lists."""
 from __future__ import annotations
 
-from dataclasses import dataclass
-
 from . import _library as c
 from ._handle import Handle
+from ._value import Value
 from .faults import STATUSES, Fault, done, fault_of, step_word
 
 
-@dataclass(frozen=True)
-class Explanation:
+class Explanation(Value):
     """A text as far as the bytes go, and the fault where they are broken."""
 
     text: str
@@ -19,8 +17,7 @@ class Explanation:
         return self.text
 
 
-@dataclass(frozen=True)
-class Enumeration:
+class Enumeration(Value):
     """What came of an enumeration: after success the listing of what was read and no trouble. `str` is the line of `usbdesc`."""
 
     attempts: int

@@ -1,6 +1,6 @@
 """Devices for a real Linux host, which plugs them in by `usbip attach`: USB/IP 1.1.1, served on 127.0.0.1.
 
-    python3 -m nozzlegorse.usbip FILE.. [--speed S] [--answers FILE].. [--with-strings] [--port P] [--feed PORT]
+    python3 -m nozzlegorse.usbip FILE [--speed S] [--answers FILE] [FILE ..] [--with-strings] [--port P] [--feed PORT]
 
 A control transfer becomes the transactions of one at a proved `Device`; what that refuses is asked of its owner. An owner of
 one's own is a class, and `main(Mine)` is its program:
@@ -15,162 +15,34 @@ one's own is a class, and `main(Mine)` is its program:
 from __future__ import annotations
 
 import argparse
-import contextlib
+import itertools
 import os
-import selectors
-import socket
+import signal
 import sys
+import threading
+from collections.abc import Iterator
+from dataclasses import dataclass
 
-from . import Fault, with_strings
+from . import Fault, check, read, with_strings
 from ._answers import Answers
-from ._plug import LOCK, Owner, Plug
-from ._wire import MOST, SPEEDS, Client, Refused
+from ._drivers import wanted
+from ._links import Bridge, Feeder
+from ._owner import Later, Owner
+from ._plug import Pending, Plug
+from ._wire import SPEEDS, Client, Refused
 
-__all__ = ["Answers", "Client", "Owner", "Plug", "Refused", "main"]
-# The most connections, and the most bytes that wait until one is ready for them.
-MOST_LINKS, MOST_UNSENT = 256, 16 << 20
-
-
-class Feeder:
-    """A connection to the feed port: lines in any pieces, and what waits, in lines as `waits 81 4`."""
-
-    def __init__(self, plugs: list, send):
-        self.plugs, self._send, self.buffer = plugs, send, bytearray()
-        for plug in plugs:
-            for endpoint, size in plug.waiting.values():
-                if endpoint is not None:
-                    self.say(plug.waits(endpoint, size))
-
-    def say(self, line: str) -> None:
-        self._send(line.encode() + b"\n")
-
-    def take(self, data: bytes) -> None:
-        """Takes a piece of what came: lines `feed 81 HEX`, of the first device, or with its bus id `feed 1-2 81 HEX`."""
-        self.buffer += data
-        if b"\n" in data:
-            *lines, self.buffer = self.buffer.split(b"\n")
-            for line in lines:
-                if words := line.decode(errors="replace").split():
-                    self.say(self._fed(words))
-        if len(self.buffer) > 2 * MOST + 64:
-            raise Refused("a line of too many bytes")
-
-    def _fed(self, words: list) -> str:
-        plug = next((it for it in self.plugs if it.bus_id in words[1:2]), None)
-        verb, *rest = words[:1] + words[2:] if plug else words
-        plug = plug or self.plugs[0]
-        try:
-            endpoint, digits = rest
-            endpoint, data = int(endpoint, 16), bytes.fromhex(digits.strip("-"))
-        except ValueError:
-            verb = ""
-        if verb != "feed" or not 0x80 < endpoint < 0x90:
-            return f"no feed: {' '.join(words)[:60]}"
-        if not plug.client:
-            return f"nobody has attached {plug.bus_id}"
-        return f"fed {len(data)}" if plug.send(endpoint, data) else f"no feed: too much is queued for {endpoint:02x}"
-
-    def close(self) -> None:
-        """Nothing is held."""
+__all__ = ["Answers", "Bridge", "Client", "Later", "Owner", "Pending", "Plug", "Refused", "main"]
+# The longest packet of a speed (USB 2.0, 5.5.3, 5.7.3, 5.8.3), and at full speed of an isochronous endpoint (5.6.3).
+LONGEST, LONGEST_ISOCHRONOUS = {"low": 8, "full": 64}, 1023
 
 
-class Link:
-    """A connection. What comes goes to its end, a client or a feeder, and nothing is read while what that sends still waits."""
+@dataclass
+class Named:
+    """A file that was named, with its options."""
 
-    def __init__(self, bridge: Bridge, it: socket.socket, kind: type):
-        it.setblocking(False)
-        it.setsockopt(socket.IPPROTO_TCP, socket.TCP_NODELAY, 1)
-        self.bridge, self.socket, self.unsent = bridge, it, bytearray()
-        bridge.waits.register(it, selectors.EVENT_READ, self)
-        self.end = kind(bridge.plugs, self.send)
-
-    def send(self, data: bytes) -> None:
-        self.unsent += data
-        self._flush()
-
-    def _flush(self) -> None:
-        try:
-            while self.unsent:
-                del self.unsent[: self.socket.send(self.unsent)]
-        except BlockingIOError:
-            if len(self.unsent) > MOST_UNSENT:
-                self._give_up()
-        except OSError:
-            self._give_up()
-        self.bridge.waits.modify(self.socket, selectors.EVENT_WRITE if self.unsent else selectors.EVENT_READ, self)
-
-    def _give_up(self) -> None:
-        """Sends no more: the next read ends it."""
-        self.unsent.clear()
-        with contextlib.suppress(OSError):
-            self.socket.shutdown(socket.SHUT_RDWR)
-
-    def go_on(self) -> bool:
-        """Sends or reads, as it is ready for; False where it has ended."""
-        if self.unsent:
-            self._flush()
-            return True
-        try:
-            data = self.socket.recv(1 << 16)
-        except BlockingIOError:
-            return True
-        except OSError:
-            return False
-        try:
-            self.end.take(data)
-        except Refused as fault:
-            self.bridge.tell(f"a connection is ended: {fault}")
-            return False
-        return bool(data)
-
-    def close(self) -> None:
-        self.bridge.waits.unregister(self.socket)
-        self.socket.close()
-        self.end.close()
-
-
-class Bridge:
-    """The sockets: any number of clients and feeders, each of which can end nothing but itself."""
-
-    def __init__(self, plugs: list):
-        self.plugs, self.waits = plugs, selectors.DefaultSelector()
-
-    def listen(self, kind: type, port: int) -> int:
-        """Takes connections at a port, which is found where it is 0."""
-        try:
-            server = socket.create_server(("127.0.0.1", port))
-        except OSError as fault:
-            raise ValueError(f"port {port}: {os.strerror(fault.errno)}") from None
-        server.setblocking(False)
-        self.waits.register(server, selectors.EVENT_READ, kind)
-        return server.getsockname()[1]
-
-    def tell(self, line: str) -> None:
-        """Prints a line. What waits, and what was too long for that, goes to each feeder too."""
-        print(line, flush=True)
-        if line.startswith(("waits ", "overflow ")):
-            for key in list(self.waits.get_map().values()):
-                if isinstance(key.data, Link) and isinstance(key.data.end, Feeder):
-                    key.data.end.say(line)
-
-    def step(self) -> None:
-        for key, _ in self.waits.select():
-            with LOCK:
-                if isinstance(key.data, type):
-                    self._accept(key.fileobj, key.data)
-                elif not key.data.go_on():
-                    key.data.close()
-
-    def _accept(self, server: socket.socket, kind: type) -> None:
-        try:
-            it, _ = server.accept()
-        except OSError:
-            # It has ended already.
-            return
-        if len(self.waits.get_map()) < MOST_LINKS:
-            Link(self, it, kind)
-        else:
-            it.close()
+    name: str
+    speed: str | None = None
+    answers: str | None = None
 
 
 class Words(argparse.ArgumentParser):
@@ -178,6 +50,33 @@ class Words(argparse.ArgumentParser):
 
     def error(self, message: str):
         self.exit(2, f"{self.prog}: {message}\n")
+
+    def in_order(self, words: list[str]) -> Iterator[str]:
+        """The words, with `--file=` before each that is a file: so files and options keep their order."""
+        rest = iter(words)
+        for word in rest:
+            if word == "--":
+                yield from (f"--file={it}" for it in rest)
+            elif word.startswith("-"):
+                yield word
+                action = self._option_string_actions.get(word)
+                if action and action.nargs != 0:
+                    yield from itertools.islice(rest, 1)
+            else:
+                yield f"--file={word}"
+
+
+class OfFile(argparse.Action):
+    """A file, or an option of the file before it: one that comes before each file is of the first, or a speed of all."""
+
+    def __call__(self, parser, given, value, option=None):
+        if self.dest == "file":
+            given.files.append(Named(value))
+            return
+        it = given.files[-1] if given.files else given.first
+        if getattr(it, self.dest) is not None:
+            parser.error(f"{option} is there twice, {it.name and 'of ' + it.name or 'before a file'}")
+        setattr(it, self.dest, value)
 
 
 def port(word: str) -> int:
@@ -187,18 +86,34 @@ def port(word: str) -> int:
     return int(word)
 
 
-def main(owner: type = Answers, words: list | None = None) -> None:
-    """The program: the devices of these files, each with an owner of this class."""
-    parser = Words(prog="nozzlegorse.usbip" if owner is Answers else None, description=__doc__.split("\n\n", maxsplit=1)[0])
-    parser.add_argument("files", nargs="+", metavar="FILE", help="descriptor files, at the bus ids 1-1, 1-2 and so on")
-    parser.add_argument("--speed", choices=SPEEDS, default="full")
+def _words(owner: type) -> Words:
+    options = "[--speed S]" + " [--answers FILE]" * (owner is Answers)
+    parser = Words(prog="nozzlegorse.usbip" if owner is Answers else None, description=__doc__.split("\n\n", maxsplit=1)[0], allow_abbrev=False,
+                   usage=f"%(prog)s FILE {options} [FILE {options}] .. [OPTIONS]", epilog="Each FILE is a descriptor file. They are at the bus ids 1-1, 1-2 and so on.")
+    parser.add_argument("--file", action=OfFile, help=argparse.SUPPRESS)
+    parser.add_argument("--speed", action=OfFile, choices=SPEEDS, help="of the file before it, or before the first one of all; else full, or high where a packet is too long for that")
+    if owner is Answers:
+        parser.add_argument("--answers", action=OfFile, metavar="FILE", help="answers to what the table refuses, of the file before it")
     parser.add_argument("--with-strings", action="store_true", help="the files are dumps, and get strings")
     parser.add_argument("--port", type=port, default=3240, help="the port of USB/IP, %(default)s where it is left out; 0 is a free one")
     parser.add_argument("--feed", type=port, metavar="PORT", help="a port for lines as `feed 81 0105fb00`")
-    if owner is Answers:
-        parser.add_argument("--answers", action="append", default=[], metavar="FILE", help="answers to what the table refuses: the first one of the first device, and so on")
+    parser.add_argument("--quiet", action="store_true", help="prints no transfers")
+    parser.add_argument("--data", action="store_true", help="prints all bytes that the host sends, and not 64 of a transfer")
+    return parser
+
+
+def main(owner: type = Answers, words: list | None = None) -> None:
+    """The program: the devices of these files, each with an owner of this class."""
+    parser, bridge = _words(owner), None
     try:
-        bridge = _opened(parser, parser.parse_args(words), owner)
+        given = parser.parse_args(list(parser.in_order(sys.argv[1:] if words is None else words)), argparse.Namespace(files=[], first=Named("")))
+        if not given.files:
+            parser.error("the following arguments are required: FILE")
+        bridge = Bridge([])
+        if threading.current_thread() is threading.main_thread():
+            # A signal may come to any thread, and this one, which waits, takes it.
+            signal.set_wakeup_fd(bridge.wakes.fileno(), warn_on_full_buffer=False)
+        _open(parser, bridge, given, owner)
         while True:
             bridge.step()
     except BrokenPipeError:
@@ -206,13 +121,22 @@ def main(owner: type = Answers, words: list | None = None) -> None:
         os.dup2(os.open(os.devnull, os.O_WRONLY), sys.stdout.fileno())
     except KeyboardInterrupt:
         pass
+    finally:
+        if threading.current_thread() is threading.main_thread():
+            signal.set_wakeup_fd(-1)
+        if bridge:
+            bridge.close()
 
 
-def _opened(parser: Words, given: argparse.Namespace, owner: type) -> Bridge:
-    """The bridge of what was typed, which listens and has said so."""
-    bridge = Bridge([])
+def _open(parser: Words, bridge: Bridge, given: argparse.Namespace, owner: type) -> None:
+    """The bridge of what was typed, which listens and says so."""
+    bridge.is_quiet = given.quiet
     try:
-        _plug_in(bridge, given, owner)
+        if given.first.answers and given.files[0].answers:
+            raise ValueError(f"--answers is there twice, before and after {given.files[0].name}")
+        given.files[0].answers = given.files[0].answers or given.first.answers
+        for number, it in enumerate(given.files, 1):
+            _plug_in(bridge, given, it, owner, f"1-{number}")
         at = bridge.listen(Client, given.port)
         if given.feed is not None:
             bridge.tell(f"lines as 'feed 81 0105fb00' are taken at port {bridge.listen(Feeder, given.feed)}")
@@ -223,27 +147,46 @@ def _opened(parser: Words, given: argparse.Namespace, owner: type) -> Bridge:
     except ValueError as fault:
         parser.error(str(fault))
     option = f" --tcp-port {at}" if at != 3240 else ""
-    for plug, name in zip(bridge.plugs, given.files):
-        bridge.tell(f"{name} at {plug.speed} speed: sudo modprobe vhci_hcd; sudo usbip{option} attach -r 127.0.0.1 -b {plug.bus_id}")
-    return bridge
+    for plug, it in zip(bridge.plugs, given.files):
+        bridge.tell(f"{it.name} at {plug.speed} speed: sudo modprobe vhci_hcd; sudo usbip{option} attach -r 127.0.0.1 -b {plug.bus_id}")
 
 
-def _plug_in(bridge: Bridge, given: argparse.Namespace, owner: type) -> None:
-    """The devices of the files, with their owners."""
-    answers = list(getattr(given, "answers", []))
-    if len(answers) > len(given.files):
-        raise ValueError("more files of answers than devices")
-    for number, name in enumerate(given.files, 1):
-        with open(name, "rb") as file:
-            data = file.read()
-        mine = owner(answers.pop(0)) if answers else owner()
-        try:
-            plug = Plug(with_strings(data) if given.with_strings else data, mine, given.speed, f"1-{number}", bridge.tell)
-        except Fault as fault:
-            raise ValueError(f"{name}: {fault}") from None
-        if isinstance(mine, Answers):
-            mine.check(plug.device)
-        bridge.plugs.append(plug)
+def _plug_in(bridge: Bridge, given: argparse.Namespace, it: Named, owner: type, bus_id: str) -> None:
+    """The device of a file, with its owner."""
+    with open(it.name, "rb") as opened:
+        data = opened.read()
+    mine = owner(it.answers) if it.answers else owner()
+    try:
+        file = with_strings(data) if given.with_strings else data
+        plug = Plug(file, mine, _speed(it.speed or given.first.speed, file), bus_id, bridge.tell)
+    except Fault as fault:
+        raise ValueError(f"{it.name}: {fault}{_broken(file) if fault.name == 'Finding' else ''}") from None
+    except ValueError as fault:
+        raise ValueError(f"{it.name}: {fault}") from None
+    plug.run, plug.is_quiet, plug.shows_all = bridge.worker(), given.quiet, given.data
+    bridge.plugs.append(plug)
+    if isinstance(mine, Answers):
+        mine.check(plug.device)
+        for request, what in wanted(file).items() if given.with_strings else ():
+            if not mine.has(request):
+                bridge.tell(f"{it.name}: a driver asks {request}, {what}, which a dump doesn't have: --answers")
+
+
+def _broken(file: bytes) -> str:
+    """The first rule of chapter 9 that a file breaks."""
+    it = check(file)[0]
+    return f", V{it.rule} at {it.place}: {it.message}"
+
+
+def _speed(named: str | None, file: bytes) -> str:
+    """The speed of a device: that which was named, else full, or high where a packet is too long for that."""
+    speed = named or "full"
+    for it in read(file).endpoints if speed in LONGEST else ():
+        if it.max_packet_size > (LONGEST_ISOCHRONOUS if (speed, it.transfer_type) == ("full", "isochronous") else LONGEST[speed]):
+            if not named:
+                return "high"
+            raise ValueError(f"endpoint {it.address:02x} has packets of {it.max_packet_size} bytes, too long for {speed} speed")
+    return speed
 
 
 if __name__ == "__main__":

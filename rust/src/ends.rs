@@ -126,6 +126,17 @@ impl Difference {
     }
 }
 
+/// What a device under test has answered in the transfer of a request that is open to it: [`Device::judge`].
+#[derive(Clone, Debug, Default)]
+pub struct OpenTransfer(sys::nzg_open_transfer);
+
+impl OpenTransfer {
+    /// The host's ACK of the data that was judged right before has reached the device: with [`Device::acked`].
+    pub fn acked(&mut self) {
+        unsafe { sys::nzg_judge_acked(&mut self.0) };
+    }
+}
+
 // Each handle is closed by the library when it is dropped. The raw pointer in it makes it neither `Send` nor `Sync`.
 macro_rules! handles {
     ($($(#[$words:meta])* $name:ident $of:ident $close:ident)*) => {$(
@@ -144,13 +155,19 @@ macro_rules! handles {
 handles! {
     /// A device with the descriptors of a file. It is neither `Clone` nor `Send`.
     Device nzg_device nzg_device_close
-    /// One control transfer at the host's end. It is neither `Clone` nor `Send`.
-    Transfer nzg_transfer nzg_transfer_close
     /// A host that enumerates one device. It is neither `Clone` nor `Send`.
     Host nzg_host nzg_host_close
     /// A set that comes in pieces. It is neither `Clone` nor `Send`.
     Decoder nzg_decoder nzg_decoder_close
 }
+
+/// One control transfer at the host's end, without data for the device: that is [`Write`]. A copy is a place to come back to.
+#[derive(Clone, Copy, Debug)]
+pub struct Transfer(sys::nzg_transfer);
+
+/// One control transfer with data to the device. A copy is a place to come back to.
+#[derive(Clone, Copy, Debug)]
+pub struct Write(sys::nzg_write);
 
 /// What a device keeps.
 #[derive(Clone, Copy, Debug, PartialEq, Eq)]
@@ -185,16 +202,17 @@ impl Device {
         Reply::of(&it)
     }
     /// Whether a device under test may answer so in the transfer of this request: this one has the same transaction, is ready
-    /// where the other was, and gives its own answer. `None` where the answer has more than 64 bytes.
+    /// where the other was, and gives its own answer. What is open to a device goes on in `open`. `None` where the answer has more
+    /// than 64 bytes.
     pub fn judge(
-        &mut self, request: [u8; 8], transaction: &Transaction<'_>, came: &Reply,
+        &mut self, open: &mut OpenTransfer, request: [u8; 8], transaction: &Transaction<'_>, came: &Reply,
     ) -> Option<(Option<Difference>, Reply)> {
         let ((transaction, data), (reply, toggle, bytes)) = (transaction.numbers(), came.numbers());
         let mut packet = nzg_packet { reply, toggle, length: u8::try_from(bytes.len()).ok()?, ..nzg_packet::default() };
         packet.data.get_mut(..bytes.len())?.copy_from_slice(bytes);
         let (request, mut has) = (nzg_setup { bytes: request }, nzg_packet::default());
-        let (sent, len) = (data.as_ptr(), data.len());
-        let number = unsafe { sys::nzg_judge_device(&mut self.0, &request, &transaction, sent, len, &packet, &mut has) };
+        let (sent, len, open) = (data.as_ptr(), data.len(), &mut open.0);
+        let number = unsafe { sys::nzg_judge_device(&mut self.0, open, &request, &transaction, sent, len, &packet, &mut has) };
         (number < 9).then(|| (Difference::of(number), Reply::of(&has)))
     }
     /// The host acknowledged the data that was answered right before.
@@ -214,7 +232,7 @@ impl Device {
     pub fn accept(&mut self) -> Result<(), Fault> {
         done(unsafe { sys::nzg_device_accept(&mut self.0) }).map(|_| ())
     }
-    /// The request of a write whose data have all come and that wasn't answered yet, and those data.
+    /// The request of a write whose data have all come and that wasn't answered yet, and those data, for which there is room.
     pub fn written(&mut self) -> Option<([u8; 8], Vec<u8>)> {
         let mut setup = nzg_setup::default();
         let (answer, data) = into(|data, room| unsafe { sys::nzg_device_written(&mut self.0, &mut setup, data, room) });
@@ -245,15 +263,67 @@ impl Transfer {
         Ok(transfer)
     }
     /// The transaction that is due; `None` once it has ended.
-    pub fn due(&mut self) -> Option<Transaction<'static>> {
+    pub fn due(&self) -> Option<Transaction<'static>> {
         let mut due = nzg_transaction::default();
-        unsafe { sys::nzg_transfer_next(&mut self.0, &mut due) }.then(|| Transaction::due(due))
+        unsafe { sys::nzg_transfer_next(&self.0, &mut due) }.then(|| Transaction::due(due))
     }
     /// Takes what came back: whether the transfer is complete, and how many bytes of the reply are new.
     pub fn take(&mut self, reply: &Reply) -> Result<(bool, usize), Fault> {
         let (number, toggle, data) = reply.numbers();
         let answer = done(unsafe { sys::nzg_transfer_take(&mut self.0, number, toggle, data.as_ptr(), data.len()) })?;
         Ok((answer.status == 0, answer.length))
+    }
+}
+
+impl Write {
+    /// The write of a request with data to a device whose bMaxPacketSize0 is `packet`; `naks` NAKs in a row are taken.
+    pub fn open(request: [u8; 8], address: u8, packet: u8, naks: u16) -> Result<Write, Fault> {
+        let mut write = Write(sys::nzg_write::default());
+        done(unsafe { sys::nzg_write_open(&mut write.0, address, packet, naks, &nzg_setup { bytes: request }) })?;
+        Ok(write)
+    }
+    /// The transaction that is due, where these are the wLength bytes of data; `None` once it has ended.
+    ///
+    /// ```
+    /// use nozzlegorse::{Fault, Reply, Stage, Toggle, Transaction, Write};
+    ///
+    /// /// SET_LINE_CODING: 115,200 bits a second, eight data bits.
+    /// fn set_line_coding(mut send: impl FnMut(&Transaction) -> Reply) -> Result<(), Fault> {
+    ///     let coding = [0x00, 0xc2, 0x01, 0x00, 0, 0, 8];
+    ///     let mut write = Write::open([0x21, 0x20, 0, 0, 0, 0, 7, 0], 5, 64, 16)?;
+    ///     while let Some(due) = write.due(&coding)? {
+    ///         write.take(&send(&due))?;
+    ///     }
+    ///     Ok(())
+    /// }
+    ///
+    /// let mut sent = Vec::new();
+    /// set_line_coding(|due| match due.stage {
+    ///     Stage::Out(_, data) => {
+    ///         sent.extend_from_slice(data);
+    ///         Reply::Ack
+    ///     }
+    ///     Stage::In => Reply::Data(Toggle::Data1, Vec::new()),
+    ///     _ => Reply::Ack,
+    /// })?;
+    /// assert_eq!(sent, [0x00, 0xc2, 0x01, 0x00, 0, 0, 8]);
+    /// assert!(set_line_coding(|_| Reply::Stall).is_err());
+    /// # Ok::<(), Fault>(())
+    /// ```
+    pub fn due<'a>(&self, data: &'a [u8]) -> Result<Option<Transaction<'a>>, Fault> {
+        let mut due = nzg_transaction::default();
+        let answer = done(unsafe { sys::nzg_write_next(&self.0, data.as_ptr(), data.len(), &mut due) })?;
+        let mut due = Transaction::due(due);
+        if let Stage::Out(toggle, _) = due.stage {
+            due.stage = Stage::Out(toggle, &data[answer.place..answer.place + answer.length]);
+        }
+        Ok((answer.status == 0).then_some(due))
+    }
+    /// Takes what came back: whether the write is complete.
+    pub fn take(&mut self, reply: &Reply) -> Result<bool, Fault> {
+        let (number, toggle, data) = reply.numbers();
+        let answer = done(unsafe { sys::nzg_write_take(&mut self.0, number, toggle, data.as_ptr(), data.len()) })?;
+        Ok(answer.status == 0)
     }
 }
 

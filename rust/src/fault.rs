@@ -18,7 +18,7 @@ pub enum Kind {
     Trailing,
     /// Out of memory.
     Memory,
-    /// A number or a letter has no meaning: 1 to 8.
+    /// A number or a letter has no meaning, or data and fields don't fit: 1 to 12.
     Argument,
     /// A transfer or an enumeration failed: 1 to 7.
     Trouble,
@@ -115,7 +115,10 @@ impl Fault {
             Kind::File => &["Device", "Set", "SetKind", "Qualifier", "Text", "Truncated", "Trailing"],
             Kind::Listing => &["Line", "Word", "Place", "Field", "TooLong", "Missing"],
             Kind::Description => &["Finding", "Texts", "Speed", "Memory", "Unwritable"],
-            Kind::Argument => &["address", "attempts", "speed", "fate", "rule", "string", "packet", "reply"],
+            Kind::Argument => &[
+                "address", "attempts", "speed", "fate", "rule", "string", "packet", "reply", "request", "data", "transfer",
+                "fields",
+            ],
             Kind::Trouble => &["NoAnswer", "Busy", "Stalled", "TooLong", "Unexpected", "Malformed", "Memory"],
             Kind::Unanswered => &["Nothing", "Closed", "Shape", "Room"],
             Kind::Trailing | Kind::Memory | Kind::Other => &[],

@@ -14,15 +14,19 @@
 mod descriptor;
 mod ends;
 mod fault;
+mod packet;
 mod sys;
 
 pub use descriptor::{
     Descriptor, Descriptors, Endpoint, Field, Finding, Input, Part, Remark, Role, TransferType, check, descriptors, judge,
     remarks,
 };
-pub use ends::{Action, Decoder, Device, Difference, Host, Reply, Stage, State, Toggle, Transaction, Transfer};
+pub use ends::{
+    Action, Decoder, Device, Difference, Host, OpenTransfer, Reply, Stage, State, Toggle, Transaction, Transfer, Write,
+};
 use fault::done;
 pub use fault::{Fault, Kind, Step};
+pub use packet::{Damage, DataKind, Handshake, Packet, TokenKind, crc5, crc16};
 use std::fmt;
 use sys::{nzg_answer, nzg_outcome};
 

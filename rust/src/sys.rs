@@ -32,14 +32,17 @@ structs! {
     nzg_field { usize: place; u64: value; u8: width name_length; [u8; 62]: name; }
     nzg_finding { usize: place set setting endpoint; u8: rule part role; }
     nzg_remark { usize: place set setting endpoint; u8: number part role; }
+    nzg_packet_fields { u32: split; u16: frame place length; u8: pid address endpoint; }
     nzg_transaction { u8: address stage toggle; [u8; 8]: setup; }
     nzg_packet { u8: reply toggle length; [u8; 64]: data; }
     nzg_setup { [u8; 8]: bytes; }
+    nzg_open_transfer { u16: acknowledged sent; u8: last stage; }
     nzg_state { u32: halts; u8: address selected; bool: wakeup; [u8; 256]: alternates; }
     nzg_trouble { u8: why step index; u16: language; }
     nzg_step { u16: naks kept language; u8: step index strikes; [u8; 8]: setup; }
     nzg_device { *mut c_void: held; }
-    nzg_transfer { *mut c_void: held; }
+    nzg_transfer { u16: naks nak_count kept; u8: address packet stage why toggle strikes; [u8; 8]: setup; }
+    nzg_write { nzg_transfer: transfer; }
     nzg_host { *mut c_void: held; }
     nzg_decoder { *mut c_void: held; }
 }
@@ -60,6 +63,12 @@ unsafe extern "C" {
     pub fn nzg_rule(rule: u8, text: *mut u8, room: usize) -> nzg_answer;
     pub fn nzg_text(bytes: *const u8, len: usize, string: *const nzg_descriptor, text: *mut u8, room: usize) -> nzg_answer;
     pub fn nzg_with_strings(dump: *const u8, len: usize, file: *mut u8, room: usize) -> nzg_answer;
+    pub fn nzg_packet_parse(bytes: *const u8, len: usize, packet: *mut nzg_packet_fields) -> u8;
+    pub fn nzg_packet_write(
+        packet: *const nzg_packet_fields, data: *const u8, len: usize, bytes: *mut u8, room: usize,
+    ) -> nzg_answer;
+    pub fn nzg_crc5(fields: u32, width: u32) -> u8;
+    pub fn nzg_crc16(bytes: *const u8, len: usize) -> u16;
     pub fn nzg_device_open(device: *mut nzg_device, file: *const u8, len: usize, speed: u8) -> nzg_answer;
     pub fn nzg_device_reset(device: *mut nzg_device) -> bool;
     pub fn nzg_device_serve(
@@ -76,15 +85,20 @@ unsafe extern "C" {
     pub fn nzg_device_state(device: *mut nzg_device, state: *mut nzg_state) -> bool;
     pub fn nzg_device_close(device: *mut nzg_device);
     pub fn nzg_judge_device(
-        device: *mut nzg_device, request: *const nzg_setup, transaction: *const nzg_transaction, data: *const u8, len: usize,
-        came: *const nzg_packet, has: *mut nzg_packet,
+        device: *mut nzg_device, open: *mut nzg_open_transfer, request: *const nzg_setup, transaction: *const nzg_transaction,
+        data: *const u8, len: usize, came: *const nzg_packet, has: *mut nzg_packet,
     ) -> u8;
+    pub fn nzg_judge_acked(open: *mut nzg_open_transfer);
     pub fn nzg_transfer_open(
         transfer: *mut nzg_transfer, address: u8, packet: u8, naks: u16, setup: *const nzg_setup,
     ) -> nzg_answer;
-    pub fn nzg_transfer_next(transfer: *mut nzg_transfer, transaction: *mut nzg_transaction) -> bool;
+    pub fn nzg_transfer_next(transfer: *const nzg_transfer, transaction: *mut nzg_transaction) -> bool;
     pub fn nzg_transfer_take(transfer: *mut nzg_transfer, reply: u8, toggle: u8, data: *const u8, len: usize) -> nzg_answer;
-    pub fn nzg_transfer_close(transfer: *mut nzg_transfer);
+    pub fn nzg_write_open(write: *mut nzg_write, address: u8, packet: u8, naks: u16, setup: *const nzg_setup) -> nzg_answer;
+    pub fn nzg_write_next(
+        write: *const nzg_write, data: *const u8, len: usize, transaction: *mut nzg_transaction,
+    ) -> nzg_answer;
+    pub fn nzg_write_take(write: *mut nzg_write, reply: u8, toggle: u8, data: *const u8, len: usize) -> nzg_answer;
     pub fn nzg_host_open(host: *mut nzg_host, address: u8, naks: u16, attempts: u8, speed: u8) -> nzg_answer;
     pub fn nzg_host_next(host: *mut nzg_host, transaction: *mut nzg_transaction) -> u8;
     pub fn nzg_host_reset_done(host: *mut nzg_host) -> bool;

@@ -22,6 +22,7 @@ WHEEL = "py3-none-manylinux_2_17_x86_64"
 CONFIG = """prefix={prefix}
 libdir=${{prefix}}/{libdir}
 includedir=${{prefix}}/include
+benchdir=${{prefix}}/share/nozzlegorse/bench
 
 Name: nozzlegorse
 Description: {summary}
@@ -57,6 +58,14 @@ class Made(NamedTuple):
     help: pages.Help
     epoch: int
 
+    def for_python(self):
+        """The version as Python's installers have it, by which what precedes a release is older than that."""
+        return self.version.replace("-dev", ".dev0")
+
+    def for_debian(self):
+        """And as dpkg has it."""
+        return self.version.replace("-dev", "~dev")
+
 
 def read(path):
     with open(path, "rb") as it:
@@ -77,6 +86,11 @@ def python_module():
     return [*sorted(glob.glob(f"{ROOT}/python/nozzlegorse/*.py")), *glob.glob(f"{ROOT}/python/nozzlegorse/py.typed")]
 
 
+def bench():
+    """The sources of the bench for C, without the programs that try it."""
+    return [it for kind in "ch" for it in sorted(glob.glob(f"{ROOT}/callers/c/nozzlegorse_*.{kind}"))]
+
+
 def rust_crate():
     return [it for kind in ("Cargo.toml", "build.rs", "src/*.rs", "examples/*.rs") for it in sorted(glob.glob(f"{ROOT}/rust/{kind}"))]
 
@@ -84,7 +98,8 @@ def rust_crate():
 def installed(made, libdir, prefix):
     """The program and the library as a system has them, below its prefix."""
     plain, release = f"{libdir}/libnozzlegorse", made.version.partition("+")[0]
-    major = f"libnozzlegorse.so.{release.partition('.')[0]}"
+    number = release.partition(".")[0]
+    major, of_bench = f"libnozzlegorse.so.{number}", f"libnozzlegorse_bench.so.{number}"
     config = CONFIG.format(prefix=prefix, libdir=libdir, summary=SUMMARY, version=made.version)
     return {
         "bin/usbdesc": (read(f"{made.room}/usbdesc"), 0o755),
@@ -92,6 +107,8 @@ def installed(made, libdir, prefix):
         f"{plain}.so.{release}": (read(f"{made.room}/libnozzlegorse.so"), 0o644),
         f"{libdir}/{major}": (f"libnozzlegorse.so.{release}", 0o777),
         f"{plain}.so": (major, 0o777),
+        f"{libdir}/{of_bench}": (read(f"{made.room}/libnozzlegorse_bench.so"), 0o644),
+        f"{plain}_bench.so": (of_bench, 0o777),
         f"{libdir}/pkgconfig/nozzlegorse.pc": (config.encode(), 0o644),
         "include/nozzlegorse.h": (read(f"{made.room}/nozzlegorse.h"), 0o644),
         "share/man/man1/usbdesc.1.gz": (gzip.compress(man(made), 9, mtime=0), 0o644),
@@ -99,6 +116,7 @@ def installed(made, libdir, prefix):
         "share/zsh/vendor-completions/_usbdesc": (pages.zsh(made.help).encode(), 0o644),
         "share/fish/vendor_completions.d/usbdesc.fish": (pages.fish(made.help).encode(), 0o644),
         "share/doc/nozzlegorse/copyright": (read(f"{ROOT}/LICENSE"), 0o644),
+        **{f"share/nozzlegorse/bench/{os.path.basename(it)}": (read(it), 0o644) for it in bench()},
     }
 
 
@@ -136,21 +154,22 @@ def debian(made):
     """An archive of ar with three members, each at an even place."""
     files = {f"./usr/{path}": it for path, it in installed(made, f"lib/{TARGET.replace('-unknown', '')}", "/usr").items()}
     size = sum(len(content) for content, _ in files.values()) // 1024
-    control = CONTROL.format(version=made.version, size=size, summary=SUMMARY).encode()
+    control = CONTROL.format(version=made.for_debian(), size=size, summary=SUMMARY).encode()
     about = {"./control": (control, 0o644), "./triggers": (b"activate-noawait ldconfig\n", 0o644)}
     whole = b"!<arch>\n"
     for name, data in (("debian-binary", b"2.0\n"), ("control.tar.gz", packed(about, made.epoch)), ("data.tar.gz", packed(files, made.epoch))):
         whole += f"{name:<16}{made.epoch:<12}{0:<6}{0:<6}{'100644':<8}{len(data):<10}`\n".encode() + data + b"\n" * (len(data) % 2)
-    return f"nozzlegorse_{made.version}_amd64.deb", whole
+    return f"nozzlegorse_{made.for_debian()}_amd64.deb", whole
 
 
 def wheel(made):
-    name = f"nozzlegorse-{made.version}"
+    name = f"nozzlegorse-{made.for_python()}"
     info = f"{name}.dist-info"
     files = {f"nozzlegorse/{os.path.basename(it)}": (with_version(it, made), 0o644) for it in python_module()}
-    files["nozzlegorse/libnozzlegorse.so"] = read(f"{made.room}/libnozzlegorse.so"), 0o644
+    for library in ("libnozzlegorse.so", "libnozzlegorse_bench.so"):
+        files[f"nozzlegorse/{library}"] = read(f"{made.room}/{library}"), 0o644
     files[f"{name}.data/scripts/usbdesc"] = read(f"{made.room}/usbdesc"), 0o755
-    files[f"{info}/METADATA"] = METADATA.format(version=made.version, summary=SUMMARY).encode(), 0o644
+    files[f"{info}/METADATA"] = METADATA.format(version=made.for_python(), summary=SUMMARY).encode(), 0o644
     files[f"{info}/WHEEL"] = f"Wheel-Version: 1.0\nGenerator: nozzlegorse\nRoot-Is-Purelib: false\nTag: {WHEEL}\n".encode(), 0o644
     files[f"{info}/LICENSE"] = read(f"{ROOT}/LICENSE"), 0o644
     digests = {path: base64.urlsafe_b64encode(hashlib.sha256(data).digest()).rstrip(b"=").decode() for path, (data, _) in files.items()}

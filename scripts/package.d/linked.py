@@ -9,6 +9,8 @@ from playing.built import AR, CLANG, KIT, LLD, ROOT, fail, run
 HERE = os.path.dirname(os.path.abspath(__file__))
 HEADER = f"{ROOT}/include/nozzlegorse.h"
 OLDEST = (2, 14)
+# What the bench of Python has in C.
+OF_BENCH = ("nozzlegorse_bench", "nozzlegorse_bench_packets", "nozzlegorse_talk", "nozzlegorse_report")
 LIBC = f"{KIT}/toolchain/lib/libc.so.6"
 HARDENED = ["--gc-sections", "-z", "relro", "-z", "now", "-z", "noexecstack", "-s", "--build-id=sha1"]
 
@@ -31,18 +33,32 @@ def objects_of(made, room):
     return sorted(glob.glob(f"{room}/objects/*.o"))
 
 
+def compiled(source, out, *words):
+    """An object of a file of C, for a shared library too."""
+    run(CLANG, "--no-default-config", "-O2", "-fPIC", "-Wall", "-Wextra", "-Werror", "-I", f"{ROOT}/callers/c/plain", "-I", os.path.dirname(HEADER), *words, "-c", source, "-o", out)
+    return out
+
+
+def shared(name, major, exports, inputs, out):
+    """A shared library that exports these names alone."""
+    with open(f"{out}/exports", "w", encoding="ascii") as it:
+        it.write(f"{{ global: {exports}; local: *; }};\n")
+    run(LLD, "-shared", *HARDENED, "-soname", f"{name}.so.{major}", "--version-script", f"{out}/exports", *inputs, LIBC, "-o", f"{out}/{name}.so")
+    os.remove(f"{out}/exports")
+
+
 def libraries(made, version, out):
-    """libnozzlegorse.a, with the functions for memory as a member of their own, and libnozzlegorse.so with the exports alone."""
+    """libnozzlegorse.a, with the functions for memory as a member of their own; libnozzlegorse.so with the exports alone; and
+    libnozzlegorse_bench.so over it."""
     objects = objects_of(made, out)
     name, major = f"{out}/libnozzlegorse", version.split(".")[0]
-    run(CLANG, "--no-default-config", "-O2", "-fPIC", "-Wall", "-Wextra", "-Werror", "-I", f"{ROOT}/callers/c/plain", "-I", os.path.dirname(HEADER),
-        "-c", f"{HERE}/memory.c", "-o", f"{out}/memory.o")
-    run(AR, "rcsD", f"{name}.a", *objects, f"{out}/memory.o")
-    with open(f"{out}/exports", "w", encoding="ascii") as it:
-        it.write("{ global: nzg_*; local: *; };\n")
-    run(LLD, "-shared", *HARDENED, "-soname", f"libnozzlegorse.so.{major}", "--version-script", f"{out}/exports", *objects, f"{out}/memory.o", LIBC, "-o", f"{name}.so")
-    for made in ("memory.o", "exports"):
-        os.remove(f"{out}/{made}")
+    memory = compiled(f"{HERE}/memory.c", f"{out}/memory.o")
+    run(AR, "rcsD", f"{name}.a", *objects, memory)
+    shared("libnozzlegorse", major, "nzg_*", [*objects, memory], out)
+    of_bench = [compiled(f"{ROOT}/callers/c/{it}.c", f"{out}/{it}.o", "-I", f"{ROOT}/callers/c") for it in OF_BENCH]
+    shared("libnozzlegorse_bench", major, "nzg_bench_try; nzg_bench_try_packets; nzg_bench_talk", [*of_bench, f"{name}.so"], out)
+    for it in (memory, *of_bench):
+        os.remove(it)
 
 
 def program(made, out):

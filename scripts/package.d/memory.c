@@ -12,14 +12,14 @@ static struct nzg_block block(void *at) {
     return at ? (struct nzg_block){true, at} : (struct nzg_block){false, &nothing};
 }
 
-struct nzg_block rattle_alloc(size_t length, size_t align) {
+struct nzg_block rattle_alloc(nzg_size length, nzg_size align) {
     (void)align;
-    return block(malloc(length ? length : 1));
+    return block(malloc(length ? (size_t)length : 1));
 }
 
-struct nzg_block rattle_realloc(unsigned char *at, size_t kept, size_t length, size_t align) {
+struct nzg_block rattle_realloc(unsigned char *at, nzg_size kept, nzg_size length, nzg_size align) {
     (void)kept, (void)align;
-    return block(realloc(at, length ? length : 1));
+    return block(realloc(at, length ? (size_t)length : 1));
 }
 
 void rattle_dealloc(unsigned char *at) { free(at); }

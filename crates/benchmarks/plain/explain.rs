@@ -4,7 +4,7 @@ use crate::file::{DescriptorFile, named};
 use crate::names::{Field, Form, Row, bit_names, class_name, row_of, terminal_name};
 use crate::rules::{Finding, Part, check_by_rule};
 use crate::set::{ASSOCIATION, CONFIGURATION, Configuration, ENDPOINT, INTERFACE, OTHER_SPEED};
-use crate::speed::{Known, Speed, cut, right_intervals, right_sizes, speed_of};
+use crate::speed::{Known, Speed, cut, right_intervals, right_sizes, side_of, speed_of};
 use crate::text::Text;
 
 pub enum Input {
@@ -68,7 +68,9 @@ fn put_attributes(text: &mut Text, attributes: u8) {
 
 fn put_size(text: &mut Text, attributes: u8, size: u16, speed: Speed) {
     let (bytes, more) = (usize::from(size & 0x7ff), usize::from(size >> 11 & 3));
-    let is_periodic = attributes & 1 == 1 && speed == Speed::High;
+    let is_counted = (more == 1 && (513..=1024).contains(&bytes)) || (more == 2 && (683..=1024).contains(&bytes));
+    let is_high = speed == Speed::High || (speed == Speed::FullOrHigh && is_counted);
+    let is_periodic = attributes & 1 == 1 && is_high;
     if is_periodic && (more == 1 || more == 2) {
         text.number(more + 1);
         text.put(" x ");
@@ -170,7 +172,8 @@ struct Place<'a> {
     /// The associations of the set, and its descriptors after this one.
     associations: &'a [&'a [u8]],
     later: &'a [u8],
-    /// Where the last interface of each number starts in the set; it is nowhere at 0.
+    /// Where the first and the last interface of each number start in the set; they are nowhere at 0.
+    first: &'a [u16; 256],
     last: &'a [u16; 256],
     start: usize,
 }
@@ -178,6 +181,10 @@ struct Place<'a> {
 impl Place<'_> {
     fn has(&self, number: u8) -> bool {
         self.last[usize::from(number)] > 0
+    }
+
+    fn came(&self, number: usize) -> bool {
+        self.first.get(number).is_some_and(|it| *it > 0 && usize::from(*it) < self.start)
     }
 
     fn follows(&self, number: u8) -> bool {
@@ -198,7 +205,11 @@ struct Explainer<'a> {
     /// The speeds of the device's own sets and of those after the qualifier, if there is one.
     own: Option<Speed>,
     other: Option<Speed>,
+    /// The same by the descriptors of each side alone.
+    sides: [Option<Speed>; 2],
     sets: [usize; 2],
+    /// How many remarks were made.
+    remarks: usize,
 }
 
 /// Of a device or a qualifier.
@@ -247,6 +258,7 @@ impl<'a> Explainer<'a> {
     fn remark(&mut self, depth: usize) -> &mut Text {
         self.text.spaces(2 * depth + 2);
         self.text.put("? ");
+        self.remarks += 1;
         &mut self.text
     }
 
@@ -327,7 +339,11 @@ impl<'a> Explainer<'a> {
         }
         self.release_remark(usb);
         self.device_class_remark(codes[0]);
-        self.lack_remark(codes, item[17], 18);
+        let speed = if usb >= 0x0300 && packet == 9 { Some(Speed::Super) } else { self.sides[0] };
+        if let Some(speed @ (Speed::Super | Speed::High)) = speed {
+            self.packet_remark(packet, speed);
+        }
+        self.associations_remark(codes, item[17], 18);
         self.release_field(0, "bcdUSB", usb);
         self.class_fields(0, ["bDeviceClass", "bDeviceSubClass", "bDeviceProtocol"], codes, None);
         let text = self.field(0, "bMaxPacketSize0");
@@ -361,14 +377,33 @@ impl<'a> Explainer<'a> {
         }
     }
 
-    /// Of a device or a qualifier whose sets start here.
-    fn lack_remark(&mut self, codes: &[u8], sets: u8, start: usize) {
-        if codes != [0xef, 2, 1] || sets == 0 {
-            return;
+    /// bMaxPacketSize0 is 64 at high speed, and the exponent 9 at SuperSpeed.
+    fn packet_remark(&mut self, packet: u8, speed: Speed) {
+        let (right, section) = if speed == Speed::Super { (9, " (USB 3.2, 9.6.1)\n") } else { (64, " (5.5.3)\n") };
+        if packet != right {
+            let text = self.remark(0);
+            text.put("bMaxPacketSize0 is ");
+            text.number(usize::from(packet));
+            text.put("; at ");
+            text.put(speed.words());
+            text.put(" it must be ");
+            text.number(usize::from(right));
+            text.put(section);
         }
+    }
+
+    /// Of a device or a qualifier whose sets start here.
+    fn associations_remark(&mut self, codes: &[u8], sets: u8, start: usize) {
         let end = (0..sets).fold(start, |at, _| at + usize::from(word(self.bytes, at + 2)));
-        if !cut(&self.bytes[start..end]).any(|(_, it)| it[1] == ASSOCIATION) {
-            self.remark(0).put("class 0xef, subclass 0x02, protocol 0x01 is that of a device with associations\n");
+        let has = cut(&self.bytes[start..end]).any(|(_, it)| it[1] == ASSOCIATION);
+        match (codes == [0xef, 2, 1], has) {
+            (false, true) => {
+                self.remark(0).put("its class isn't 0xef, 0x02, 0x01; with associations it must be (ECN)\n")
+            }
+            (true, false) if sets > 0 => {
+                self.remark(0).put("its class is 0xef, 0x02, 0x01, and it has no association (ECN)\n");
+            }
+            _ => {}
         }
     }
 
@@ -390,10 +425,23 @@ impl<'a> Explainer<'a> {
             self.text.end();
         }
         if !self.release_remark(usb) && usb < 0x0200 {
-            self.remark(0).put("bcdUSB of a qualifier is 2.00 at least\n");
+            let text = self.remark(0);
+            text.put("bcdUSB is ");
+            text.release(usb);
+            text.put("; of a qualifier it must be at least 2.00 (9.6.2)\n");
         }
         self.device_class_remark(codes[0]);
-        self.lack_remark(codes, item[8], at + 10);
+        let [own, other] = self.sides;
+        if own == Some(Speed::Full) || other == Some(Speed::High) {
+            self.packet_remark(item[7], Speed::High);
+        }
+        self.associations_remark(codes, item[8], at + 10);
+        if let (Some(speed @ (Speed::Full | Speed::High)), true) = (own, own == other) {
+            let text = self.remark(0);
+            text.put("its sets are at ");
+            text.put(speed.words());
+            text.put(", as are those before it; they must differ (9.6.2)\n");
+        }
         self.release_field(0, "bcdUSB", usb);
         self.class_fields(0, ["bDeviceClass", "bDeviceSubClass", "bDeviceProtocol"], codes, None);
         self.number_field(0, "bMaxPacketSize0", item[7]);
@@ -443,8 +491,12 @@ impl<'a> Explainer<'a> {
         let speed = self.set_speed(set);
         let bindings: Vec<&[u8]> = cut(set).map(|it| it.1).filter(|it| it[1] == ASSOCIATION).collect();
         let associations = bindings.as_slice();
-        let mut last = [0; 256];
-        cut(set).filter(|(_, it)| it[1] == INTERFACE).for_each(|(start, it)| last[usize::from(it[2])] = start as u16);
+        let (mut first, mut last) = ([0; 256], [0; 256]);
+        for (start, it) in cut(set).filter(|(_, it)| it[1] == INTERFACE) {
+            let number = usize::from(it[2]);
+            first[number] = if first[number] == 0 { start as u16 } else { first[number] };
+            last[number] = start as u16;
+        }
         let mut place = Place {
             part,
             set: number,
@@ -455,6 +507,7 @@ impl<'a> Explainer<'a> {
             interface: None,
             associations,
             later: set,
+            first: &first,
             last: &last,
             start: 0,
         };
@@ -571,11 +624,8 @@ impl<'a> Explainer<'a> {
         if codes[0] == 0 {
             self.remark(2).put("class 0x00 is not allowed\n");
         }
-        if self.qualifier.or(self.device).is_some_and(|it| it[4..7] != [0xef, 2, 1]) {
-            self.remark(2).put("a device with associations is of class 0xef, subclass 0x02, protocol 0x01\n");
-        }
-        if place.has(item[2]) && !place.follows(item[2]) {
-            self.remark(2).put("an association stands before its interfaces\n");
+        if (first..first + count).any(|number| place.came(number)) {
+            self.remark(2).put("this association comes after its interfaces\n");
         }
         self.number_field(2, "bFirstInterface", item[2]);
         self.number_field(2, "bInterfaceCount", item[3]);
@@ -696,35 +746,32 @@ impl<'a> Explainer<'a> {
     }
 
     fn endpoint_remarks(&mut self, attributes: u8, size: u16, interval: u8, speed: Speed) {
-        let kind = attributes & 3;
-        let name = TRANSFERS[usize::from(kind)];
-        let article = if kind & 1 == 1 { "an " } else { "a " };
+        let (kind, packet, more) = (attributes & 3, size & 0x7ff, size >> 11 & 3);
         if let Some((first, last)) = right_intervals(kind, interval, speed) {
             let text = self.remark(3);
-            text.put(article);
-            text.put(name);
-            text.put(" interval is ");
+            text.put("bInterval is ");
+            text.number(usize::from(interval));
+            text.put("; at ");
+            text.put(speed.words());
+            text.put(" it must be ");
             text.number(usize::from(first));
             text.put(" to ");
             text.number(usize::from(last));
-            text.put(" at ");
-            text.put(speed.words());
-            text.end();
+            text.put(" (9.6.6)\n");
         }
-        match right_sizes(kind, size & 0x7ff, speed).as_deref() {
+        match right_sizes(kind, packet, speed).as_deref() {
             None => {}
             Some([]) => {
                 let text = self.remark(3);
+                text.put(if kind == 1 { "an isochronous endpoint; at " } else { "a bulk endpoint; at " });
                 text.put(speed.words());
-                text.put(" has no ");
-                text.put(name);
-                text.put(" endpoints\n");
+                text.put(if kind == 1 { " there are none (5.6.4)\n" } else { " there are none (5.8.4)\n" });
             }
             Some(sizes @ [.., last]) => {
-                let text = self.remark(3);
-                text.put(article);
-                text.put(name);
-                text.put(if sizes[0] == 0 { " packet is at most " } else { " packet is " });
+                let text = self.size_remark(packet);
+                text.put("; at ");
+                text.put(speed.words());
+                text.put(if sizes[0] == 0 { " it must be at most " } else { " it must be " });
                 let others = if sizes[0] == 0 { &[] } else { &sizes[..sizes.len() - 1] };
                 for (place, other) in others.iter().enumerate() {
                     text.put(if place > 0 { ", " } else { "" });
@@ -732,17 +779,23 @@ impl<'a> Explainer<'a> {
                 }
                 text.put(if others.is_empty() { "" } else { " or " });
                 text.number(usize::from(*last));
-                text.put(" bytes at ");
-                text.put(speed.words());
-                text.end();
+                text.put([" (5.5.3)\n", " (5.6.3)\n", " (5.8.3)\n", " (5.7.3)\n"][usize::from(kind)]);
             }
         }
-        let more = size >> 11 & 3;
-        let is_multiple = speed.may_be_high() && kind & 1 == 1;
-        if is_multiple && more == 3 {
+        let least = [0, 513, 683, 0][usize::from(more)];
+        if !(speed.may_be_high() && kind & 1 == 1) {
+            if more != 0 {
+                self.remark(3).put("bits 12 to 11 of wMaxPacketSize are reserved here\n");
+            }
+        } else if more == 3 {
             self.remark(3).put("3 in bits 12 to 11 of wMaxPacketSize is reserved\n");
-        } else if !is_multiple && more != 0 {
-            self.remark(3).put("bits 12 to 11 of wMaxPacketSize are reserved here\n");
+        } else if packet < least {
+            let text = self.size_remark(packet);
+            text.put("; with ");
+            text.number(usize::from(more) + 1);
+            text.put(" transactions it must be at least ");
+            text.number(usize::from(least));
+            text.put(" (9.6.6)\n");
         }
         let reserved = if kind == 3 && speed == Speed::Super { 0x2c } else { 0x3c };
         if kind == 1 && attributes & 0x30 == 0x30 {
@@ -754,13 +807,23 @@ impl<'a> Explainer<'a> {
         }
     }
 
+    fn size_remark(&mut self, packet: u16) -> &mut Text {
+        let text = self.remark(3);
+        text.put("wMaxPacketSize is ");
+        text.count(usize::from(packet), "byte");
+        text
+    }
+
     /// What an endpoint breaks by the alternate setting that it is of.
     fn setting_remarks(&mut self, attributes: u8, size: u16, place: Place) {
         let Some([number, 0]) = place.interface else {
             return;
         };
         if attributes & 3 == 1 && size != 0 && place.speed != Speed::Super {
-            self.remark(3).put("an isochronous packet is 0 bytes in alternate setting 0\n");
+            self.size_remark(size).put("; in alternate setting 0 it must be 0 (5.6.3)\n");
+        }
+        if attributes & 3 == 3 && size > 64 && place.speed == Speed::High {
+            self.size_remark(size).put("; in alternate setting 0 it must be at most 64 (5.7.3)\n");
         }
         if size == 0 && !place.follows(number) {
             self.remark(3).put("packets of 0 bytes hold no data, and no other setting follows\n");
@@ -775,19 +838,19 @@ impl<'a> Explainer<'a> {
             let (mut has_hid, mut has_in) = (false, false);
             own.for_each(|it| (has_hid, has_in) = (has_hid || it[1] == 0x21, has_in || is_in(it)));
             if !has_hid {
-                self.remark(2).put("a HID interface has a HID descriptor\n");
+                self.remark(2).put("no HID descriptor between interface and endpoints (HID 1.11, 7.1)\n");
             }
             if !has_in {
-                self.remark(2).put("a HID interface has an interrupt IN endpoint\n");
+                self.remark(2).put("no interrupt IN endpoint (HID 1.11, 4.4)\n");
             }
             return;
         }
         let words = match *codes {
             [8, _, 0x50] if !has_both_directions(&mut own) => {
-                "a bulk-only interface has a bulk endpoint of each direction\n"
+                "a bulk IN or bulk OUT endpoint is missing (Bulk-Only 1.0, 4.4)\n"
             }
             [2, 1..=11 | 13 | 14, _] if own.all(|it| it[1] != 0x24 || it.get(2) != Some(&0)) => {
-                "a communications interface has a header functional descriptor\n"
+                "no header functional descriptor (CDC 1.2, 5.2.3)\n"
             }
             _ => return,
         };
@@ -799,7 +862,12 @@ impl<'a> Explainer<'a> {
         match (codes[0], item[1]) {
             (3, 0x21) => {
                 let right = 6 + 3 * usize::from(item.get(5).copied().unwrap_or(0));
-                if item.len() != right {
+                if item.len() < 6 {
+                    let text = self.remark(depth);
+                    text.put("it is too short for bNumDescriptors: bLength is ");
+                    text.number(item.len());
+                    text.put(" (HID 1.11, 6.2.1)\n");
+                } else if item.len() != right {
                     let text = self.remark(depth);
                     text.put("by bNumDescriptors it has ");
                     text.count(right, "byte");
@@ -810,16 +878,16 @@ impl<'a> Explainer<'a> {
                 match item.get(6..9) {
                     Some([0x22, 0, 0]) => self.remark(depth).put("the report descriptor has 0 bytes\n"),
                     None | Some([0x22, ..]) => {}
-                    _ => self.remark(depth).put("a HID descriptor names its report descriptor first\n"),
+                    _ => self.remark(depth).put("it names no report descriptor first (HID 1.11, 6.2.1)\n"),
                 }
                 if depth == 4 {
-                    self.remark(depth).put("a HID descriptor stands before the endpoints\n");
+                    self.remark(depth).put("this HID descriptor comes after an endpoint (HID 1.11, 7.1)\n");
                 }
                 self.class_release_remark(depth, item.get(2..4));
             }
             (2, 0x24) => {
                 if depth == 4 {
-                    self.remark(depth).put("a functional descriptor stands before the endpoints\n");
+                    self.remark(depth).put("this functional descriptor comes after an endpoint (CDC 1.2, 5.2.3)\n");
                 }
                 let least = match item.get(2) {
                     Some(0 | 1 | 6) => 5,
@@ -833,8 +901,10 @@ impl<'a> Explainer<'a> {
                     text.put(" bytes, and bLength is ");
                     text.number(item.len());
                     text.end();
-                } else if let Some(kind @ (1 | 6)) = item.get(2) {
-                    self.named_remark(depth, if *kind == 6 { &item[3..] } else { &item[4..5] }, place);
+                } else if item.get(2) == Some(&6) {
+                    self.named_remark(depth, &item[3..], place);
+                } else if item.get(2) == Some(&1) && item[3] & 3 == 3 {
+                    self.named_remark(depth, &item[4..5], place);
                 }
                 if item.len() >= 5 && item[2] == 0 {
                     self.class_release_remark(depth, item.get(3..5));
@@ -984,8 +1054,10 @@ impl<'a> Explainer<'a> {
         }
         let mut start = at + 2 + 2 * strings.languages.len();
         self.end_heading(at, start - at);
-        if strings.languages.iter().any(|it| it >> 8 & 3 != 0 || it >> 10 == 0) {
-            self.remark(0).put("a language has bits 9 to 8 zero, and not all of bits 15 to 10\n");
+        if let Some(wrong) = strings.languages.iter().find(|it| **it >> 8 & 3 != 0 || **it >> 10 == 0) {
+            let text = self.remark(0);
+            text.word(*wrong);
+            text.put(" is not a LANGID: bits 9 to 8 must be 0 and bits 15 to 10 must not all be 0 (9.6.7)\n");
         }
         let named = named(file).to_vec();
         let places = strings.languages.iter().flat_map(|language| named.iter().map(move |it| (*language, *it)));
@@ -998,7 +1070,7 @@ impl<'a> Explainer<'a> {
             self.text.quoted(units);
             self.end_heading(start, 2 + 2 * units.len());
             if units.last() == Some(&0) {
-                self.remark(0).put("a string isn't ended by a unit 0\n");
+                self.remark(0).put("the string ends in a NUL, which USB strings don't have (9.6.7)\n");
             }
             start += 2 + 2 * units.len();
         }
@@ -1025,7 +1097,9 @@ impl<'a> Explainer<'a> {
             let (own, later) = (&bytes[18..end_of_main], &bytes[end_of_main..]);
             self.own = Some(speed_of(own, Self::known_before(bytes, true, None)));
             self.other = Some(speed_of(&later[10..], Self::known_after(later, None)));
+            self.sides[1] = side_of(&later[10..], Self::known_after(later, None));
         }
+        self.sides[0] = side_of(&bytes[18..end_of_main], Self::known_before(&bytes[..18], true, None));
         self.of_device(&bytes[..18]);
         let mut at = self.of_sets(file.sets.len(), 18);
         if let Some(other) = &file.other {
@@ -1085,7 +1159,9 @@ pub fn explain(bytes: &[u8], input: &Input) -> Vec<u8> {
         qualifier: None,
         own: None,
         other: None,
+        sides: [None; 2],
         sets: [0; 2],
+        remarks: 0,
     };
     explainer.text.put(match input {
         Input::Set(_) => "set, ",
@@ -1105,6 +1181,10 @@ pub fn explain(bytes: &[u8], input: &Input) -> Vec<u8> {
     match explainer.found.iter().map(Vec::len).sum() {
         0 => explainer.text.put("no findings"),
         count => explainer.text.count(count, "finding"),
+    }
+    if explainer.remarks > 0 {
+        explainer.text.put(", ");
+        explainer.text.count(explainer.remarks, "remark");
     }
     explainer.text.end();
     explainer.text.0

@@ -61,12 +61,12 @@ impl Transfer {
 
     #[inline(always)]
     pub fn next(&self) -> Option<Transaction<'static>> {
-        self.next_of(&[])
+        self.next_with(&[])
     }
 
     /// The transaction that is due, with these data to the device.
     #[inline(always)]
-    pub fn next_of<'a>(&self, data: &'a [u8]) -> Option<Transaction<'a>> {
+    fn next_with<'a>(&self, data: &'a [u8]) -> Option<Transaction<'a>> {
         let token = match self.stage {
             Stage::Setup => Token::Setup(self.request.bytes()),
             Stage::DataIn | Stage::StatusIn => Token::In,
@@ -98,8 +98,7 @@ impl Transfer {
                 _ => self.take_other(answer),
             },
             Stage::DataOut => match answer {
-                Answer::Data(..) => self.fail(Why::Unexpected),
-                Answer::Ack => self.count_packet(),
+                Answer::Data(..) | Answer::Ack => self.fail(Why::Unexpected),
                 _ => self.take_other(answer),
             },
             Stage::StatusOut => match answer {
@@ -176,6 +175,30 @@ impl Transfer {
     fn fail(&mut self, why: Why) -> Heard<'static> {
         self.stage = Stage::Failed(why);
         Heard::Failed(why)
+    }
+}
+
+/// A transfer with data to the device.
+pub struct Write {
+    transfer: Transfer,
+}
+
+impl Write {
+    pub fn new(address: u8, packet: u8, naks: u16, request: Setup) -> Write {
+        Write { transfer: Transfer::new(address, packet, naks, request) }
+    }
+
+    #[inline(always)]
+    pub fn next<'a>(&self, data: &'a [u8]) -> Option<Transaction<'a>> {
+        self.transfer.next_with(data)
+    }
+
+    #[inline(always)]
+    pub fn take<'a>(&mut self, answer: Answer<'a>) -> Heard<'a> {
+        match (self.transfer.stage, answer) {
+            (Stage::DataOut, Answer::Ack) => self.transfer.count_packet(),
+            (_, answer) => self.transfer.take(answer),
+        }
     }
 }
 

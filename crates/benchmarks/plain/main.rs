@@ -15,6 +15,7 @@ mod host;
 mod listing;
 mod names;
 mod numbers;
+mod packet;
 mod rules;
 mod set;
 mod speed;

@@ -108,6 +108,26 @@ pub fn speed_of(bytes: &[u8], known: Known) -> Speed {
     if speed == Speed::LowOrFull && is_above_low { Speed::Full } else { speed }
 }
 
+/// The speed of one side of a device of two speeds, by its own descriptors alone.
+pub fn side_of(bytes: &[u8], known: Known) -> Option<Speed> {
+    let (mut is_high, mut is_full) = (false, false);
+    for (_, item) in cut(bytes) {
+        if let [_, ENDPOINT, _, attributes, low, high, _, ..] = *item {
+            let whole = u16::from_le_bytes([low, high]);
+            let (size, kind) = (whole & 0x7ff, attributes & 3);
+            is_high |= proves_high(kind, size, whole >> 11 & 3);
+            is_full |= kind == 2 && size <= 64;
+        }
+    }
+    match known.speed {
+        Some(Speed::LowOrFull) => Some(Speed::Full),
+        Some(speed) => Some(speed),
+        None if is_high => Some(Speed::High),
+        None if is_full || known.packet != Some(64) => Some(Speed::Full),
+        None => None,
+    }
+}
+
 /// The sizes of packets of a transfer type at a speed, if only some are right: those listed, or up to the last of two.
 pub enum Right {
     All,

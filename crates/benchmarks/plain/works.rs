@@ -6,8 +6,9 @@ use crate::device::{Answer, Description, Device, Setup, Speed, Token, Transactio
 use crate::explain::{Input, explain};
 use crate::file::{self, DescriptorFile, Qualifier, read_file, write_file};
 use crate::hexadecimal;
-use crate::host::{Action, Heard, Host, Limits, Transfer};
+use crate::host::{Action, Heard, Host, Limits, Transfer, Write};
 use crate::listing::{list, list_set};
+use crate::packet;
 use crate::rules::check;
 use crate::set::{CONFIGURATION, Configuration, Decoder, OTHER_SPEED, SetFault, encode, read_set};
 use crate::walk;
@@ -76,6 +77,9 @@ pub fn run(name: &str, input: &[u8], copies: u32, rounds: u32) -> Result<usize> 
             })
         }
         "hexadecimal" => again(rounds, || black_box(hexadecimal::read(input)).map_or(0, |_| input.len())),
+        "crc" => crc_again(input, rounds),
+        "packet-written" => write_packets(input, false, rounds),
+        "packet-read" => write_packets(input, true, rounds),
         "walk" => again(rounds, || walk_once(input)),
         "enumerate" => enumerate_again(input, rounds),
         "host-setup" => drive_again(input, 1, rounds),
@@ -119,6 +123,31 @@ fn walk_once(bytes: &[u8]) -> usize {
         count += 1;
     }
     count
+}
+
+/// The most data of a packet. Their first byte is another in each round.
+fn data_of(input: &[u8]) -> Result<Vec<u8>> {
+    Ok(input.get(..packet::MOST_DATA).ok_or("too few bytes")?.to_vec())
+}
+
+fn crc_again(input: &[u8], rounds: u32) -> Result<usize> {
+    let mut data = data_of(input)?;
+    again(rounds, || {
+        data[0] = packet::crc16(&data).to_be_bytes()[0];
+        data.len()
+    })
+}
+
+fn write_packets(input: &[u8], is_read: bool, rounds: u32) -> Result<usize> {
+    let (mut data, mut out) = (data_of(input)?, [0; packet::MOST_DATA + 3]);
+    for _ in 0..rounds {
+        let length = packet::write(&data, &mut out).ok_or("no room")?;
+        if is_read && packet::parse(&out[..length]).is_none() {
+            return Err("no packet".into());
+        }
+        data[0] = out[length - 1];
+    }
+    Ok(data.len())
 }
 
 fn again(rounds: u32, mut work: impl FnMut() -> usize) -> Result<usize> {
@@ -392,13 +421,13 @@ const REPORT: [u8; 64] = [0x5a; 64];
 
 /// A transaction of both ends.
 #[inline(never)]
-fn exchange(device: &mut Device, transfer: &mut Transfer) {
-    let Some(transaction) = transfer.next_of(&REPORT) else {
+fn exchange(device: &mut Device, write: &mut Write) {
+    let Some(transaction) = write.next(&REPORT) else {
         return;
     };
     let answer = device.serve(&transaction, true);
     let has_data = matches!(answer, Answer::Data(..));
-    let _ = black_box(transfer.take(answer));
+    let _ = black_box(write.take(answer));
     if has_data {
         device.acked();
     }
@@ -419,9 +448,9 @@ fn take_writes(set: &[u8], rounds: u32) -> Result<usize> {
     let description = describe_set(set, 8)?;
     let mut device = Device::new(&description);
     again(rounds, || {
-        let mut transfer = Transfer::new(0, 8, 16, Setup::read(WRITE));
+        let mut write = Write::new(0, 8, 16, Setup::read(WRITE));
         (0..10).fold(0, |count, _| {
-            exchange(&mut device, &mut transfer);
+            exchange(&mut device, &mut write);
             count + take(&mut device)
         })
     })

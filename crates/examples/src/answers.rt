@@ -1,6 +1,6 @@
 //! What comes of each call that a row can name.
 use crate::row::Row;
-use crate::{failing, fields, files, listings, sets, tree};
+use crate::{failing, fields, files, listings, packets, sets, tree};
 use anyhow::{Result, bail};
 use std::alloc::Global;
 
@@ -15,6 +15,11 @@ pub(crate) fn answer(alloc: Global, row: &Row) -> Result<Option<String>> {
         "endpoint" => fields::endpoint(alloc, words)?,
         "units" => fields::units(alloc, words)?,
         "write_units" => fields::write_string(alloc, words)?,
+        "packet" => packets::packet(alloc, words)?,
+        "changed_packet" => packets::changed_packet(alloc, words)?,
+        "write_packet" => packets::write_packet(alloc, words)?,
+        "crc5" => packets::short_crc(alloc, words)?,
+        "crc16" => packets::long_crc(alloc, words)?,
         "set" => sets::set(alloc, words)?,
         "feed" => sets::feed(alloc, words)?,
         "encode" => sets::encode_lines(alloc, lines)?,

@@ -8,6 +8,7 @@ mod failing;
 mod fields;
 mod files;
 mod listings;
+mod packets;
 mod row;
 mod sets;
 mod streams;

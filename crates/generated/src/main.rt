@@ -16,6 +16,7 @@ mod command;
 mod example;
 mod failing;
 mod form;
+mod host_end;
 mod inputs;
 mod lists;
 mod numbers;

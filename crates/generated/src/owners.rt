@@ -1,11 +1,12 @@
 //! Transfers with a device that refuses them, and whose owner answers, over a bus that loses packets.
+use crate::host_end::HostEnd;
 use crate::tally::Tally;
 use anyhow::{Result, bail};
 use std::alloc::Global;
 use usb_bus::Fate;
 use usb_device::{Description, Device};
 use usb_fields::{Answer, Setup, Transaction};
-use usb_host::{Heard, Transfer, Why};
+use usb_host::{Heard, Why};
 
 /// What the owner answers to each read, cut to its length.
 const OWNERS: &[u8] = b"The owner of a device answers what its table of requests refuses";
@@ -40,7 +41,7 @@ pub(crate) fn make_all(
         let kind = if length == 0 { 0x40 } else { 0xc0 };
         let setup = Setup::from_bytes(&[kind, 1, 0, 0, 0, 0, length, 0]);
         let mut device = Device::new(description);
-        let mut transfer = Transfer::new(0, packet, naks, setup);
+        let mut transfer = HostEnd::new(0, packet, naks, setup);
         let came = make(alloc, &mut device, &mut transfer, fates)?;
         let why = came.failure.map_or(0, |why| why.number());
         let transactions = came.transactions;
@@ -61,7 +62,7 @@ pub(crate) fn make_all(
 fn make(
     alloc: Global,
     device: &mut Device<'_>,
-    transfer: &mut Transfer,
+    transfer: &mut HostEnd,
     fates: &[Fate],
 ) -> Result<Came> {
     let mut came = Came {
@@ -70,7 +71,7 @@ fn make(
         failure: None,
     };
     for number in 0..MOST {
-        let Some(transaction) = transfer.next() else {
+        let Some(transaction) = transfer.next(&[]) else {
             break;
         };
         came.transactions = came.transactions.saturating_add(1);
@@ -95,7 +96,7 @@ fn make(
 /// A transaction under its fate. Where a packet is lost, the transfer hears nothing.
 pub(crate) fn exchange(
     device: &mut Device<'_>,
-    transfer: &mut Transfer,
+    transfer: &mut HostEnd,
     transaction: &Transaction<'_>,
     fate: Fate,
     came: &mut Came,

@@ -1,12 +1,13 @@
 //! Talks with data to a device, whose owner takes them and gives them again, over a bus that loses packets.
+use crate::host_end::HostEnd;
 use crate::owners::{Came, exchange};
 use crate::tally::Tally;
 use anyhow::{Result, bail};
 use std::alloc::Global;
 use usb_bus::Fate;
 use usb_device::{Description, Device};
-use usb_fields::{Direction, Setup, Transaction};
-use usb_host::{Transfer, Why};
+use usb_fields::{Direction, Setup};
+use usb_host::Why;
 
 /// SET_ADDRESS 5, SET_REPORT of nine bytes, and GET_REPORT, by which the owner gives them again.
 const REQUESTS: [[u8; 8]; 3] = [
@@ -64,7 +65,7 @@ pub(crate) fn make_talk(
     for bytes in REQUESTS.iter() {
         if talk.stopped.is_none() {
             let request = Setup::from_bytes(bytes);
-            let transfer = Transfer::new(talk.address, packet, naks, request);
+            let transfer = HostEnd::new(talk.address, packet, naks, request);
             talk.make(transfer, fates)?;
         }
     }
@@ -73,14 +74,14 @@ pub(crate) fn make_talk(
 
 impl Talk<'_> {
     /// A transfer to its end.
-    fn make(&mut self, mut transfer: Transfer, fates: &[Fate]) -> Result<()> {
+    fn make(&mut self, mut transfer: HostEnd, fates: &[Fate]) -> Result<()> {
         let mut came = Came {
             transactions: self.transactions,
             bytes: Vec::new(self.alloc),
             failure: None,
         };
         for _ in 0..MOST {
-            let Some(transaction) = due(&transfer, REPORT) else {
+            let Some(transaction) = transfer.next(REPORT) else {
                 break;
             };
             let fate = Fate::at(fates, came.transactions);
@@ -148,14 +149,5 @@ impl Talk<'_> {
         )?;
         tally.begin(format!(in alloc; "{kind} {counts} bytes {kept} read {read}\n")?.as_str())?;
         tally.count(kind)
-    }
-}
-
-/// The transaction that is due, with these data where there are as many as go to the device.
-fn due<'a>(transfer: &Transfer, data: &'a [u8]) -> Option<Transaction<'a>> {
-    if data.len() == usize::from(transfer.request().length) {
-        transfer.next_of(data)
-    } else {
-        transfer.next()
     }
 }

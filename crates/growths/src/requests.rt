@@ -2,7 +2,7 @@
 use crate::answer::{Answer, right};
 use usb_device::{Description, Device};
 use usb_fields::{Direction, Setup, Stage, Toggle, Transaction};
-use usb_host::Transfer;
+use usb_host::{Transfer, Write};
 
 /// bmRequestType: the standard requests to the device, an interface and an endpoint, and a class request.
 const REQUEST_TYPES: [u8; 7] = [0x00, 0x80, 0x01, 0x81, 0x02, 0x82, 0x21];
@@ -92,9 +92,14 @@ fn make(device: &mut Device<'_>, setup: [u8; 8]) {
 /// The same request by a host that acknowledges each packet, to its end. The device's owner answers what is refused and takes
 /// data, or doesn't.
 fn transfer(device: &mut Device<'_>, request: Setup, is_answered: bool) {
-    let mut transfer = Transfer::new(device.state().address, PACKET, 0, request);
+    let address = device.state().address;
+    if request.length > 0 && request.direction() == Direction::Out {
+        write(device, Write::new(address, PACKET, 0, request), is_answered);
+        return;
+    }
+    let mut transfer = Transfer::new(address, PACKET, 0, request);
     for _ in 0..TRANSACTIONS {
-        let Some(transaction) = due(&transfer, &DATA) else {
+        let Some(transaction) = transfer.next() else {
             break;
         };
         let _ = transfer.take(device.serve(&transaction, true));
@@ -105,14 +110,23 @@ fn transfer(device: &mut Device<'_>, request: Setup, is_answered: bool) {
     }
 }
 
-/// The transaction that is due, with as many of these data as go to the device.
-fn due<'a>(transfer: &Transfer, data: &'a [u8]) -> Option<Transaction<'a>> {
-    let length = usize::from(transfer.request().length);
-    let data = data.get(..length).unwrap_or(&[]);
-    if data.len() == length {
-        transfer.next_of(data)
-    } else {
-        transfer.next()
+/// A request with data to the device.
+fn write(device: &mut Device<'_>, mut write: Write, is_answered: bool) {
+    let data = DATA
+        .get(..usize::from(write.request().length))
+        .unwrap_or(&[]);
+    for _ in 0..TRANSACTIONS {
+        if data.len() != usize::from(write.request().length) {
+            break;
+        }
+        let Some(transaction) = write.next(data) else {
+            break;
+        };
+        let _ = write.take(device.serve(&transaction, true));
+        device.acked();
+        if is_answered {
+            respond(device);
+        }
     }
 }
 

@@ -4,7 +4,7 @@ use crate::plenty::is_round;
 use crate::samples::MOUSE;
 use crate::shapes::{ASSOCIATIONS, STRINGS, many_strings, push_set};
 use std::alloc::{AllocError, Global};
-use usb_bus::{Fate, converse, enumerate};
+use usb_bus::{Asked, Fate, Talk, converse, converse_asked, enumerate};
 use usb_device::Description;
 use usb_fields::{Setup, Speed};
 use usb_file::{DescriptorFile, named, read_file};
@@ -15,6 +15,9 @@ const REQUESTS: usize = 5000;
 
 /// How many transactions each of them takes: GET_DESCRIPTOR of the device, in packets of 8 bytes.
 const TRANSACTIONS: u128 = 5;
+
+/// How many transactions a write takes that is rejected: its setup and its data.
+const TRANSACTIONS_OF_WRITE: u128 = 2;
 
 /// How many fates the list of an enumeration has.
 const FATES: usize = 5000;
@@ -62,26 +65,45 @@ fn is_enumerated(alloc: Global, file: DescriptorFile, least: u64) -> Result<bool
     }
 }
 
-/// Many requests of a device, one after another.
+/// Many requests of a device, one after another, and as many with data to it.
 pub(crate) fn requests(alloc: Global) -> Result<bool, AllocError> {
     let mut bytes = MOUSE;
     bytes[7] = 8;
-    let Some(description) = describe(alloc, &bytes, Speed::Full).1 else {
-        return Ok(false);
-    };
+    match describe(alloc, &bytes, Speed::Full).1 {
+        Some(description) => Ok(reads(alloc, &description)? && writes(alloc, &description)?),
+        None => Ok(false),
+    }
+}
+
+fn reads(alloc: Global, description: &Description) -> Result<bool, AllocError> {
     let request = Setup::from_bytes(&[0x80, 6, 0, 1, 0, 0, 18, 0]);
     let mut requests = Vec::new(alloc);
     for _ in 0..REQUESTS {
         requests.push(request)?;
     }
-    let talk = match converse(alloc, &description, 16, &requests, &[]) {
-        Ok(talk) => talk,
-        Err(_) => return Ok(false),
+    match converse(alloc, description, 16, &requests, &[]) {
+        Ok(talk) => Ok(is_whole(&talk, TRANSACTIONS * REQUESTS as u128)),
+        Err(_) => Ok(false),
+    }
+}
+
+/// SET_REPORT of one byte, which no owner takes: each is rejected.
+fn writes(alloc: Global, description: &Description) -> Result<bool, AllocError> {
+    let write = Asked {
+        setup: Setup::from_bytes(&[0x21, 9, 0, 2, 0, 0, 1, 0]),
+        data: &[1],
     };
-    let transactions = TRANSACTIONS * REQUESTS as u128;
-    Ok(
-        talk.stopped.is_none()
-            && talk.replies.len() == REQUESTS
-            && talk.transactions == transactions,
-    )
+    let mut writes = Vec::new(alloc);
+    for _ in 0..REQUESTS {
+        writes.push(write)?;
+    }
+    match converse_asked(alloc, description, 16, &writes, &[]) {
+        Ok(talk) => Ok(is_whole(&talk, TRANSACTIONS_OF_WRITE * REQUESTS as u128)),
+        Err(_) => Ok(false),
+    }
+}
+
+/// Whether each request has its reply, after so many transactions.
+fn is_whole(talk: &Talk, transactions: u128) -> bool {
+    talk.stopped.is_none() && talk.replies.len() == REQUESTS && talk.transactions == transactions
 }

@@ -23,6 +23,11 @@ pub(crate) struct Controller<'d> {
 }
 
 impl<'d> Controller<'d> {
+    /// The data of a write that have all come, and weren't answered yet.
+    pub(crate) fn written(&self) -> Option<&[u8]> {
+        self.device.written().map(|(_, bytes)| bytes)
+    }
+
     /// After a bus reset.
     pub(crate) fn new(description: &'d Description) -> Controller<'d> {
         Controller {
@@ -42,7 +47,8 @@ impl<'d> Controller<'d> {
         match token.stage {
             Stage::Setup(_) => {
                 self.stalls = false;
-                self.take(token)
+                self.loaded = None;
+                self.device.serve(token, true)
             }
             Stage::In => {
                 if ready {
@@ -50,7 +56,14 @@ impl<'d> Controller<'d> {
                 }
                 self.send()
             }
-            Stage::Out(_, _) => { if ready { self.take(token) } else { Answer::Nak } }
+            Stage::Out(_, _) if self.stalls => Answer::Stall,
+            Stage::Out(_, _) => {
+                if ready {
+                    self.receive(token)
+                } else {
+                    Answer::Nak
+                }
+            }
         }
     }
 
@@ -61,17 +74,33 @@ impl<'d> Controller<'d> {
         self.address = self.device.state().address;
     }
 
-    /// Serves a SETUP or an OUT, at which nothing stays loaded.
-    fn take(&mut self, token: &Transaction<'_>) -> Answer<'_> {
+    /// Serves an OUT, at which nothing stays loaded. The controller has sent its ACK by then, so that a STALL comes with the
+    /// next token.
+    fn receive(&mut self, token: &Transaction<'_>) -> Answer<'_> {
+        self.own();
         self.loaded = None;
-        self.device.serve(token, true)
+        self.stalls = matches!(self.device.serve(token, true), Answer::Stall);
+        Answer::Ack
     }
 
-    /// Loads the packet that is due, or sets the stall bit.
+    /// The owner takes SET_REPORT, and accepts its data once all have come.
+    fn own(&mut self) {
+        let is_report =
+            matches!(self.device.refused(), Some(request) if request.request_type == 0x21 && request.request == 9);
+        if is_report || self.device.written().is_some() {
+            let _ = self.device.accept();
+        }
+    }
+
+    /// Loads the packet that is due, or sets the stall bit. In Written nothing is loaded.
     fn load(&mut self) {
+        self.own();
         let is_due = matches!(
             self.device.stage(),
-            DeviceStage::Sending | DeviceStage::StatusIn | DeviceStage::Halted
+            DeviceStage::Sending
+                | DeviceStage::StatusIn
+                | DeviceStage::Receiving
+                | DeviceStage::Halted
         );
         if self.loaded.is_some() || !is_due {
             return;
@@ -100,6 +129,27 @@ impl<'d> Controller<'d> {
             None => Answer::Nak,
         }
     }
+}
+
+/// A write of nine bytes that its owner takes, in whose data stage an IN comes: STALL until the next SETUP.
+#[test]
+fn a_controller_stalls_an_in_between_data(rt: HostRuntime) -> Result<()> {
+    let file = read_file(rt.alloc(), &MOUSE)?;
+    let description = Description::new(rt.alloc(), file, Speed::Full)?;
+    let mut controller = Controller::new(&description);
+    let report = Stage::Setup([0x21, 9, 0, 2, 0, 0, 9, 0]);
+    for (stage, ready, answer) in [
+        (report, false, Answer::Ack),
+        (Stage::Out(Toggle::Data1, &[1]), false, Answer::Nak),
+        (Stage::In, true, Answer::Stall),
+        (Stage::Out(Toggle::Data1, &[1]), true, Answer::Stall),
+        (report, false, Answer::Ack),
+        (Stage::In, false, Answer::Nak),
+    ] {
+        let token = Transaction { address: 0, stage };
+        assert_eq!(rt; controller.on_token(&token, ready), answer);
+    }
+    Ok(())
 }
 
 /// A request that is rejected, and SET_ADDRESS 5. What is loaded is sent again without the firmware, and the address

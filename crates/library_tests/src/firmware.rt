@@ -1,4 +1,4 @@
-//! A firmware: a mouse that answers tokens, and gives its report descriptor where chapter 9 has no answer.
+//! A firmware: a mouse that answers tokens, gives its report descriptor where chapter 9 has no answer, and takes reports.
 use nozzlegorse::bus::{Answer, Transaction, request};
 use nozzlegorse::device::Device;
 
@@ -16,9 +16,13 @@ pub(crate) fn on_token<'a>(mouse: &'a mut Device, token: &Transaction, ready: bo
         // A request that the table rejects: what isn't answered here is answered by STALL.
         let _ = match (setup.request_type, setup.request, setup.value) {
             (0x81, request::GET_DESCRIPTOR, 0x2200) => mouse.answer_with(&REPORT_DESCRIPTOR),
-            (0x21, 10, _) => mouse.accept(),
+            (0x21, 9 | 10, _) => mouse.accept(),
             _ => Ok(()),
         };
+    }
+    if mouse.written().is_some() {
+        // A SET_REPORT whose data have all come: here is where they are used.
+        let _ = mouse.accept();
     }
     mouse.serve(token, ready)
 }

@@ -14,6 +14,8 @@ mod findings;
 #[cfg(test)]
 mod firmware;
 #[cfg(test)]
+mod judging;
+#[cfg(test)]
 mod losses;
 #[cfg(test)]
 mod lossy_bus;

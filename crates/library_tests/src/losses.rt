@@ -1,13 +1,14 @@
-//! The firmware and a controller, read under all lists of six fates: each read is right, or failed for a loss.
+//! The firmware and a controller, read and written to under all lists of six fates: each request is right, or failed for a loss.
 use crate::controller::Controller;
-use crate::lossy_bus::{End, Reading, read};
+use crate::lossy_bus::{Course, End, REPORT, Request, make};
 use anyhow::{Result, ensure};
 use nozzlegorse::bus::{Fate, Setup};
 use nozzlegorse::descriptors::Speed;
 use nozzlegorse::device::{Description, Device};
 use nozzlegorse::files::read_file;
-use nozzlegorse::host::{Transfer, Why};
+use nozzlegorse::host::{Transfer, Why, Write};
 use std::alloc::Global;
+use usb_fields::Direction;
 
 /// QEMU's hub, with packets of 8 bytes: `testdata/files/qemu-usb-hub.file`.
 const HUB: [u8; 127] = [
@@ -30,7 +31,7 @@ const FATES: [Fate; 5] = [
 /// How many lists of six fates there are.
 const LISTS: u16 = 15_625;
 
-/// The most transactions of a read: six, and one for each fate.
+/// The most transactions of a request: six, and one for each fate.
 const MOST: u128 = 12;
 
 /// The list of this number.
@@ -49,29 +50,53 @@ pub(crate) fn hub(alloc: Global) -> Result<Description> {
     Ok(Description::new(alloc, file, Speed::Full)?)
 }
 
-/// Whether a read of the hub's set is right, or failed for three losses.
-fn is_right(reading: &Reading, fates: &[Fate]) -> bool {
+/// Whether a request brought these bytes, all of them once, or failed for three losses.
+fn is_right(course: &Course, bytes: &[u8], arrivals: u8, fates: &[Fate]) -> bool {
     let losses = fates
         .iter()
         .filter(|fate| !matches!(fate, Fate::Pass | Fate::Busy))
         .count();
-    match reading.outcome {
-        Some(Ok(())) => reading.bytes.as_slice() == &HUB[18..43],
-        Some(Err(Why::NoAnswer)) => losses >= 3,
+    match course.outcome {
+        Some(Ok(())) => course.bytes.as_slice() == bytes && course.arrivals == arrivals,
+        Some(Err(Why::NoAnswer)) => losses >= 3 && course.arrivals <= arrivals,
         _ => false,
     }
 }
 
-/// Reads the hub's set from an end that is new, under the list of fates of this number, and once more without a loss.
-fn is_read(alloc: Global, mut end: End<'_>, number: u16) -> Result<()> {
+/// Makes a request of an end that is new, under the list of fates of this number, and once more without a loss.
+fn is_made(
+    alloc: Global,
+    mut end: End<'_>,
+    request: Request,
+    bytes: &[u8],
+    number: u16,
+) -> Result<()> {
     let fates = fates_of(number);
-    let request = Setup::from_bytes(&[0x80, 6, 0, 2, 0, 0, 25, 0]);
-    let transfer = Transfer::new(0, 8, 16, request);
-    let reading = read(alloc, &mut end, transfer, &fates, MOST)?;
-    ensure!(is_right(&reading, &fates), "under {fates:?}");
-    let again = read(alloc, &mut end, transfer, &[], MOST)?;
-    ensure!(is_right(&again, &[]), "after {fates:?}");
+    let arrivals = u8::from(matches!(request, Request::Write(_)));
+    let course = make(alloc, &mut end, request, &fates, MOST)?;
+    ensure!(
+        is_right(&course, bytes, arrivals, &fates),
+        "under {fates:?}"
+    );
+    let again = make(alloc, &mut end, request, &[], MOST)?;
+    ensure!(is_right(&again, bytes, arrivals, &[]), "after {fates:?}");
     Ok(())
+}
+
+/// The read of the hub's set.
+fn reading() -> Request {
+    let request = Setup::from_bytes(&[0x80, 6, 0, 2, 0, 0, 25, 0]);
+    Request::Read(Transfer::new(0, 8, 16, request))
+}
+
+/// SET_REPORT, with its data.
+fn writing() -> Result<Request> {
+    let request = Setup::from_bytes(&[0x21, 9, 0, 2, 0, 0, 20, 0]);
+    ensure!(
+        request.length > 0 && request.direction() == Direction::Out,
+        "a write"
+    );
+    Ok(Request::Write(Write::new(0, 8, 16, request)))
 }
 
 #[test]
@@ -79,7 +104,7 @@ fn a_firmware_is_read(rt: HostRuntime) -> Result<()> {
     let description = hub(rt.alloc())?;
     for number in 0..LISTS {
         let firmware = End::Firmware(Device::new(&description));
-        is_read(rt.alloc(), firmware, number)?;
+        is_made(rt.alloc(), firmware, reading(), &HUB[18..43], number)?;
     }
     Ok(())
 }
@@ -89,7 +114,27 @@ fn a_controller_is_read(rt: HostRuntime) -> Result<()> {
     let description = hub(rt.alloc())?;
     for number in 0..LISTS {
         let controller = End::Controller(Controller::new(&description));
-        is_read(rt.alloc(), controller, number)?;
+        is_made(rt.alloc(), controller, reading(), &HUB[18..43], number)?;
+    }
+    Ok(())
+}
+
+#[test]
+fn a_firmware_is_written_to(rt: HostRuntime) -> Result<()> {
+    let description = hub(rt.alloc())?;
+    for number in 0..LISTS {
+        let firmware = End::Firmware(Device::new(&description));
+        is_made(rt.alloc(), firmware, writing()?, REPORT, number)?;
+    }
+    Ok(())
+}
+
+#[test]
+fn a_controller_is_written_to(rt: HostRuntime) -> Result<()> {
+    let description = hub(rt.alloc())?;
+    for number in 0..LISTS {
+        let controller = End::Controller(Controller::new(&description));
+        is_made(rt.alloc(), controller, writing()?, REPORT, number)?;
     }
     Ok(())
 }

@@ -102,3 +102,27 @@ fn counts_strikes_and_naks_apart(rt: HostRuntime) {
     assert_eq!(rt; transfer.take(Answer::Nak), Heard::Failed(Why::Busy));
     assert_eq!(rt; transfer.take(Answer::Ack), Heard::Failed(Why::Busy));
 }
+
+/// A transfer has no data for the device: its data packet is empty, and an ACK of that is none of a device's.
+#[test]
+fn a_transfer_sends_no_data(rt: HostRuntime) {
+    // SET_LINE_CODING.
+    let request = Setup::from_bytes(&[0x21, 0x20, 0, 0, 0, 0, 7, 0]);
+    let mut transfer = Transfer::new(5, 8, 16, request);
+    transfer.take(Answer::Ack);
+    let empty = Transaction {
+        address: 5,
+        stage: Stage::Out(Toggle::Data1, &[]),
+    };
+    for answer in [Answer::Nak, Answer::Silence] {
+        assert_eq!(rt; transfer.next(), Some(empty));
+        assert_eq!(rt; transfer.take(answer), Heard::Again);
+    }
+    assert_eq!(rt; transfer.next(), Some(empty));
+    assert_eq!(rt; transfer.take(Answer::Ack), Heard::Failed(Why::Unexpected));
+    assert_eq!(rt; transfer.kept(), 0);
+    assert_eq!(rt;
+        transfer.take(Answer::Data(Toggle::Data1, &[])),
+        Heard::Failed(Why::Unexpected)
+    );
+}

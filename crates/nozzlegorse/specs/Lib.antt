@@ -37,8 +37,11 @@ pub use Rattle.usb_device.specs.Beside
 pub use Rattle.usb_host.specs.Limits
 pub use Rattle.usb_host.specs.Transfer
 pub use Rattle.usb_host.specs.Heard
-pub use Rattle.usb_host.specs.Transfer
+pub use Rattle.usb_host.specs.Write
 pub use Rattle.usb_host.specs.Steps
 pub use Rattle.usb_bus.specs.Bus
 pub use Rattle.usb_bus.specs.Converse
 pub use Rattle.usb_bus.specs.Enumerate
+pub use Rattle.usb_wire.specs.Crc
+pub use Rattle.usb_wire.specs.Damages
+pub use Rattle.usb_wire.specs.Packets as BusPackets

@@ -6,6 +6,7 @@
 //! - A host asks: [`host`].
 //! - A test bench joins both ends over a bus that loses packets and handshakes: [`bus`], which also has what passes
 //!   between the ends.
+//! - A controller's driver has the packets as bytes: [`packets`].
 //!
 //! Nothing is defined here. Each name is in the crate that its line names, with its contract, and what the contracts
 //! cite is passed on by `specs/Lib.antt`: a caller that proves something needs no other crate in its own line.
@@ -62,7 +63,7 @@ pub mod device {
 /// The host's end of a control pipe, and a host that enumerates (USB 2.0, 9.1.2).
 pub mod host {
     pub use usb_host::{
-        Action, Heard, Host, LimitFault, Limits, Reply, Step, Transfer, Trouble, Why,
+        Action, Heard, Host, LimitFault, Limits, Reply, Step, Transfer, Trouble, Why, Write,
     };
 }
 
@@ -74,5 +75,12 @@ pub mod bus {
     };
     pub use usb_fields::{
         Answer, Class, Recipient, Setup, Stage, Toggle, Transaction, feature, request, request_type,
+    };
+}
+
+/// The packets of the bus as bytes, and what their check bits find (USB 2.0, 8.3 and 8.4).
+pub mod packets {
+    pub use usb_wire::{
+        AddressFields, Damage, DataKind, Handshake, MOST_DATA, Packet, Pid, TokenKind, crc5, crc16,
     };
 }

@@ -13,11 +13,13 @@ LENGTHS = [0, 1, 8, 9, 63, 64, 512, 513]
 
 
 def is_open(setup):
-    """Class and vendor requests, and GET_DESCRIPTOR of what the file doesn't tell."""
+    """Class and vendor requests, and GET_DESCRIPTOR of what the file doesn't tell, with no data to the device."""
     kind = setup[0] >> 5 & 3
     if kind:
         return kind < 3
     recipient, descriptor = setup[0] & 31, setup[3]
+    if length_of(setup) and not setup[0] & 0x80:
+        return False
     return setup[1] == 6 and (recipient in (1, 2) or recipient == 0 and descriptor not in (1, 2, 6, 7))
 
 

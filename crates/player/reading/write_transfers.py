@@ -81,6 +81,12 @@ acked(9, 8, 1).say("nak").say("nak").say("ack").say("nak").say("nak").say("ack")
 for count in range(1, 4):
     acked(9, 8, count).say("nak").say("nak").say("silence").say("nak").say("nak")
 
+lines.append("\n# without data the packet is empty, whatever wLength is, and no device's ACK is due for it")
+for answer, end in ("ack", "failed 5"), ("stall", "failed 3"), ("data1 -", "failed 5"):
+    lines.append(f"transfer 5 8 2 {setup(9).hex()} -> send 5 setup {setup(9).hex()}")
+    lines += [f"{it} -> send 5 out data1 -" for it in ("ack", "nak", "silence", "nak", "silence")]
+    lines += [f"{answer} -> {end}", f"ack -> {end}"]
+
 lines.append("\n# data of another length than wLength, and data of a read")
 lines.append("transfer 5 8 2 2109000200000100 0102 -> no step")
 lines.append("transfer 5 8 2 2109000200000200 01 -> no step")

@@ -7,13 +7,15 @@ use anyhow::Result;
 use hex::FromHex;
 use std::alloc::{AllocError, Global};
 use usb_fields::{Direction, Setup};
-use usb_host::{Heard, Transfer};
+use usb_host::{Heard, Transfer, Write};
 
-/// A transfer in work, and the data that it sends to the device.
+/// A transfer in work.
 #[derive(Drop)]
-pub struct TransferInWork {
-    transfer: Transfer,
-    bytes: Vec<u8>,
+pub enum TransferInWork {
+    /// One without data for the device.
+    Transfer(Transfer),
+    /// One that sends these data to it.
+    Write(Write, Vec<u8>),
 }
 
 impl TransferInWork {
@@ -21,20 +23,25 @@ impl TransferInWork {
     /// where there is a fifth word.
     pub fn read(alloc: Global, words: &[&str]) -> Option<TransferInWork> {
         match words {
-            [address, packet, naks, setup] => Some(TransferInWork {
-                transfer: read_transfer(address, packet, naks, setup)?,
-                bytes: Vec::new(alloc),
-            }),
+            [address, packet, naks, setup] => {
+                let (address, packet, naks, request) = read_numbers(address, packet, naks, setup)?;
+                if packet == 0 {
+                    return None;
+                }
+                Some(TransferInWork::Transfer(Transfer::new(address, packet, naks, request)))
+            }
             [address, packet, naks, setup, data] => {
-                let transfer = read_transfer(address, packet, naks, setup)?;
+                let (address, packet, naks, request) = read_numbers(address, packet, naks, setup)?;
                 let bytes = read_bytes(alloc, data)?;
-                let request = transfer.request();
-                if request.direction() == Direction::In
+                if packet == 0
+                    || request.direction() == Direction::In
+                    || request.length == 0
                     || bytes.len() != usize::from(request.length)
                 {
                     return None;
                 }
-                Some(TransferInWork { transfer, bytes })
+                let write = Write::new(address, packet, naks, request);
+                Some(TransferInWork::Write(write, bytes))
             }
             _ => None,
         }
@@ -42,7 +49,11 @@ impl TransferInWork {
 
     /// What an answer means to the transfer.
     pub fn take(&mut self, alloc: Global, said: &Said) -> Result<Outcome> {
-        Ok(Outcome::Text(match self.transfer.take(said.answer()) {
+        let heard = match self {
+            TransferInWork::Transfer(transfer) => transfer.take(said.answer()),
+            TransferInWork::Write(write, _) => write.take(said.answer()),
+        };
+        Ok(Outcome::Text(match heard {
             Heard::Again => self.due(alloc)?,
             Heard::Bytes(bytes) => {
                 let bytes = bytes_text(alloc, bytes)?;
@@ -59,11 +70,16 @@ impl TransferInWork {
 
     /// The transaction that is due.
     pub fn due(&self, alloc: Global) -> Result<String, AllocError> {
-        let is_whole = self.bytes.len() == usize::from(self.transfer.request().length);
-        let due = if is_whole {
-            self.transfer.next_of(&self.bytes)
-        } else {
-            self.transfer.next()
+        let due = match self {
+            TransferInWork::Transfer(transfer) => transfer.next(),
+            TransferInWork::Write(write, bytes) => {
+                // A write has wLength bytes of data, as `read` has seen to.
+                if bytes.len() == usize::from(write.request().length) {
+                    write.next(bytes)
+                } else {
+                    None
+                }
+            }
         };
         match due {
             Some(transaction) => due_text(alloc, &transaction),
@@ -72,14 +88,16 @@ impl TransferInWork {
     }
 }
 
-/// A transfer by its address, packet size, NAKs that are retried, and setup packet.
-fn read_transfer(address: &str, packet: &str, naks: &str, setup: &str) -> Option<Transfer> {
+/// An address, a packet size, the NAKs that are retried, and a setup packet.
+fn read_numbers(
+    address: &str,
+    packet: &str,
+    naks: &str,
+    setup: &str,
+) -> Option<(u8, u8, u16, Setup)> {
     let address = address.parse::<u8>().ok()?;
     let packet = packet.parse::<u8>().ok()?;
     let naks = naks.parse::<u16>().ok()?;
     let setup = <[u8; 8] as FromHex>::from_hex(setup).ok()?;
-    if packet == 0 {
-        return None;
-    }
-    Some(Transfer::new(address, packet, naks, Setup::from_bytes(&setup)))
+    Some((address, packet, naks, Setup::from_bytes(&setup)))
 }

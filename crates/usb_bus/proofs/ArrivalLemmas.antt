@@ -6,7 +6,7 @@ use Rattle.usb_fields.specs.declared.packet.Toggle.TheVariants.{Data0, Data1}
 use Rattle.usb_fields.specs.declared.setup.Setup.{Setup as SetupPacket}
 use Rattle.usb_fields.specs.Setup.{setup_bytes}
 use Rattle.usb_fields.specs.Packets.{Token, SetupToken, InToken, OutToken, Sent, Reply, AckReply, NoReply, packets}
-use Rattle.usb_host.specs.Transfer.{TransferView, due_of, packet_due, taken_at, token_due, addressed}
+use Rattle.usb_host.specs.Transfer.{TransferView, due_of, packet_due, token_due, addressed}
 use Rattle.usb_host.specs.declared.transfer.TransferStage.{TransferStage}
 use Rattle.usb_host.specs.declared.transfer.TransferStage.TheVariants.{Setup, DataIn, DataOut, StatusOut, StatusIn, Completed, Failed}
 use Rattle.usb_device.specs.declared.state.State.{State}
@@ -15,7 +15,7 @@ use Rattle.usb_device.specs.Step.{DeviceStage, DeviceView, Served, acked, acked_
 use Rattle.usb_device.specs.Step as device
 use Rattle.usb_bus.specs.declared.fate.Fate.{Fate}
 use Rattle.usb_bus.specs.declared.fate.Fate.TheVariants.{Pass, Busy, LostDown, LostUp, LostAck}
-use Rattle.usb_bus.specs.Bus.{Ends, carried, exchanged, hears, is_data, readiness, step_of}
+use Rattle.usb_bus.specs.Bus.{Ends, carried, exchanged, has_data, hears, is_data, readiness, step_of, taken_by}
 use Rattle.usb_bus.specs.Arrivals.{arrival_at, arrival_in, arrivals, awaits_data, takes_data}
 
 -- ---- the host
@@ -25,14 +25,16 @@ is_setup Setup = true
 is_setup stage = false
 
 -- past its SETUP a transfer stays so
-pub stays_past : (t : TransferView) (stage : TransferStage) (reply : Reply) → t.stage ≡ stage → is_setup stage ≡ false → is_setup (taken_at t stage reply).transfer.stage ≡ false
-stays_past t Setup reply e past = absurd (cc)
-stays_past t DataIn reply e past = grind (arith, nat_tests)
-stays_past t DataOut reply e past = grind (arith, nat_tests)
-stays_past t StatusOut reply e past = grind (arith, nat_tests)
-stays_past t StatusIn reply e past = grind (arith, nat_tests)
-stays_past t Completed reply e past = grind (arith, nat_tests)
-stays_past t (Failed why) reply e past = grind (arith, nat_tests)
+pub stays_past : (sends : Bool) (t : TransferView) (stage : TransferStage) (reply : Reply) → t.stage ≡ stage → is_setup stage ≡ false →
+    is_setup (taken_by sends t stage reply).transfer.stage ≡ false
+stays_past sends t Setup reply e past = absurd (cc)
+stays_past sends t DataIn reply e past = grind (arith, nat_tests)
+stays_past true t DataOut reply e past = grind (arith, nat_tests)
+stays_past false t DataOut reply e past = grind (arith, nat_tests)
+stays_past sends t StatusOut reply e past = grind (arith, nat_tests)
+stays_past sends t StatusIn reply e past = grind (arith, nat_tests)
+stays_past sends t Completed reply e past = grind (arith, nat_tests)
+stays_past sends t (Failed why) reply e past = grind (arith, nat_tests)
 
 -- ---- the device
 
@@ -189,16 +191,16 @@ module _ (answer : State → SetupPacket → Outcome) (packet : ℕ) where
     less_later : (fate : Fate) (e : Ends) (sent : Sent) → due_of e.host.transfer bytes ≡ Some sent → IsLater sent.token → is_setup e.host.transfer.stage ≡ false → Less fate e (Some sent)
     less_later fate e sent is later past =
         let r = carried answer packet e.device sent fate in
-        let after : next fate e ≡ record { host = hears e.host r.reply; device = r.device } = ap (λ o. exchanged answer packet e.host e.device o fate) is in
-        let still = stays_past e.host.transfer e.host.transfer.stage r.reply refl past in
-        let there : left_at (hears e.host r.reply).transfer.stage r.device.stage ≡ one_if (awaits_data r.device.stage) = left_past _ r.device.stage still in
+        let after : next fate e ≡ record { host = hears (has_data bytes) e.host r.reply; device = r.device } = ap (λ o. exchanged answer packet (has_data bytes) e.host e.device o fate) is in
+        let still = stays_past (has_data bytes) e.host.transfer e.host.transfer.stage r.reply refl past in
+        let there : left_at (hears (has_data bytes) e.host r.reply).transfer.stage r.device.stage ≡ one_if (awaits_data r.device.stage) = left_past _ r.device.stage still in
         let here = left_past e.host.transfer.stage e.device.stage past in
         let fall = falls e.device sent fate later in
         rw (after, there, here) fall
 
     less_none : (fate : Fate) (e : Ends) → due_of e.host.transfer bytes ≡ None → Less fate e None
     less_none fate e is =
-        let after : next fate e ≡ e = ap (λ o. exchanged answer packet e.host e.device o fate) is in
+        let after : next fate e ≡ e = ap (λ o. exchanged answer packet (has_data bytes) e.host e.device o fate) is in
         rw after (omega arith)
 
     less_setup : (fate : Fate) (e : Ends) (sent : Sent) → e.host.transfer.stage ≡ Setup → sent.token ≡ SetupToken (setup_bytes e.host.transfer.request) → Less fate e (Some sent)

@@ -7,7 +7,7 @@ use Rattle.usb_fields.specs.declared.setup.Setup.{Setup as SetupPacket}
 use Rattle.usb_fields.specs.Setup.{setup_bytes, setup_of}
 use Rattle.usb_fields.specs.Packets.{Token, SetupToken, OutToken, Sent, Reply, AckReply, NakReply, StallReply, DataReply, NoReply, is_same_toggle}
 use Rattle.usb_host.specs.declared.why.Why.TheVariants as whys
-use Rattle.usb_host.specs.Transfer.{TransferView, Taken, Goes, addressed, due_of, failed, packet_due, stage_after_setup, taken_at, token_due}
+use Rattle.usb_host.specs.Transfer.{TransferView, Taken, Goes, addressed, due_of, failed, packet_due, stage_after_setup, token_due}
 use Rattle.usb_host.specs.declared.transfer.TransferStage.{TransferStage}
 use Rattle.usb_host.specs.declared.transfer.TransferStage.TheVariants.{Setup, DataIn, DataOut, StatusOut, StatusIn, Completed, Failed}
 use Rattle.usb_device.specs.declared.state.State.{State}
@@ -16,7 +16,7 @@ use Rattle.usb_device.specs.Step.{DeviceStage, DeviceView, Served, acked, awaite
 use Rattle.usb_device.specs.Step as device
 use Rattle.usb_bus.specs.declared.fate.Fate.{Fate}
 use Rattle.usb_bus.specs.declared.fate.Fate.TheVariants.{Pass, Busy, LostDown, LostUp, LostAck}
-use Rattle.usb_bus.specs.Bus.{lost, busy, ack_lost, Ends, acknowledged, carried, exchanged, hears, is_data, readiness, run_of, step_of}
+use Rattle.usb_bus.specs.Bus.{lost, busy, ack_lost, Ends, acknowledged, carried, exchanged, has_data, hears, is_data, readiness, run_of, step_of, taken_by}
 use Rattle.usb_bus.specs.Beside.{IsAnswering, SizesAlike}
 use Rattle.usb_bus.specs.Attempt.{begins}
 use Rattle.usb_bus.specs.Together.{Stages, AreInStages}
@@ -45,12 +45,12 @@ abbrev is_ack : Reply → Bool
 is_ack AckReply = true
 is_ack reply = false
 
-module _ (t : TransferView) (at : t.stage ≡ DataOut) (refused : Option SetupPacket) where
+module _ (sends : Bool) (t : TransferView) (at : t.stage ≡ DataOut) (refused : Option SetupPacket) where
   abbrev Dooms : TransferStage → Type 0
   Dooms stage = IsDoomed stage (device.Halted refused)
 
   -- without an ACK the data stage doesn't go on
-  dooms : (reply : Reply) → is_ack reply ≡ false → Dooms (taken_at t DataOut reply).transfer.stage
+  dooms : (reply : Reply) → is_ack reply ≡ false → Dooms (taken_by sends t DataOut reply).transfer.stage
   dooms AckReply e = absurd (cc)
   dooms StallReply e = tt
   dooms (DataReply toggle bytes) e = tt
@@ -70,8 +70,9 @@ is_completed Completed = true
 is_completed stage = false
 
 -- no data packet to the device completes a transfer
-not_completed : (t : TransferView) (reply : Reply) → t.stage ≡ DataOut → is_completed (taken_at t DataOut reply).transfer.stage ≡ false
-not_completed t reply e = grind (arith, nat_tests)
+not_completed : (sends : Bool) (t : TransferView) (reply : Reply) → t.stage ≡ DataOut → is_completed (taken_by sends t DataOut reply).transfer.stage ≡ false
+not_completed true t reply e = grind (arith, nat_tests)
+not_completed false t reply e = grind (arith, nat_tests)
 
 -- ---- the device
 
@@ -222,19 +223,19 @@ module _ (answer : State → SetupPacket → Outcome) (packet : ℕ) where
 
     -- what the host makes of a refusal in the data stage
     refusal_dooms : (e : Ends) (c : Served) → e.host.transfer.stage ≡ DataOut → is_halted c.device.stage ≡ true → is_ack c.reply ≡ false →
-        IsDoomed (hears e.host c.reply).transfer.stage c.device.stage
+        IsDoomed (hears (has_data bytes) e.host c.reply).transfer.stage c.device.stage
     refusal_dooms e c at halts other =
-        halts_doomed (hears e.host c.reply).transfer.stage c.device.stage halts
-        (subst (λ st. IsDoomed (taken_at e.host.transfer st c.reply).transfer.stage (device.Halted None)) (sym at) (dooms e.host.transfer at None c.reply other))
+        halts_doomed (hears (has_data bytes) e.host c.reply).transfer.stage c.device.stage halts
+        (subst (λ st. IsDoomed (taken_by (has_data bytes) e.host.transfer st c.reply).transfer.stage (device.Halted None)) (sym at) (dooms (has_data bytes) e.host.transfer at None c.reply other))
 
     after_out : (fate : Fate) (e : Ends) → e.host.transfer.stage ≡ DataOut →
-        (let c = carried answer packet e.device (out_of e) fate in next fate e ≡ record { host = hears e.host c.reply; device = c.device })
-    after_out fate e at = ap (λ o. exchanged answer packet e.host e.device o fate) (out_due e at)
+        (let c = carried answer packet e.device (out_of e) fate in next fate e ≡ record { host = hears (has_data bytes) e.host c.reply; device = c.device })
+    after_out fate e at = ap (λ o. exchanged answer packet (has_data bytes) e.host e.device o fate) (out_due e at)
 
     doomed_on : (fate : Fate) (e : Ends) (stage : TransferStage) (at : DeviceStage) → e.host.transfer.stage ≡ stage → e.device.stage ≡ at → IsDoomed stage at → Dooms_of (next fate e)
     doomed_on fate e (Failed why) at is here d =
         let none : due_of e.host.transfer bytes ≡ None = ap (λ st. addressed e.host.transfer.address (token_due e.host.transfer bytes st)) is in
-        let same : next fate e ≡ e = ap (λ o. exchanged answer packet e.host e.device o fate) none in
+        let same : next fate e ≡ e = ap (λ o. exchanged answer packet (has_data bytes) e.host e.device o fate) none in
         subst (λ x. Dooms_of x) (sym same) (subst (λ st. IsDoomed st e.device.stage) (sym is) tt)
     doomed_on fate e DataOut (device.Halted refused) is here d =
         let h = halts_on e.device refused here e.host.transfer.address e.host.transfer.awaited (packet_due e.host.transfer bytes) fate in
@@ -302,7 +303,7 @@ module _ (answer : State → SetupPacket → Outcome) (packet : ℕ) where
         came = carried answer packet e.device (out_of e) fate
 
         abbrev after : Ends
-        after = record { host = hears e.host came.reply; device = came.device }
+        after = record { host = hears (has_data bytes) e.host came.reply; device = came.device }
 
         one_here : needed e.host.transfer.stage e.device.stage ≡ 1
         one_here = ap (λ st. needed st e.device.stage) is ∙ ap (λ x. needed DataOut x) here
@@ -311,7 +312,7 @@ module _ (answer : State → SetupPacket → Outcome) (packet : ℕ) where
         due_is = ap (λ o. arrival_in answer packet e.device o fate) (out_due e is)
 
         goes : is_completed after.host.transfer.stage ≡ false
-        goes = subst (λ st. is_completed (taken_at e.host.transfer st came.reply).transfer.stage ≡ false) (sym is) (not_completed e.host.transfer came.reply is)
+        goes = subst (λ st. is_completed (taken_by (has_data bytes) e.host.transfer st came.reply).transfer.stage ≡ false) (sym is) (not_completed (has_data bytes) e.host.transfer came.reply is)
 
         one_after : One (l + lost fate) (b + busy fate) (a + ack_lost fate) after
         one_after = subst (λ x. One (l + lost fate) (b + busy fate) (a + ack_lost fate) x) (after_out fate e is) (kept_on l b a fate e c)
@@ -343,7 +344,7 @@ module _ (answer : State → SetupPacket → Outcome) (packet : ℕ) where
         in_state = (subst (λ st. Stages answer packet s q size naks bytes l b a st e.device.stage e.host.transfer.awaited e.host.got e.host.transfer.kept e.host.transfer.strikes e.device.state) is c.stages).0
 
         abbrev Needs : Served → Type 0
-        Needs r = (needed (hears e.host r.reply).transfer.stage r.device.stage ≡ 1) ⊎ IsDoomed (hears e.host r.reply).transfer.stage r.device.stage
+        Needs r = (needed (hears (has_data bytes) e.host r.reply).transfer.stage r.device.stage ≡ 1) ⊎ IsDoomed (hears (has_data bytes) e.host r.reply).transfer.stage r.device.stage
 
         asks : (0 < q.length) × (stage_after_setup q ≡ DataOut)
         asks = (let o = w.takes judge takes in (o.0, stage_after_setup-out q o.0 o.1))
@@ -354,9 +355,9 @@ module _ (answer : State → SetupPacket → Outcome) (packet : ℕ) where
             ∙ ap (λ x. begun q (answer x q)) in_state ∙ ap (begun q) takes
 
         -- an ACK of it that is heard
-        begins_data : (stage : DeviceStage) → stage ≡ device.Receiving q [] → needed (hears e.host AckReply).transfer.stage stage ≡ 1
+        begins_data : (stage : DeviceStage) → stage ≡ device.Receiving q [] → needed (hears (has_data bytes) e.host AckReply).transfer.stage stage ≡ 1
         begins_data stage i =
-            ap (λ x. needed (taken_at e.host.transfer x AckReply).transfer.stage stage) is
+            ap (λ x. needed (taken_by (has_data bytes) e.host.transfer x AckReply).transfer.stage stage) is
             ∙ ap (λ x. needed (stage_after_setup x) stage) c.request ∙ ap (λ x. needed x stage) asks.1 ∙ ap (λ x. needed DataOut x) i
 
         abbrev struck_to : Bool → TransferStage
@@ -367,9 +368,9 @@ module _ (answer : State → SetupPacket → Outcome) (packet : ℕ) where
         by_strikes true stage = inl (ap (λ st. needed st stage) is)
         by_strikes false stage = inr tt
 
-        silent : (stage : DeviceStage) → (needed (hears e.host NoReply).transfer.stage stage ≡ 1) ⊎ IsDoomed (hears e.host NoReply).transfer.stage stage
+        silent : (stage : DeviceStage) → (needed (hears (has_data bytes) e.host NoReply).transfer.stage stage ≡ 1) ⊎ IsDoomed (hears (has_data bytes) e.host NoReply).transfer.stage stage
         silent stage =
-            subst (λ st. (needed (taken_at e.host.transfer st NoReply).transfer.stage stage ≡ 1) ⊎ IsDoomed (taken_at e.host.transfer st NoReply).transfer.stage stage) (sym is)
+            subst (λ st. (needed (taken_by (has_data bytes) e.host.transfer st NoReply).transfer.stage stage ≡ 1) ⊎ IsDoomed (taken_by (has_data bytes) e.host.transfer st NoReply).transfer.stage stage) (sym is)
             (by_strikes (nat_lt e.host.transfer.strikes 2) stage)
 
         setup_at : (ready there : Bool) →
@@ -387,8 +388,8 @@ module _ (answer : State → SetupPacket → Outcome) (packet : ℕ) where
         setup_needs LostUp = silent (served answer packet e.device setup_sent true).device.stage
         setup_needs LostAck = (setup_at true (e.host.transfer.address == e.device.state.address)).0
 
-        after_setup : next fate e ≡ (let r = carried answer packet e.device setup_sent fate in record { host = hears e.host r.reply; device = r.device })
-        after_setup = ap (λ o. exchanged answer packet e.host e.device o fate) setup_due
+        after_setup : next fate e ≡ (let r = carried answer packet e.device setup_sent fate in record { host = hears (has_data bytes) e.host r.reply; device = r.device })
+        after_setup = ap (λ o. exchanged answer packet (has_data bytes) e.host e.device o fate) setup_due
 
         setup_one : needed e.host.transfer.stage e.device.stage ≡ 1
         setup_one = ap (λ st. needed st e.device.stage) is

@@ -1,5 +1,5 @@
 -- What an enumeration asks: no status of the device, and nothing that the device refuses and that is open to an owner.
-use Rattle.std.proofs.Common.{◌≡◌, ◌⊎◌, ℕ, zero, suc, true, false, List, [], ◌∷◌, ◌++◌, inl, inr, Option, Some, None, refl, ap, sym, ◌∙◌, subst, arith}
+use Rattle.std.proofs.Common.{◌≡◌, ◌⊎◌, ◌&&◌, ◌||◌, ℕ, zero, suc, Bool, true, false, List, [], ◌∷◌, ◌++◌, inl, inr, Option, Some, None, refl, ap, sym, ◌∙◌, subst, arith}
 use Rattle.usb_fields.specs.declared.packet.Speed.{Speed}
 use Rattle.usb_fields.specs.declared.packet.Toggle.{Toggle}
 use Rattle.usb_fields.specs.declared.setup.Setup.{Setup as SetupPacket}
@@ -13,6 +13,7 @@ use Rattle.usb_host.specs.declared.transfer.TransferStage.{TransferStage}
 use Rattle.usb_host.specs.declared.transfer.TransferStage.TheVariants.{Setup, DataIn, DataOut, StatusOut, StatusIn, Completed, Failed}
 use Rattle.usb_host.specs.declared.reply.Reply.{Reply}
 use Rattle.usb_host.specs.declared.reply.Reply.TheVariants as replied
+use Rattle.usb_host.proofs.PartLemmas.{left_of, right_of}
 use Rattle.usb_host.specs.Keeping.{Kept}
 use Rattle.usb_host.specs.Limits.{LimitView, IsInRange}
 use Rattle.usb_host.specs.Order.{asks, next}
@@ -24,7 +25,9 @@ use Rattle.usb_host.specs.Transfer.{TransferView, addressed, due, token_due}
 use Rattle.usb_device.specs.Accepted.{Accepted}
 use Rattle.usb_device.specs.declared.state.State.{State}
 use Rattle.usb_device.specs.Beside.{is_open}
-use Rattle.usb_device.specs.Conformance.{IsAllowed, is_device_status, is_in_transfer, is_refusing}
+use Rattle.usb_device.specs.Freedoms.{is_either}
+use Rattle.usb_device.specs.Conformance.{IsAllowed, IsAllowedIn, IsSame, is_device_status, is_free, is_in_transfer, is_refusing}
+use Rattle.usb_device.specs.declared.open_transfer.OpenTransfer.{OpenTransfer}
 use Rattle.usb_device.specs.Requests.{Outcome, Refused, answer}
 use Rattle.usb_device.specs.Step as device
 use Rattle.usb_device.specs.Step.{DeviceStage, DeviceView, new_device}
@@ -35,6 +38,7 @@ use Rattle.usb_bus.specs.Enumerate.{Pair, configured_state, new_pair, RunsAt}
 use Rattle.usb_bus.specs.Run.{fates_used}
 use Rattle.usb_bus.specs.Series.{Attempts, Series, attempt_under, fresh, series_run}
 use Rattle.usb_bus.specs.Together.{Stages}
+use Rattle.usb_bus.specs.WireLaws.{IsAlike}
 use Rattle.usb_bus.specs.inside.Following.{WalksScript}
 use Rattle.usb_bus.specs.inside.Image.{plan_of, IsImage, ReadsSets, StaysImage}
 use Rattle.usb_bus.specs.inside.Script.{Exchange, replies_in, script}
@@ -127,6 +131,31 @@ to_token : (address : ℕ) (o : Option Token) (sent : Sent) → addressed addres
 to_token address None sent e = absurd (cc)
 to_token address (Some token) sent e = (let same : record { address = address; token = token } ≡ sent = cc in ap (λ x. Some x.token) same)
 
+-- the ACK that is waited for changes nothing of what is open
+pub free_alike : (f : DescriptorFile) (d e : DeviceView) (q : SetupPacket) → IsAlike d e → is_free f d q ≡ is_free f e q
+free_alike f d e q alike = ap (λ g. (is_refusing g && is_open q) || is_either f d.state q) alike.stage ∙ ap (λ s. (is_refusing e.stage && is_open q) || is_either f s q) alike.state
+
+left_alone : (a b : Bool) → (a || b) ≡ true → b ≡ false → a ≡ true
+left_alone true b e none = refl
+left_alone false b e none = absurd (let never = sym e ∙ none in cc)
+
+-- nothing that a device may refuse or carry out is asked for
+is_same_either : (g : DescriptorFile) (s : State) (q r : SetupPacket) (address packet other size : ℕ) → Begin address packet q ≡ Begin other size r → is_either g s q ≡ false → is_either g s r ≡ false
+is_same_either g s q r address packet other size e none = subst (λ z. is_either g s z ≡ false) (begins_same address packet other size q r e) none
+
+asks_no_either : (g : DescriptorFile) (s : State) (address : ℕ) (place : Place) (other size : ℕ) (q : SetupPacket) → asks address place ≡ Begin other size q → is_either g s q ≡ false
+asks_no_either g s address First other size q e = is_same_either g s _ q _ _ other size e refl
+asks_no_either g s address (Address first) other size q e = is_same_either g s _ q _ _ other size e refl
+asks_no_either g s address (Device first) other size q e = is_same_either g s _ q _ _ other size e refl
+asks_no_either g s address (Header kind f) other size q e = is_same_either g s _ q _ _ other size e refl
+asks_no_either g s address (Set kind f total) other size q e = is_same_either g s _ q _ _ other size e refl
+asks_no_either g s address (Qualifier f) other size q e = is_same_either g s _ q _ _ other size e refl
+asks_no_either g s address (Languages f named) other size q e = is_same_either g s _ q _ _ other size e refl
+asks_no_either g s address (Text f t named) other size q e = is_same_either g s _ q _ _ other size e refl
+asks_no_either g s address (Configure f) other size q e = is_same_either g s _ q _ _ other size e refl
+asks_no_either g s address (Reported f) other size q e = absurd (cc)
+asks_no_either g s address (Stopped trouble) other size q e = absurd (cc)
+
 -- ---- in an enumeration of a device with accepted descriptors
 
 module _ (set_of : List ℕ → Option Configuration) (exact : ReadsSets set_of) (limits : LimitView) (speed : Speed) (stays : StaysImage set_of limits speed) (f : DescriptorFile)
@@ -174,60 +203,85 @@ module _ (set_of : List ℕ → Option Configuration) (exact : ReadsSets set_of)
       let (used, is) = last_used stands.failed fates _ stands.attempts in
       (used, subst (λ x. IsSound used x) (sym is) (sound used))
 
-  module _ (l b a : ℕ) (replies : List Reply) (h : HostEnd) (d : DeviceView) (token : Token) (came has : Answer) where
-    -- what is allowed in it is the same
-    same_together : TogetherOn plan limits.naks no_data (answer f) size false (replies_in xs) last l b a replies h d →
-        token_due h.transfer [] h.transfer.stage ≡ Some token → IsAllowed h.transfer.request (is_refusing d.stage) token came has → came ≡ has
-    same_together t is (inl same) = same
-    same_together t is (inr (inside, inl (refusing, open_))) =
+  module _ (l b a : ℕ) (replies : List Reply) (h : HostEnd) (d : DeviceView) (open_transfer : OpenTransfer) (token : Token) (came has : Answer) where
+    abbrev free : Bool
+    free = is_free f d h.transfer.request
+
+    -- no outcome is open in it, and what is allowed is the same
+    never_free : TogetherOn plan limits.naks no_data (answer f) size false (replies_in xs) last l b a replies h d →
+        token_due h.transfer [] h.transfer.stage ≡ Some token → is_in_transfer token has ≡ true → free ≡ true → ⊥
+    never_free t is inside at =
+        let either = asks_no_either f d.state limits.address (reached set_of speed First replies) t.s.address t.packet t.q t.planned.begins in
+        let refuses = left_alone (is_refusing d.stage && is_open h.transfer.request) (is_either f d.state h.transfer.request) at
+        (ap (λ q. is_either f d.state q) t.in_one.stand.request ∙ either) in
         let refused = refuses_by_table (answer f) size t.s t.q t.packet limits.naks l b a h.transfer token has h.transfer.stage d.stage h.transfer.awaited h.got h.transfer.kept h.transfer.strikes d.state
-        is inside refusing t.in_one.stand.stages in
+        is inside (left_of (is_refusing d.stage) (is_open h.transfer.request) refuses) t.in_one.stand.stages in
         let closed = refused_closed set_of speed limits.address (Reported f) First xs replies t.todo t.r t.s.address t.packet t.q walks
         (script_closed limits.address size speed f) t.front t.planned.begins (sym t.planned.reply ∙ refused) in
+        let open_ = right_of (is_refusing d.stage) (is_open h.transfer.request) refuses in
         absurd (let never = sym open_ ∙ ap is_open t.in_one.stand.request ∙ closed in cc)
-    same_together t is (inr (inside, inr (status, alike))) =
+
+    no_status : TogetherOn plan limits.naks no_data (answer f) size false (replies_in xs) last l b a replies h d →
+        IsSame h.transfer.request token came has → came ≡ has
+    no_status t (inl same) = same
+    no_status t (inr (inside, status, alike)) =
         let never = asks_no_status limits.address (reached set_of speed First replies) t.s.address t.packet t.q t.planned.begins in
         absurd (let wrong = sym status ∙ ap is_device_status t.in_one.stand.request ∙ never in cc)
 
+    same_together : TogetherOn plan limits.naks no_data (answer f) size false (replies_in xs) last l b a replies h d →
+        token_due h.transfer [] h.transfer.stage ≡ Some token → IsAllowed free h.transfer.request size open_transfer token came has → came ≡ has
+    same_together t is allowed = by_freedom (free && is_in_transfer token has) refl allowed
+      where
+        by_freedom : (b : Bool) → (free && is_in_transfer token has) ≡ b → IsAllowedIn b h.transfer.request size open_transfer token came has → came ≡ has
+        by_freedom true at may = absurd (never_free t is (right_of free (is_in_transfer token has) at) (left_of free (is_in_transfer token has) at))
+        by_freedom false at same = no_status t same
+
     same_sound : Sound plan limits.naks no_data (answer f) size false (replies_in xs) last l b a replies (Running h) d →
-        token_due h.transfer [] h.transfer.stage ≡ Some token → IsAllowed h.transfer.request (is_refusing d.stage) token came has → came ≡ has
+        token_due h.transfer [] h.transfer.stage ≡ Some token → IsAllowed free h.transfer.request size open_transfer token came has → came ≡ has
     same_sound (inl t) is allowed = same_together t is allowed
-    same_sound (inr t) is (inl same) = same
-    same_sound (inr t) is (inr (inside, more)) = absurd (no_setup h.transfer h.transfer.stage token has t.asks is inside)
+    same_sound (inr t) is allowed = by_freedom (free && is_in_transfer token has) refl allowed
+      where
+        never_inside : is_in_transfer token has ≡ true → came ≡ has
+        never_inside inside = absurd (no_setup h.transfer h.transfer.stage token has t.asks is inside)
+
+        by_freedom : (b : Bool) → (free && is_in_transfer token has) ≡ b → IsAllowedIn b h.transfer.request size open_transfer token came has → came ≡ has
+        by_freedom true at may = never_inside (right_of free (is_in_transfer token has) at)
+        by_freedom false at (inl same) = same
+        by_freedom false at (inr (inside, status, alike)) = never_inside inside
 
   -- by the phase of the attempt and that of the host
-  same_image : (used : List Fate) (replies : List Reply) (phase : Phase) (d : DeviceView) (place : Place) (t : TransferView) (k : Kept) (sent : Sent) (came has : Answer) →
+  same_image : (used : List Fate) (replies : List Reply) (phase : Phase) (d : DeviceView) (place : Place) (t : TransferView) (k : Kept) (sent : Sent) (open_transfer : OpenTransfer) (came has : Answer) →
       Sound plan limits.naks no_data (answer f) size false (replies_in xs) last (losses used) (busies used) (acks_lost used) replies phase d →
       IsImage set_of limits speed replies phase (Reading place t k) → due t ≡ Some sent →
-      IsAllowed t.request (is_refusing d.stage) sent.token came has → came ≡ has
-  same_image used replies (Running h) d place t k sent came has sounds image is allowed =
+      IsAllowed (is_free f d t.request) t.request size open_transfer sent.token came has → came ≡ has
+  same_image used replies (Running h) d place t k sent open_transfer came has sounds image is allowed =
       let there : h.transfer ≡ t = image.3.is_transfer in
-      same_sound (losses used) (busies used) (acks_lost used) replies h d sent.token came has sounds
+      same_sound (losses used) (busies used) (acks_lost used) replies h d open_transfer sent.token came has sounds
       (subst (λ z. token_due z [] z.stage ≡ Some sent.token) (sym there) (to_token t.address (token_due t [] t.stage) sent is))
-      (subst (λ z. IsAllowed z.request (is_refusing d.stage) sent.token came has) (sym there) allowed)
-  same_image used replies Succeeded d place t k sent came has sounds image is allowed = absurd (image)
-  same_image used replies (Broken why) d place t k sent came has sounds image is allowed = absurd (image)
+      (subst (λ z. IsAllowed (is_free f d z.request) z.request size open_transfer sent.token came has) (sym there) allowed)
+  same_image used replies Succeeded d place t k sent open_transfer came has sounds image is allowed = absurd (image)
+  same_image used replies (Broken why) d place t k sent open_transfer came has sounds image is allowed = absurd (image)
 
-  same_phase : (used : List Fate) (resets : ℕ) (phase : HostPhase) (d : DeviceView) (series : Series) (t : TransferView) (sent : Sent) (came has : Answer) →
+  same_phase : (used : List Fate) (resets : ℕ) (phase : HostPhase) (d : DeviceView) (series : Series) (t : TransferView) (sent : Sent) (open_transfer : OpenTransfer) (came has : Answer) →
       IsSound used series.attempt → Matches set_of limits speed resets phase d series → transfer_in phase ≡ Some t → wanted phase ≡ WantsSent sent →
-      IsAllowed t.request (is_refusing d.stage) sent.token came has → came ≡ has
-  same_phase used resets ResetDue d series t sent came has sounds matches in_work is allowed = absurd (cc)
-  same_phase used resets (Ended place) d series t sent came has sounds matches in_work is allowed = absurd (cc)
-  same_phase used resets (Reading place u k) d series t sent came has sounds (few, attempts, image, device_is) in_work is allowed =
+      IsAllowed (is_free f d t.request) t.request size open_transfer sent.token came has → came ≡ has
+  same_phase used resets ResetDue d series t sent open_transfer came has sounds matches in_work is allowed = absurd (cc)
+  same_phase used resets (Ended place) d series t sent open_transfer came has sounds matches in_work is allowed = absurd (cc)
+  same_phase used resets (Reading place u k) d series t sent open_transfer came has sounds (few, attempts, image, device_is) in_work is allowed =
       let same : t ≡ u = cc in
       let x = series.attempt in
-      same_image used x.replies x.phase x.device place u k sent came has sounds image (is_due (due u) sent is)
-      (subst (λ e. IsAllowed u.request (is_refusing e.stage) sent.token came has) (sym device_is)
-      (subst (λ z. IsAllowed z.request (is_refusing d.stage) sent.token came has) same allowed))
+      same_image used x.replies x.phase x.device place u k sent open_transfer came has sounds image (is_due (due u) sent is)
+      (subst (λ e. IsAllowed (is_free f e u.request) u.request size open_transfer sent.token came has) (sym device_is)
+      (subst (λ z. IsAllowed (is_free f d z.request) z.request size open_transfer sent.token came has) same allowed))
 
   -- in a run of the device itself, what is allowed of the next transaction is its own answer
   pub same_run : (fates : List Fate) (earlier : List Pair) (n : ℕ) (x : Pair) → RunsAt (answer f) size fates (new_pair limits speed) earlier n x →
-      (t : TransferView) → transfer_in x.host.phase ≡ Some t → (sent : Sent) → wanted x.host.phase ≡ WantsSent sent → (came has : Answer) →
-      IsAllowed t.request (is_refusing x.device.stage) sent.token came has → came ≡ has
-  same_run fates earlier n x runs t in_work sent is came has allowed =
+      (t : TransferView) → transfer_in x.host.phase ≡ Some t → (sent : Sent) → wanted x.host.phase ≡ WantsSent sent → (open_transfer : OpenTransfer) (came has : Answer) →
+      IsAllowed (is_free f x.device t.request) t.request size open_transfer sent.token came has → came ≡ has
+  same_run fates earlier n x runs t in_work sent is open_transfer came has allowed =
       elim (runs_match set_of limits speed stays f (answer f) range.attempts_from fates earlier n x runs) [
         | inl (wanting, heard) ↦ absurd (let ended = ap transfer_in wanting.1 in cc)
         | inr m ↦
             let (used, sounds) = sound_after (fates_used fates n) in
-            same_phase used x.host.resets x.host.phase x.device (after set_of limits speed stays f (answer f) fates n) t sent came has sounds m.matches in_work is allowed
+            same_phase used x.host.resets x.host.phase x.device (after set_of limits speed stays f (answer f) fates n) t sent open_transfer came has sounds m.matches in_work is allowed
       ]

@@ -7,11 +7,11 @@ use Rattle.usb_fields.specs.declared.setup.Direction.TheVariants as directions
 use Rattle.usb_fields.specs.Setup.{direction_of}
 use Rattle.usb_fields.specs.Packets.{Reply, AckReply, NakReply, StallReply, DataReply, NoReply, is_same_toggle}
 use Rattle.usb_host.specs.declared.why.Why.TheVariants as whys
-use Rattle.usb_host.specs.Transfer.{TransferView, Taken, Goes, data_stage, delayed, failed, kept_packet, struck, taken_at, taken_data, taken_status}
+use Rattle.usb_host.specs.Transfer.{TransferView, Taken, Goes, data_stage, delayed, failed, kept_packet, struck, taken_data, taken_status}
 use Rattle.usb_host.specs.declared.transfer.TransferStage.{TransferStage}
 use Rattle.usb_host.specs.declared.transfer.TransferStage.TheVariants.{Setup, DataIn, DataOut, StatusOut, StatusIn, Completed, Failed}
 use Rattle.usb_device.specs.Beside.{brings_bytes, is_in}
-use Rattle.usb_bus.specs.Bus.{HostEnd, hears, with_heard}
+use Rattle.usb_bus.specs.Bus.{HostEnd, hears, taken_by, with_heard}
 use Rattle.usb_bus.specs.Together.{HasCounted}
 
 abbrev is_data_out : TransferStage → Bool
@@ -46,7 +46,7 @@ after_data : (c : Bool) → is_data_out (if c then StatusOut else DataIn) ≡ fa
 after_data true = refl
 after_data false = refl
 
-module _ (t : TransferView) (got : List ℕ) (other : is_data_out t.stage ≡ false) (count : t.kept ≡ length got) where
+module _ (sends : Bool) (t : TransferView) (got : List ℕ) (other : is_data_out t.stage ≡ false) (count : t.kept ≡ length got) where
   struck_counted : Counted got (struck t)
   struck_counted = if_counted got (nat_lt t.strikes 2) (record { heard = Goes; transfer = record t { strikes = suc t.strikes } }) (failed t whys.NoAnswer) (other, count) (refl, count)
 
@@ -69,7 +69,7 @@ module _ (t : TransferView) (got : List ℕ) (other : is_data_out t.stage ≡ fa
   status_counted Data0 [] = struck_counted
   status_counted Data1 [] = (refl, count)
 
-  counted : (stage : TransferStage) (reply : Reply) → is_data_out stage ≡ false → brings_bytes t.request ≡ false → Counted got (taken_at t stage reply)
+  counted : (stage : TransferStage) (reply : Reply) → is_data_out stage ≡ false → brings_bytes t.request ≡ false → Counted got (taken_by sends t stage reply)
   counted Setup AckReply e none = (after_setup (t.request.length == 0) (direction_of t.request.request_type) none, count)
   counted Setup NakReply e none = (refl, count)
   counted Setup StallReply e none = (refl, count)
@@ -95,8 +95,8 @@ module _ (t : TransferView) (got : List ℕ) (other : is_data_out t.stage ≡ fa
   counted (Failed why) reply e none = (other, count)
 
 -- whatever comes back
-pub counts_on : (h : HostEnd) (reply : Reply) → brings_bytes h.transfer.request ≡ false → HasCounted h → HasCounted (hears h reply)
-counts_on h reply none (there, count) =
+pub counts_on : (sends : Bool) (h : HostEnd) (reply : Reply) → brings_bytes h.transfer.request ≡ false → HasCounted h → HasCounted (hears sends h reply)
+counts_on sends h reply none (there, count) =
     let other = elsewhere h.transfer.stage there in
-    let c = counted h.transfer h.got other count h.transfer.stage reply other none in
-    (not_there (hears h reply).transfer.stage c.0, c.1)
+    let c = counted sends h.transfer h.got other count h.transfer.stage reply other none in
+    (not_there (hears sends h reply).transfer.stage c.0, c.1)

@@ -16,6 +16,7 @@ use Rattle.usb_host.specs.Transfer.{TransferView, Hearing, Goes, Brings, Complet
 use Rattle.usb_device.specs.Step.{DeviceView}
 use Rattle.usb_host.specs.declared.reply.Reply.{Reply}
 use Rattle.usb_host.specs.declared.reply.Reply.TheVariants as replied
+use Rattle.usb_bus.proofs.TakenLemmas.{taken_plain}
 use Rattle.usb_bus.specs.Bus.{HostEnd, hears, host_after, with_heard}
 use Rattle.usb_host.specs.Plan.{Plan}
 use Rattle.usb_bus.specs.Attempt.{no_data, Phase, Running, phase_of, reply_from, advance}
@@ -217,7 +218,7 @@ module _ (laws : SetLaws) (set_of : List ℕ → Option Configuration) (limits :
       Image replies (Running h) (Reading place t k) → TakesHeard limits speed place k (taken t packet) new →
       ((result : Result Progress SetFault) × (LacksMemory (taken t packet).heard k result ⊎ Grows (taken t packet).heard place)
       × (new ≡ Ended (stopped place Memory)))
-      ⊎ (let e = hears h packet in let x = advance plan limits.naks no_data replies e e.transfer.stage d in Image x.replies x.phase new)
+      ⊎ (let e = hears false h packet in let x = advance plan limits.naks no_data replies e e.transfer.stage d in Image x.replies x.phase new)
   stays replies h d place t k packet new (here, open_, fits, is) (result, after, works, inl (wants, e)) =
       inl (result, elim wants [ inl lacks ↦ inl lacks | inr grows ↦ inr grows.0 ], e)
   stays replies h d place t k packet new (here, open_, fits, is) (result, after, works, inr (fine, e)) =
@@ -227,6 +228,7 @@ module _ (laws : SetLaws) (set_of : List ℕ → Option Configuration) (limits :
       let w = keeps place h.got k after by.heard result fits is.is_kept works fine in
       let image = advanced replies end by.transfer.stage d place by.transfer after here open_ w.0
       (record { is_transfer = refl; is_read = c.1; is_count = c.0; is_kept = w.1 }) in
-      let same : hears h packet ≡ end = ap (λ x. host_after h.got (taken x packet)) is.is_transfer in
-      inr (subst (λ s. (let z = hears h packet in let x = advance plan limits.naks no_data replies z z.transfer.stage d in Image x.replies x.phase s)) (sym e)
+      let same : hears false h packet ≡ end =
+      ap (λ x. host_after h.got x) (taken_plain h.transfer h.transfer.stage packet) ∙ ap (λ x. host_after h.got (taken x packet)) is.is_transfer in
+      inr (subst (λ s. (let z = hears false h packet in let x = advance plan limits.naks no_data replies z z.transfer.stage d in Image x.replies x.phase s)) (sym e)
       (subst (λ z. (let x = advance plan limits.naks no_data replies z z.transfer.stage d in Image x.replies x.phase (goes_on limits speed place by.transfer after by.transfer.stage))) (sym same) image))

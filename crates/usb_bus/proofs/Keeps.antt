@@ -14,7 +14,7 @@ use Rattle.usb_device.specs.Requests.{Outcome, Bytes, Takes}
 use Rattle.usb_device.specs.Step.{DeviceStage, Sending, DeviceView}
 use Rattle.usb_device.specs.Step as device
 use Rattle.usb_bus.specs.declared.fate.Fate.{Fate}
-use Rattle.usb_bus.specs.Bus.{lost, busy, ack_lost, losses, busies, acks_lost, Ends, HostEnd, carried, exchanged, step_of, run_of}
+use Rattle.usb_bus.specs.Bus.{lost, busy, ack_lost, losses, busies, acks_lost, has_data, Ends, HostEnd, carried, exchanged, step_of, run_of}
 use Rattle.usb_bus.specs.Attempt.{begins, TransferEnds}
 use Rattle.usb_bus.specs.Together.{Stages, AreInStages, HasAccepted, HasCounted, IsReading, IsWriting, InOneTransfer}
 use Rattle.usb_bus.specs.inside.Sound.{IsCut}
@@ -135,8 +135,8 @@ module _ (answer : State → SetupPacket → Outcome) (cut : ℕ) (s : State) (q
         (subst (λ x. At l b a fate DataOut (device.StatusIn x carried) awaited got count strikes nak_count pending s) (sym h.0.asked_is)
         (data_out_accepted answer cut s q size naks data_out l b a fate carried awaited got count strikes nak_count pending h'' h.1 some r))
     by_stage l b a fate DataOut (device.Written asked came) awaited got count strikes nak_count pending d r h =
-        let h' = subst (λ x. Stages answer cut s q size naks data_out l b a DataOut (device.Written asked came) awaited got count strikes x) h.same_state h in
-        subst (λ x. At l b a fate DataOut (device.Written asked came) awaited got count strikes nak_count pending x) (sym h.same_state)
+        let h' = subst (λ x. Stages answer cut s q size naks data_out l b a DataOut (device.Written asked came) awaited got count strikes x) h.0.same_state h in
+        subst (λ x. At l b a fate DataOut (device.Written asked came) awaited got count strikes nak_count pending x) (sym h.0.same_state)
         (data_out_written answer cut s q size naks data_out l b a fate asked came awaited got count strikes nak_count pending h' r)
     by_stage l b a fate DataOut _ awaited got count strikes nak_count pending d r h = absurd h
     by_stage l b a fate StatusOut at awaited got count strikes nak_count pending d r h =
@@ -211,9 +211,9 @@ module _ (answer : State → SetupPacket → Outcome) (cut : ℕ) (s : State) (q
         e.device.state (sym c.address) (sym c.request) (sym c.packet) (sym c.naks_are) c.nak_count c.stages
 
     -- and the host's count
-    counts : (fate : Fate) (e : Ends) (o : Option Sent) → brings_bytes e.host.transfer.request ≡ false → HasCounted e.host → HasCounted (exchanged answer cut e.host e.device o fate).host
+    counts : (fate : Fate) (e : Ends) (o : Option Sent) → brings_bytes e.host.transfer.request ≡ false → HasCounted e.host → HasCounted (exchanged answer cut (has_data data_out) e.host e.device o fate).host
     counts fate e None none c = c
-    counts fate e (Some sent) none c = counts_on e.host (carried answer cut e.device sent fate).reply none c
+    counts fate e (Some sent) none c = counts_on (has_data data_out) e.host (carried answer cut e.device sent fate).reply none c
 
     -- so they stay in it
     pub keeps : (l b a : ℕ) (fate : Fate) (e : Ends) → InOneTransfer answer cut s q size naks data_out l b a e.host e.device →

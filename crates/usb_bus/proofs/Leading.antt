@@ -1,18 +1,18 @@
 -- The transactions of one transfer, as a part of a talk.
-use Rattle.std.proofs.Common.{◌≡◌, ℕ, suc, ◌+◌, List, [], Option, Some, None, refl, ap, ◌∙◌, arith, IsSome}
+use Rattle.std.proofs.Common.{◌≡◌, ℕ, suc, ◌+◌, List, [], Bool, true, false, Option, Some, None, refl, ap, ◌∙◌, arith, IsSome}
 use Rattle.std.proofs.lemmas.Bool.Decides.{nat_tests}
 use Rattle.usb_fields.specs.Packets.{Sent, Reply as PacketReply}
 use Rattle.usb_fields.specs.declared.setup.Setup.{Setup as SetupPacket}
 use Rattle.usb_host.specs.declared.why.Why.{Why}
 use Rattle.usb_host.specs.declared.transfer.TransferStage.{TransferStage}
 use Rattle.usb_host.specs.declared.transfer.TransferStage.TheVariants.{Setup, DataIn, DataOut, StatusOut, StatusIn, Completed, Failed}
-use Rattle.usb_host.specs.Transfer.{TransferView, Hearing, Goes, Brings, Completes, Fails, taken_at, due_of, addressed, token_due}
+use Rattle.usb_host.specs.Transfer.{TransferView, Hearing, Goes, Brings, Completes, Fails, due_of, addressed, token_due}
 use Rattle.usb_device.specs.declared.state.State.{State}
 use Rattle.usb_device.specs.Requests.{Outcome}
 use Rattle.usb_device.specs.Step.{DeviceView}
 use Rattle.usb_bus.specs.declared.fate.Fate.{Fate}
 use Rattle.usb_host.specs.declared.reply.Reply.{Reply}
-use Rattle.usb_bus.specs.Bus.{HostEnd, exchanged, step_of}
+use Rattle.usb_bus.specs.Bus.{HostEnd, exchanged, has_data, step_of, taken_by}
 use Rattle.usb_host.specs.Plan.{Plan}
 use Rattle.usb_bus.specs.Attempt.{Attempt, Running, advance}
 use Rattle.usb_bus.specs.Run.{fate_at, due_in}
@@ -27,15 +27,16 @@ failure_in Completes = None
 failure_in (Fails why) = Some why
 
 -- what is reported to the caller is what the stage says
-pub failure_in-taken : (t : TransferView) (stage : TransferStage) (r : PacketReply) → t.stage ≡ stage →
-    failure_in (taken_at t stage r).heard ≡ failure_of (taken_at t stage r).transfer.stage
-failure_in-taken t Setup r e = grind (arith, nat_tests)
-failure_in-taken t DataIn r e = grind (arith, nat_tests)
-failure_in-taken t DataOut r e = grind (arith, nat_tests)
-failure_in-taken t StatusOut r e = grind (arith, nat_tests)
-failure_in-taken t StatusIn r e = grind (arith, nat_tests)
-failure_in-taken t Completed r e = grind (arith, nat_tests)
-failure_in-taken t (Failed why) r e = grind (arith, nat_tests)
+pub failure_in-taken : (sends : Bool) (t : TransferView) (stage : TransferStage) (r : PacketReply) → t.stage ≡ stage →
+    failure_in (taken_by sends t stage r).heard ≡ failure_of (taken_by sends t stage r).transfer.stage
+failure_in-taken sends t Setup r e = grind (arith, nat_tests)
+failure_in-taken sends t DataIn r e = grind (arith, nat_tests)
+failure_in-taken true t DataOut r e = grind (arith, nat_tests)
+failure_in-taken false t DataOut r e = grind (arith, nat_tests)
+failure_in-taken sends t StatusOut r e = grind (arith, nat_tests)
+failure_in-taken sends t StatusIn r e = grind (arith, nat_tests)
+failure_in-taken sends t Completed r e = grind (arith, nat_tests)
+failure_in-taken sends t (Failed why) r e = grind (arith, nat_tests)
 
 -- what is due has its data, and is due without them
 pub still_due : (t : TransferView) (bytes : List ℕ) (stage : TransferStage) (sent : Sent) → addressed t.address (token_due t bytes stage) ≡ Some sent →
@@ -63,7 +64,7 @@ advance-due plan naks sends replies h (Failed why) d address t bytes sent e = ab
 -- one transaction more
 pub Leads-more : (answer : State → SetupPacket → Outcome) (cut : ℕ) (bytes : List ℕ) (fates : List Fate) (before : ℕ) (h : HostEnd) (d : DeviceView) (now : ℕ)
     (middle : HostEnd) (there : DeviceView) (sent : Sent) (last : HostEnd) (here : DeviceView) → due_of middle.transfer bytes ≡ Some sent →
-    exchanged answer cut middle there (Some sent) (fate_at fates now) ≡ record { host = last; device = here } →
+    exchanged answer cut (has_data bytes) middle there (Some sent) (fate_at fates now) ≡ record { host = last; device = here } →
     LeadsTo answer cut bytes fates before h d now middle there → LeadsTo answer cut bytes fates before h d (suc now) last here
 Leads-more answer cut bytes fates before h d now middle there sent last here asks goes (n, at, leads) =
     let stepped : step_of answer cut bytes (fate_at fates now) (record { host = middle; device = there }) ≡ record { host = last; device = here } =

@@ -1,4 +1,5 @@
 mod Fronts
+mod TakenLemmas
 mod OtherStages
 mod DataStage
 mod WriteLemmas
@@ -41,3 +42,11 @@ pub mod EnumerateLemmas
 mod JoinLemmas
 mod LogLemmas
 mod Tallies
+pub mod WireArrivals
+pub mod WireFates
+pub mod WireRunLemmas
+mod DamageLemmas
+mod AddressLemmas
+mod WireDamages
+mod ExchangeLemmas
+mod OneBit

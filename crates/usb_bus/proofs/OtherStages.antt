@@ -17,10 +17,11 @@ use Rattle.usb_device.specs.Step.{DeviceStage, Served, replies, begun}
 use Rattle.usb_device.specs.Step as device
 use Rattle.usb_bus.specs.declared.fate.Fate.{Fate}
 use Rattle.usb_bus.specs.declared.fate.Fate.TheVariants.{Pass, Busy, LostDown, LostUp, LostAck}
-use Rattle.usb_bus.specs.Bus.{lost, busy, ack_lost, Ends, HostEnd, step_of, hears, acknowledged}
+use Rattle.usb_bus.specs.Bus.{lost, busy, ack_lost, has_data, Ends, HostEnd, step_of, hears, acknowledged}
 use Rattle.usb_bus.specs.Together.{Stages, HasAccepted, IsReading, IsWriting, AreInStages}
 use Rattle.usb_bus.specs.inside.Sound.{IsCut}
 use Rattle.usb_bus.proofs.Fronts.{some_due}
+use Rattle.usb_bus.proofs.TakenLemmas.{some_data}
 use Rattle.usb_bus.specs.Beside.{IsAnswering}
 
 -- a setup packet comes as it was sent
@@ -86,7 +87,11 @@ module _ (answer : State → SetupPacket → Outcome) (cut : ℕ) (s : State) (q
   pub data_out_accepted : (l b a : ℕ) (fate : Fate) (carried : Bool) (awaited : Toggle) (got : List ℕ) (count strikes nak_count : ℕ) (pending : Bool) →
       HasAccepted answer cut s q size naks data_out l q strikes s → count + min size (q.length - count) ≡ q.length → (q.length == 0) ≡ false → nak_count ≤ b →
       Goal l b a fate (both DataOut (device.StatusIn q carried) awaited got count strikes nak_count pending)
-  data_out_accepted l b a fate carried awaited got count strikes nak_count pending e last some r = grind (arith, nat_tests)
+  data_out_accepted l b a fate carried awaited got count strikes nak_count pending e last some r =
+      let enough = e.accepted.enough in
+      let more : 0 < q.length = grind (arith, nat_tests) in
+      let sends = some_data data_out (omega (arith, enough, more)) in
+      grind (arith, nat_tests)
 
   pub data_in_halted : (l b a : ℕ) (fate : Fate) (refused : Option SetupPacket) (awaited : Toggle) (got : List ℕ) (count strikes nak_count : ℕ) (pending : Bool) →
       Stages answer cut s q size naks data_out l b a DataIn (device.Halted refused) awaited got count strikes s → nak_count ≤ b →
@@ -111,7 +116,9 @@ module _ (answer : State → SetupPacket → Outcome) (cut : ℕ) (s : State) (q
   pub data_out_written : (l b a : ℕ) (fate : Fate) (asked : SetupPacket) (came : List ℕ) (awaited : Toggle) (got : List ℕ) (count strikes nak_count : ℕ) (pending : Bool) →
       Stages answer cut s q size naks data_out l b a DataOut (device.Written asked came) awaited got count strikes s → nak_count ≤ b →
       Goal l b a fate (both DataOut (device.Written asked came) awaited got count strikes nak_count pending)
-  data_out_written l b a fate asked came awaited got count strikes nak_count pending e r = grind (arith, nat_tests)
+  data_out_written l b a fate asked came awaited got count strikes nak_count pending e r =
+      let sends = e.1 in
+      grind (arith, nat_tests)
 
   pub status_in : (l b a : ℕ) (fate : Fate) (asked : SetupPacket) (carried : Bool) (awaited : Toggle) (got : List ℕ) (count strikes nak_count : ℕ) (pending : Bool) (d : State) →
       IsAnswering answer s q →
@@ -135,7 +142,7 @@ module _ (answer : State → SetupPacket → Outcome) (cut : ℕ) (s : State) (q
   SetupGoal l b a fate x at strikes nak_count pending =
       let r = carried_setup x at pending fate in
       AreInStages answer cut s q size naks data_out (l + lost fate) (b + busy fate) (a + ack_lost fate)
-      (hears (host_at Setup Data1 [] 0 strikes nak_count) r.reply) r.device
+      (hears (has_data data_out) (host_at Setup Data1 [] 0 strikes nak_count) r.reply) r.device
 
   setup_by : (l b a : ℕ) (fate : Fate) (at : DeviceStage) (strikes nak_count : ℕ) (pending : Bool) (outcome : Outcome) →
       answer s q ≡ outcome →

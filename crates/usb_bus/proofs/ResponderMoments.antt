@@ -6,8 +6,10 @@ use Rattle.usb_fields.specs.declared.packet.Toggle.{Toggle}
 use Rattle.usb_fields.specs.declared.packet.Toggle.TheVariants.{Data1}
 use Rattle.usb_fields.specs.declared.setup.Setup.{Setup as SetupPacket}
 use Rattle.usb_fields.specs.Packets.{InToken, OutToken, Sent, Token, AckReply, NoReply, is_same_toggle}
-use Rattle.usb_host.specs.Transfer.{due_of, packet_due, packet_length, taken_at, token_due, addressed, failed, Goes}
-use Rattle.usb_host.specs.declared.why.Why.TheVariants.{NoAnswer}
+use Rattle.usb_host.specs.Transfer.{due_of, packet_due, token_due, addressed, failed, Goes}
+use Rattle.usb_host.specs.Write.{packet_length}
+use Rattle.usb_host.specs.Write as write
+use Rattle.usb_host.specs.declared.why.Why.TheVariants.{NoAnswer, Unexpected}
 use Rattle.usb_host.specs.declared.transfer.TransferStage.{TransferStage}
 use Rattle.usb_host.specs.declared.transfer.TransferStage.TheVariants.{Setup, DataIn, DataOut, StatusOut, StatusIn, Completed, Failed}
 use Rattle.usb_device.specs.declared.state.State.{State}
@@ -17,11 +19,12 @@ use Rattle.usb_device.specs.Step as device
 use Rattle.usb_device.specs.Beside.{Response, beside}
 use Rattle.usb_bus.specs.declared.fate.Fate.{Fate}
 use Rattle.usb_bus.specs.declared.fate.Fate.TheVariants.{Pass, Busy, LostDown, LostUp, LostAck}
-use Rattle.usb_bus.specs.Bus.{lost, busy, ack_lost, losses, busies, acks_lost, HostEnd, Ends, is_data, hears, host_after, acknowledged, carried, exchanged, step_of}
+use Rattle.usb_bus.specs.Bus.{lost, busy, ack_lost, losses, busies, acks_lost, HostEnd, Ends, has_data, is_data, hears, host_after, acknowledged, carried, exchanged, step_of, taken_by}
 use Rattle.usb_bus.specs.Beside.{IsTable, Moment, asked_to_judge, fates_of, IsAmong, run_moments}
 use Rattle.usb_bus.specs.Attempt.{begins}
 use Rattle.usb_bus.specs.Together.{Stages, AreInStages, IsRefused, IsWriting}
 use Rattle.usb_bus.proofs.Cutting.{packets_cut}
+use Rattle.usb_bus.proofs.TakenLemmas.{packet_data}
 use Rattle.usb_bus.proofs.Keeps.{stands, stages_end}
 use Rattle.usb_bus.specs.Laws.{TransfersReadOneAnswer}
 use Rattle.usb_bus.proofs.ResponderTables.{beside_kept}
@@ -78,32 +81,35 @@ module _ (room : ℕ) (table : State → SetupPacket → Outcome) (packet : ℕ)
       ∙ ap (λ y. record { reply = x.reply; device = y }) (judges_alike r r' d.stage x.device else_)
       ∙ (one_device room table r packet).serves d sent ready
 
-  exchanged_alike : (r r' : Responds) (h : HostEnd) (d : DeviceView) (sent : Sent) (fate : Fate) →
+  exchanged_alike : (r r' : Responds) (sends : Bool) (h : HostEnd) (d : DeviceView) (sent : Sent) (fate : Fate) →
       ((ready : Bool) → served (both r') packet d sent ready ≡ served (both r) packet d sent ready) →
-      exchanged (both r') packet h d (Some sent) fate ≡ exchanged (both r) packet h d (Some sent) fate
-  exchanged_alike r r' h d sent fate same =
-      ap (λ x. record { host = hears h x.reply; device = x.device }) (carries_alike r r' d sent same fate)
+      exchanged (both r') packet sends h d (Some sent) fate ≡ exchanged (both r) packet sends h d (Some sent) fate
+  exchanged_alike r r' sends h d sent fate same =
+      ap (λ x. record { host = hears sends h x.reply; device = x.device }) (carries_alike r r' d sent same fate)
 
   -- The last packet of a write, where the responder refuses the request by now, is acknowledged and not judged. At any other OUT in
   -- the data stage of a write nothing depends on the responder.
   module _ (r r' : Responds) (s : State) (q : SetupPacket) (came : List ℕ) (refuses : both r' s q ≡ Refused) (toggle : Toggle) (bytes : List ℕ) where
-    abbrev IsEither : Served → Served → Type 0
-    IsEither x y = (x ≡ y) ⊎ (x ≡ replies AckReply s (device.Written q (came ++ bytes)) false)
+    abbrev IsDue : Type 0
+    IsDue = (length bytes == min packet (q.length - length came)) ≡ true
 
-    by_all : (all : Bool) →
+    abbrev IsEither : Served → Served → Type 0
+    IsEither x y = (x ≡ y) ⊎ ((x ≡ replies AckReply s (device.Written q (came ++ bytes)) false) × IsDue)
+
+    by_all : IsDue → (all : Bool) →
         IsEither (replies AckReply s (if all then completed q (both r' s q) (came ++ bytes) else device.Receiving q (came ++ bytes)) false)
         (replies AckReply s (if all then completed q (both r s q) (came ++ bytes) else device.Receiving q (came ++ bytes)) false)
-    by_all true = inr (ap (λ o. replies AckReply s (completed q o (came ++ bytes)) false) refuses)
-    by_all false = inl refl
+    by_all due true = inr (ap (λ o. replies AckReply s (completed q o (came ++ bytes)) false) refuses, due)
+    by_all due false = inl refl
 
-    by_right : (other right : Bool) →
+    by_right : (other right : Bool) → (length bytes == min packet (q.length - length came)) ≡ right →
         IsEither (if other then replies AckReply s (device.Receiving q came) false
         else if right then replies AckReply s (gathered q (both r' s q) (came ++ bytes)) false else stalls s)
         (if other then replies AckReply s (device.Receiving q came) false
         else if right then replies AckReply s (gathered q (both r s q) (came ++ bytes)) false else stalls s)
-    by_right true right = inl refl
-    by_right false true = by_all (length (came ++ bytes) == q.length)
-    by_right false false = inl refl
+    by_right true right is = inl refl
+    by_right false true is = by_all is (length (came ++ bytes) == q.length)
+    by_right false false is = inl refl
 
     by_address : (address : ℕ) (pending here : Bool) (token : Token) → token ≡ OutToken toggle bytes →
         (let d : DeviceView = record { state = s; stage = device.Receiving q came; pending = pending } in
@@ -112,7 +118,7 @@ module _ (room : ℕ) (table : State → SetupPacket → Outcome) (packet : ℕ)
     by_address address pending true token e =
         subst (λ t. (let d : DeviceView = record { state = s; stage = device.Receiving q came; pending = pending } in
         IsEither (served_here (both r') packet d t true) (served_here (both r) packet d t true))) (sym e)
-        (by_right (not (is_same_toggle toggle (awaited packet (length came)))) (length bytes == min packet (q.length - length came)))
+        (by_right (not (is_same_toggle toggle (awaited packet (length came)))) (length bytes == min packet (q.length - length came)) refl)
     by_address address pending false token e = inl refl
 
     last_out : (address : ℕ) (pending : Bool) →
@@ -149,18 +155,18 @@ module _ (room : ℕ) (table : State → SetupPacket → Outcome) (packet : ℕ)
 
     -- else the responder isn't asked, but at an OUT in the data stage of a write
     abbrev Alike : Responds → Responds → Fate → Ends → Option Sent → Type 0
-    Alike r r' fate e o = exchanged (both r') packet e.host e.device o fate ≡ exchanged (both r) packet e.host e.device o fate
+    Alike r r' fate e o = exchanged (both r') packet (has_data data_out) e.host e.device o fate ≡ exchanged (both r) packet (has_data data_out) e.host e.device o fate
 
     abbrev due_at : Ends → TransferStage → Option Sent
     due_at e x = addressed e.host.transfer.address (token_due e.host.transfer data_out x)
 
     in_stage : (r r' : Responds) (fate : Fate) (e : Ends) → Alike r r' fate e (Some (record { address = e.host.transfer.address; token = InToken }))
-    in_stage r r' fate e = exchanged_alike r r' e.host e.device (record { address = e.host.transfer.address; token = InToken }) fate (λ ready. in_alike r r' e.host.transfer.address e.device ready)
+    in_stage r r' fate e = exchanged_alike r r' (has_data data_out) e.host e.device (record { address = e.host.transfer.address; token = InToken }) fate (λ ready. in_alike r r' e.host.transfer.address e.device ready)
 
     out_stage : (r r' : Responds) (fate : Fate) (e : Ends) (toggle : Toggle) (bytes : List ℕ) → IsElsewhere e.device.stage →
         Alike r r' fate e (Some (record { address = e.host.transfer.address; token = OutToken toggle bytes }))
     out_stage r r' fate e toggle bytes else_ =
-        exchanged_alike r r' e.host e.device (record { address = e.host.transfer.address; token = OutToken toggle bytes }) fate (λ ready. out_alike r r' toggle bytes e.host.transfer.address e.device else_ ready)
+        exchanged_alike r r' (has_data data_out) e.host e.device (record { address = e.host.transfer.address; token = OutToken toggle bytes }) fate (λ ready. out_alike r r' toggle bytes e.host.transfer.address e.device else_ ready)
 
     at_stage : (r r' : Responds) (fate : Fate) (e : Ends) (x : TransferStage) → (x ≡ Setup → ⊥) → (x ≡ DataOut → IsElsewhere e.device.stage) → (x ≡ StatusOut → IsElsewhere e.device.stage) →
         e.host.transfer.stage ≡ x → Alike r r' fate e (due_of e.host.transfer data_out)
@@ -230,9 +236,10 @@ module _ (room : ℕ) (table : State → SetupPacket → Outcome) (packet : ℕ)
         abbrev Then : ℕ → HostEnd → Type 0
         Then l' h = (b' a' : ℕ) → b ≤ b' → Both m.respond l' b' a' (record { host = h; device = done })
 
-        hears_ack : (l' : ℕ) → Then l' (hears e.host AckReply)
-        hears_ack l' b' a' few =
-            subst (λ st. Both m.respond l' b' a' (record { host = host_after e.host.got (taken_at e.host.transfer st AckReply); device = done })) (sym at)
+        hears_ack : has_data data_out ≡ true → (l' : ℕ) → Then l' (hears (has_data data_out) e.host AckReply)
+        hears_ack sends l' b' a' few =
+            subst (λ st. Both m.respond l' b' a' (record { host = host_after e.host.got (taken_by (has_data data_out) e.host.transfer st AckReply); device = done })) (sym at)
+            (subst (λ x. Both m.respond l' b' a' (record { host = host_after e.host.got (if x then write.acknowledged e.host.transfer else failed e.host.transfer Unexpected); device = done })) (sym sends)
             (record {
               address = c.address;
               request = c.request;
@@ -240,16 +247,16 @@ module _ (room : ℕ) (table : State → SetupPacket → Outcome) (packet : ℕ)
               naks_are = c.naks_are;
               nak_count = omega arith;
               stages = by_count (e.host.transfer.kept + packet_length e.host.transfer == e.host.transfer.request.length) _ _;
-            })
+            }))
           where
             by_count : (last : Bool) (t : Toggle) (n : ℕ) →
                 Stages (both m.respond) packet s q packet naks data_out l' b' a' (if last then StatusIn else DataOut) (device.Written asked all) t e.host.got n 0 e.device.state
             by_count true t n = refused l' 0 (omega arith)
-            by_count false t n = refused l' 0 (omega arith)
+            by_count false t n = (refused l' 0 (omega arith), sends)
 
-        hears_none : (l' : ℕ) → l + 1 ≤ l' → Then l' (hears e.host NoReply)
-        hears_none l' more b' a' few =
-            subst (λ st. Both m.respond l' b' a' (record { host = host_after e.host.got (taken_at e.host.transfer st NoReply); device = done })) (sym at)
+        hears_none : has_data data_out ≡ true → (l' : ℕ) → l + 1 ≤ l' → Then l' (hears (has_data data_out) e.host NoReply)
+        hears_none sends l' more b' a' few =
+            subst (λ st. Both m.respond l' b' a' (record { host = host_after e.host.got (taken_by (has_data data_out) e.host.transfer st NoReply); device = done })) (sym at)
             (by_strikes (nat_lt e.host.transfer.strikes 2) refl)
           where
             by_strikes : (few : Bool) → nat_lt e.host.transfer.strikes 2 ≡ few →
@@ -266,7 +273,7 @@ module _ (room : ℕ) (table : State → SetupPacket → Outcome) (packet : ℕ)
                   naks_are = c.naks_are;
                   nak_count = (let n = c.nak_count in omega arith);
                   stages = subst (λ st. Stages (both m.respond) packet s q packet naks data_out l' b' a' st (device.Written asked all) e.host.transfer.awaited e.host.got e.host.transfer.kept (suc e.host.transfer.strikes) e.device.state) (sym at)
-                      (refused l' (suc e.host.transfer.strikes) (omega arith));
+                      (refused l' (suc e.host.transfer.strikes) (omega arith), sends);
                 }
             by_strikes false i =
                 let owed = w.owed in
@@ -286,48 +293,60 @@ module _ (room : ℕ) (table : State → SetupPacket → Outcome) (packet : ℕ)
         abbrev Now : Fate → Type 0
         Now fate =
             (r' : Responds) × ((r' ≡ r) ⊎ (r' ≡ m.respond))
-            × Both r' (l + lost fate) (b + busy fate) (a + ack_lost fate) (exchanged (both m.respond) packet e.host e.device (Some sent) fate)
+            × Both r' (l + lost fate) (b + busy fate) (a + ack_lost fate) (exchanged (both m.respond) packet (has_data data_out) e.host e.device (Some sent) fate)
 
         -- nothing depends on him
         same_now : (fate : Fate) → Alike r m.respond fate e (Some sent) → Now fate
         same_now fate same = (
           r,
           inl refl,
-          subst (λ x. Both r (l + lost fate) (b + busy fate) (a + ack_lost fate) x) (ap (λ o. exchanged (both r) packet e.host e.device o fate) out_due ∙ sym same)
+          subst (λ x. Both r (l + lost fate) (b + busy fate) (a + ack_lost fate) x) (ap (λ o. exchanged (both r) packet (has_data data_out) e.host e.device o fate) out_due ∙ sym same)
               (kept_on r l b a fate e c),
         )
 
         not_ready : served (both m.respond) packet e.device sent false ≡ served (both r) packet e.device sent false
         not_ready = refl
 
+        abbrev IsDue_now : Type 0
+        IsDue_now = (length (packet_due e.host.transfer data_out) == min packet (asked.length - length came)) ≡ true
+
+        -- a packet that is due has data
+        sends_data : IsDue_now → has_data data_out ≡ true
+        sends_data due =
+            let right : length (packet_due e.host.transfer data_out) ≡ min packet (asked.length - length came) = grind (arith, nat_tests) in
+            let asks = ap (λ x. x.length) w.asked_is in
+            let whole = w.whole in
+            let more = w.more in
+            packet_data e.host.transfer data_out (omega (arith, right, asks, whole, more, pos))
+
         by_case : (fate : Fate) → (served (both m.respond) packet e.device sent true ≡ served (both r) packet e.device sent true)
-            ⊎ (served (both m.respond) packet e.device sent true ≡ replies AckReply e.device.state (device.Written asked all) false) → Now fate
-        by_case fate (inl same) = same_now fate (exchanged_alike r m.respond e.host e.device sent fate by_ready)
+            ⊎ ((served (both m.respond) packet e.device sent true ≡ replies AckReply e.device.state (device.Written asked all) false) × IsDue_now) → Now fate
+        by_case fate (inl same) = same_now fate (exchanged_alike r m.respond (has_data data_out) e.host e.device sent fate by_ready)
           where
             by_ready : (ready : Bool) → served (both m.respond) packet e.device sent ready ≡ served (both r) packet e.device sent ready
             by_ready true = same
             by_ready false = not_ready
-        by_case Pass (inr last) = (
+        by_case Pass (inr (last, due)) = (
           m.respond,
           inr refl,
-          subst (λ x. Both m.respond (l + 0) (b + 0) (a + 0) (let y = acknowledged (both m.respond) packet Pass x in record { host = hears e.host y.reply; device = y.device })) (sym last)
-              (hears_ack (l + 0) (b + 0) (a + 0) (omega arith)),
+          subst (λ x. Both m.respond (l + 0) (b + 0) (a + 0) (let y = acknowledged (both m.respond) packet Pass x in record { host = hears (has_data data_out) e.host y.reply; device = y.device })) (sym last)
+              (hears_ack (sends_data due) (l + 0) (b + 0) (a + 0) (omega arith)),
         )
-        by_case LostAck (inr last) = (
+        by_case LostAck (inr (last, due)) = (
           m.respond,
           inr refl,
-          subst (λ x. Both m.respond (l + 1) (b + 0) (a + 1) (record { host = hears e.host x.reply; device = x.device })) (sym last)
-              (hears_ack (l + 1) (b + 0) (a + 1) (omega arith)),
+          subst (λ x. Both m.respond (l + 1) (b + 0) (a + 1) (record { host = hears (has_data data_out) e.host x.reply; device = x.device })) (sym last)
+              (hears_ack (sends_data due) (l + 1) (b + 0) (a + 1) (omega arith)),
         )
-        by_case LostUp (inr last) = (
+        by_case LostUp (inr (last, due)) = (
           m.respond,
           inr refl,
-          subst (λ x. Both m.respond (l + 1) (b + 0) (a + 0) (record { host = hears e.host NoReply; device = x.device })) (sym last)
-              (hears_none (l + 1) (omega arith) (b + 0) (a + 0) (omega arith)),
+          subst (λ x. Both m.respond (l + 1) (b + 0) (a + 0) (record { host = hears (has_data data_out) e.host NoReply; device = x.device })) (sym last)
+              (hears_none (sends_data due) (l + 1) (omega arith) (b + 0) (a + 0) (omega arith)),
         )
         by_case LostDown (inr last) = same_now LostDown refl
         by_case Busy (inr last) =
-            same_now Busy (ap (λ x. record { host = hears e.host x.reply; device = x.device }) (acks_alike r m.respond (served (both r) packet e.device sent false)))
+            same_now Busy (ap (λ x. record { host = hears (has_data data_out) e.host x.reply; device = x.device }) (acks_alike r m.respond (served (both r) packet e.device sent false)))
 
         declines : After r m l b a e
         declines =
@@ -335,8 +354,8 @@ module _ (room : ℕ) (table : State → SetupPacket → Outcome) (packet : ℕ)
             let case = last_out r m.respond e.device.state asked came request e.host.transfer.awaited (packet_due e.host.transfer data_out) e.host.transfer.address e.device.pending in
             let now = by_case m.fate (subst (λ x. (let d : DeviceView = record { state = e.device.state; stage = x; pending = e.device.pending } in
             (served (both m.respond) packet d sent true ≡ served (both r) packet d sent true)
-            ⊎ (served (both m.respond) packet d sent true ≡ replies AckReply e.device.state (device.Written asked all) false))) (sym here) case) in
-            (now.0, now.1, subst (λ o. Both now.0 (l + lost m.fate) (b + busy m.fate) (a + ack_lost m.fate) (exchanged (both m.respond) packet e.host e.device o m.fate)) (sym out_due) now.2)
+            ⊎ ((served (both m.respond) packet d sent true ≡ replies AckReply e.device.state (device.Written asked all) false) × IsDue_now))) (sym here) case) in
+            (now.0, now.1, subst (λ o. Both now.0 (l + lost m.fate) (b + busy m.fate) (a + ack_lost m.fate) (exchanged (both m.respond) packet (has_data data_out) e.host e.device o m.fate)) (sym out_due) now.2)
 
       receiving : (o : Outcome) → both m.respond s q ≡ o → After r m l b a e
       receiving (Takes judge) i = judges judge i

@@ -26,7 +26,7 @@ set_address_closed q may = by_type (q.request_type % 128 == 0) refl
     by_request true e standard =
         (let six : (q.request == 6) ≡ false = grind (arith, nat_tests) in
         let here : is_other_descriptor q ≡ true = subst (λ c. is_open_to c q ≡ true) standard may in
-        absurd (let z = sym (left_of (q.request == 6) _ here) ∙ six in cc))
+        absurd (let z = sym (left_of (q.request == 6) _ (left_of ((q.request == 6) && not (brings_bytes q)) _ here)) ∙ six in cc))
 
     by_type : (c : Bool) → (q.request_type % 128 == 0) ≡ c → is_set_address q ≡ false
     by_type false e = rw e refl

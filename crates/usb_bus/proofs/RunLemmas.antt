@@ -179,10 +179,10 @@ module _ (set_of : List ℕ → Option Configuration) (limits : LimitView) (spee
         ((new ≡ Ended (stopped place Memory)) × (brings fate ≡ true)) ⊎ Stepped fate replies p d sent new
     attempt_matches fate replies (Running h) d place t k sent new image asks takes =
         let r = carried table f.device.packet d sent fate in
-        let z = hears h r.reply in
+        let z = hears false h r.reply in
         let asked : due h.transfer ≡ Some sent = ap due image.3.is_transfer ∙ asks in
-        let there : exchanged table f.device.packet h d (due h.transfer) fate ≡ record { host = z; device = r.device } =
-        ap (λ o. exchanged table f.device.packet h d o fate) asked in
+        let there : exchanged table f.device.packet false h d (due h.transfer) fate ≡ record { host = z; device = r.device } =
+        ap (λ o. exchanged table f.device.packet false h d o fate) asked in
         elim (stays replies h r.device place t k r.reply new image takes) [
           | inl (result, wants, e) ↦ inl (e, wanting_heard table f.device.packet t k place sent fate d result asks wants)
           | inr ok ↦

@@ -10,12 +10,14 @@ use Rattle.usb_host.specs.Steps.{Takes, WantsSent, reset, transfer_in, wanted}
 use Rattle.usb_device.specs.declared.state.State.{State}
 use Rattle.usb_device.specs.Requests.{Outcome}
 use Rattle.usb_device.specs.Step.{DeviceStage, DeviceView, Served, acked, replies, served, served_here}
-use Rattle.usb_device.specs.Conformance.{IsAllowed, is_ready, is_refusing}
+use Rattle.usb_device.specs.Conformance.{IsAllowed, is_ready}
+use Rattle.usb_device.specs.declared.open_transfer.OpenTransfer.{OpenTransfer}
 use Rattle.usb_bus.specs.declared.fate.Fate.{Fate}
 use Rattle.usb_bus.specs.declared.fate.Fate.TheVariants.{Pass, Busy, LostAck, LostDown, LostUp}
 use Rattle.usb_bus.specs.Bus.{acknowledged, acknowledges, brought, carried, lost, losses, readiness}
 use Rattle.usb_bus.specs.Enumerate.{IsTransactionAt, Pair, new_pair, RunsAt}
 use Rattle.usb_bus.specs.Run.{fate_at}
+use Rattle.usb_bus.specs.WireLaws.{IsAlike}
 use Rattle.usb_bus.specs.UnderTest.{Compares, IsTested, RunsTested, Tested, bus_fate, fate_by, known_fate, known_fates}
 
 -- no more is lost
@@ -36,12 +38,7 @@ known_at [] m t e = absurd (cc)
 known_at (u ∷ tested) zero t e = ap known_fate (let same : u ≡ t = cc in same)
 known_at (u ∷ tested) (suc m) t e = known_at tested m t e
 
--- two devices in one state and one stage, of which one may wait for an ACK that the other does not
-pub record IsAlike (d e : DeviceView) : Type 0 where
-  pub state : d.state ≡ e.state
-  pub stage : d.stage ≡ e.stage
-
-same_alike : (d e : DeviceView) → d ≡ e → IsAlike d e
+pub same_alike : (d e : DeviceView) → d ≡ e → IsAlike d e
 same_alike d e is = record { state = ap (λ x. x.state) is; stage = ap (λ x. x.stage) is }
 
 module _ (table : State → Setup → Outcome) (packet : ℕ) where
@@ -56,7 +53,7 @@ module _ (table : State → Setup → Outcome) (packet : ℕ) where
   here_alike s stage p q true (OutToken t b) = refl
   here_alike s stage p q false (OutToken t b) = refl
 
-  served_alike : (d e : DeviceView) (sent : Sent) (ready : Bool) → IsAlike d e → served table packet d sent ready ≡ served table packet e sent ready
+  pub served_alike : (d e : DeviceView) (sent : Sent) (ready : Bool) → IsAlike d e → served table packet d sent ready ≡ served table packet e sent ready
   served_alike d e sent ready alike =
       ap (λ x. if sent.address == d.state.address then x else replies NoReply d.state d.stage false) (here_alike d.state d.stage d.pending e.pending ready sent.token)
       ∙ ap (λ s. served table packet (view s d.stage e.pending) sent ready) alike.state
@@ -113,90 +110,92 @@ module _ (table : State → Setup → Outcome) (packet : ℕ) where
     host : next.host ≡ last.host
     device : IsAlike next.device last.device
 
-  abbrev pub AgreesAt : DeviceView → TransferView → Sent → Type 0
-  AgreesAt d transfer sent = (came has : Reply) → IsAllowed transfer.request (is_refusing d.stage) sent.token came has → came ≡ has
+  -- where the outcome of a transfer is open by the state and the stage
+  module _ (free : DeviceView → Setup → Bool) (free_alike : (d e : DeviceView) (q : Setup) → IsAlike d e → free d q ≡ free e q) where
+    abbrev pub AgreesAt : DeviceView → TransferView → Sent → Type 0
+    AgreesAt d transfer sent = (open_transfer : OpenTransfer) (came has : Reply) → IsAllowed (free d transfer.request) transfer.request packet open_transfer sent.token came has → came ≡ has
 
-  module _ (x y last : Pair) (transfer : TransferView) (sent : Sent) (due : wanted y.host.phase ≡ WantsSent sent)
-      (host : x.host ≡ y.host) (alike : IsAlike x.device y.device) (agrees : AgreesAt x.device transfer sent) where
-    follows_as : (fate : Fate) (reply : Reply) → (carried table packet x.device sent fate).reply ≡ reply → Takes y.host reply last.host →
-        IsAlike (carried table packet x.device sent fate).device last.device → Follows fate x last
-    follows_as fate reply same takes device =
-        record {
-          next = record { host = last.host; device = (carried table packet x.device sent fate).device };
-          step = record {
-            sent = sent;
-            due = ap (λ h. wanted h.phase) host ∙ due;
-            host = subst (λ h. Takes h (carried table packet x.device sent fate).reply last.host) (sym host)
-                (subst (λ r. Takes y.host r last.host) (sym same) takes);
-            device = refl;
-          };
-          host = refl;
-          device = device;
-        }
+    module _ (x y last : Pair) (transfer : TransferView) (sent : Sent) (due : wanted y.host.phase ≡ WantsSent sent)
+        (host : x.host ≡ y.host) (alike : IsAlike x.device y.device) (agrees : AgreesAt x.device transfer sent) where
+      follows_as : (fate : Fate) (reply : Reply) → (carried table packet x.device sent fate).reply ≡ reply → Takes y.host reply last.host →
+          IsAlike (carried table packet x.device sent fate).device last.device → Follows fate x last
+      follows_as fate reply same takes device =
+          record {
+            next = record { host = last.host; device = (carried table packet x.device sent fate).device };
+            step = record {
+              sent = sent;
+              due = ap (λ h. wanted h.phase) host ∙ due;
+              host = subst (λ h. Takes h (carried table packet x.device sent fate).reply last.host) (sym host)
+                  (subst (λ r. Takes y.host r last.host) (sym same) takes);
+              device = refl;
+            };
+            host = refl;
+            device = device;
+          }
 
-    hears : (fate : Fate) (came : Reply) (ready : Bool) → readiness fate ≡ Some ready → Compares table packet (record { fate = fate; came = came }) transfer sent y last (Some ready) →
-        Follows (fate_by fate came) x last
-    hears fate came ready can (allowed, takes, device) =
-        let r = served table packet x.device sent (is_ready came) in
-        let same : served table packet y.device sent (is_ready came) ≡ r = sym (served_alike x.device y.device sent (is_ready came) alike) in
-        let came_is : came ≡ r.reply = agrees came r.reply
-        (subst (λ g. IsAllowed transfer.request (is_refusing g) sent.token came r.reply) (sym alike.stage)
-        (subst (λ z. IsAllowed transfer.request (is_refusing y.device.stage) sent.token came z.reply) same allowed)) in
-        let c = carries_known fate came x.device sent ready can came_is in
-        let ends : acked_by fate came r ≡ last.device = ap (λ z. acked_by fate came z) (sym same) ∙ sym device in
-        follows_as (fate_by fate came) (brought fate came) c.0 takes (subst (λ d. IsAlike (carried table packet x.device sent (fate_by fate came)).device d) ends c.1)
+      hears : (fate : Fate) (came : Reply) (ready : Bool) → readiness fate ≡ Some ready → Compares table packet free (record { fate = fate; came = came }) transfer sent y last (Some ready) →
+          Follows (fate_by fate came) x last
+      hears fate came ready can ((open_transfer, allowed), takes, device) =
+          let r = served table packet x.device sent (is_ready came) in
+          let same : served table packet y.device sent (is_ready came) ≡ r = sym (served_alike x.device y.device sent (is_ready came) alike) in
+          let came_is : came ≡ r.reply = agrees open_transfer came r.reply
+          (subst (λ b. IsAllowed b transfer.request packet open_transfer sent.token came r.reply) (sym (free_alike x.device y.device transfer.request alike))
+          (subst (λ z. IsAllowed (free y.device transfer.request) transfer.request packet open_transfer sent.token came z.reply) same allowed)) in
+          let c = carries_known fate came x.device sent ready can came_is in
+          let ends : acked_by fate came r ≡ last.device = ap (λ z. acked_by fate came z) (sym same) ∙ sym device in
+          follows_as (fate_by fate came) (brought fate came) c.0 takes (subst (λ d. IsAlike (carried table packet x.device sent (fate_by fate came)).device d) ends c.1)
 
-    one_step : (fate : Fate) (came : Reply) → Compares table packet (record { fate = fate; came = came }) transfer sent y last (readiness fate) → Follows (fate_by fate came) x last
-    one_step LostDown came (takes, device) = follows_as LostDown NoReply refl takes (subst (λ d. IsAlike x.device d) (sym device) alike)
-    one_step LostUp came compares = hears LostUp came true refl compares
-    one_step LostAck came compares = hears LostAck came true refl compares
-    one_step Pass came compares = hears Pass came true refl compares
-    one_step Busy came compares = hears Busy came false refl compares
+      one_step : (fate : Fate) (came : Reply) → Compares table packet free (record { fate = fate; came = came }) transfer sent y last (readiness fate) → Follows (fate_by fate came) x last
+      one_step LostDown came (takes, device) = follows_as LostDown NoReply refl takes (subst (λ d. IsAlike x.device d) (sym device) alike)
+      one_step LostUp came compares = hears LostUp came true refl compares
+      one_step LostAck came compares = hears LostAck came true refl compares
+      one_step Pass came compares = hears Pass came true refl compares
+      one_step Busy came compares = hears Busy came false refl compares
 
-  -- ---- runs
+    -- ---- runs
 
-  module _ (tested : List Tested) (limits : LimitView) (speed : Speed) where
-    -- in a run of the device of the descriptors, what is allowed is what it answers
-    abbrev pub Agrees : Type 0
-    Agrees =
-        (earlier : List Pair) (n : ℕ) (x : Pair) → RunsAt table packet (known_fates tested) (new_pair limits speed) earlier n x →
-        (t : TransferView) → transfer_in x.host.phase ≡ Some t → (sent : Sent) → wanted x.host.phase ≡ WantsSent sent → AgreesAt x.device t sent
+    module _ (tested : List Tested) (limits : LimitView) (speed : Speed) where
+      -- in a run of the device of the descriptors, what is allowed is what it answers
+      abbrev pub Agrees : Type 0
+      Agrees =
+          (earlier : List Pair) (n : ℕ) (x : Pair) → RunsAt table packet (known_fates tested) (new_pair limits speed) earlier n x →
+          (t : TransferView) → transfer_in x.host.phase ≡ Some t → (sent : Sent) → wanted x.host.phase ≡ WantsSent sent → AgreesAt x.device t sent
 
-    pub record IsKnown (n : ℕ) (last : Pair) : Type 0 where
-      pub earlier : List Pair
-      pub known : Pair
-      pub runs : RunsAt table packet (known_fates tested) (new_pair limits speed) earlier n known
-      pub host : known.host ≡ last.host
-      pub alike : IsAlike known.device last.device
+      pub record IsKnown (n : ℕ) (last : Pair) : Type 0 where
+        pub earlier : List Pair
+        pub known : Pair
+        pub runs : RunsAt table packet (known_fates tested) (new_pair limits speed) earlier n known
+        pub host : known.host ≡ last.host
+        pub alike : IsAlike known.device last.device
 
-    more_known : (m : ℕ) (x last : Pair) (t : Tested) → Agrees → slice_get tested m ≡ Some t → IsTested table packet t x last → IsKnown m x → IsKnown (suc m) last
-    more_known m x last t agrees at step k =
-        let y = k.known in
-        let next = one_step y x last step.transfer step.sent step.due k.host k.alike
-        (agrees k.earlier m y k.runs step.transfer (ap (λ h. transfer_in h.phase) k.host ∙ step.in_work) step.sent (ap (λ h. wanted h.phase) k.host ∙ step.due))
-        t.fate t.came step.compares in
-        record {
-          earlier = y ∷ k.earlier;
-          known = next.next;
-          runs = inr (m, refl, subst (λ fate. IsTransactionAt table packet fate y next.next) (sym (known_at tested m t at)) next.step, k.runs);
-          host = next.host;
-          alike = next.device;
-        }
+      more_known : (m : ℕ) (x last : Pair) (t : Tested) → Agrees → slice_get tested m ≡ Some t → IsTested table packet free t x last → IsKnown m x → IsKnown (suc m) last
+      more_known m x last t agrees at step k =
+          let y = k.known in
+          let next = one_step y x last step.transfer step.sent step.due k.host k.alike
+          (agrees k.earlier m y k.runs step.transfer (ap (λ h. transfer_in h.phase) k.host ∙ step.in_work) step.sent (ap (λ h. wanted h.phase) k.host ∙ step.due))
+          t.fate t.came step.compares in
+          record {
+            earlier = y ∷ k.earlier;
+            known = next.next;
+            runs = inr (m, refl, subst (λ fate. IsTransactionAt table packet fate y next.next) (sym (known_at tested m t at)) next.step, k.runs);
+            host = next.host;
+            alike = next.device;
+          }
 
-    pub runs_known : (earlier : List Pair) (n : ℕ) (last : Pair) → Agrees → RunsTested table packet tested (new_pair limits speed) earlier n last → IsKnown n last
-    runs_known [] n last agrees (e, none) =
-        record { earlier = []; known = last; runs = (e, none); host = refl; alike = record { state = refl; stage = refl } }
-    runs_known (x ∷ earlier) n last agrees (inl (r, more)) =
-        let k = runs_known earlier n x agrees more in
-        record {
-          earlier = k.known ∷ k.earlier;
-          known = last;
-          runs = inl (record { due = ap (λ h. wanted h.phase) k.host ∙ r.due; host = r.host ∙ ap reset (sym k.host); device = r.device }, k.runs);
-          host = refl;
-          alike = record { state = refl; stage = refl };
-        }
-    runs_known (x ∷ earlier) n last agrees (inr (m, count, (t, at, step), more)) =
-        subst (λ z. IsKnown z last) (sym count) (more_known m x last t agrees at step (runs_known earlier m x agrees more))
+      pub runs_known : (earlier : List Pair) (n : ℕ) (last : Pair) → Agrees → RunsTested table packet free tested (new_pair limits speed) earlier n last → IsKnown n last
+      runs_known [] n last agrees (e, none) =
+          record { earlier = []; known = last; runs = (e, none); host = refl; alike = record { state = refl; stage = refl } }
+      runs_known (x ∷ earlier) n last agrees (inl (r, more)) =
+          let k = runs_known earlier n x agrees more in
+          record {
+            earlier = k.known ∷ k.earlier;
+            known = last;
+            runs = inl (record { due = ap (λ h. wanted h.phase) k.host ∙ r.due; host = r.host ∙ ap reset (sym k.host); device = r.device }, k.runs);
+            host = refl;
+            alike = record { state = refl; stage = refl };
+          }
+      runs_known (x ∷ earlier) n last agrees (inr (m, count, (t, at, step), more)) =
+          subst (λ z. IsKnown z last) (sym count) (more_known m x last t agrees at step (runs_known earlier m x agrees more))
 
 -- no more is lost in the run of the device of the descriptors than the bus loses
 pub fewer_losses : (tested : List Tested) → losses (known_fates tested) ≤ losses (map bus_fate tested)

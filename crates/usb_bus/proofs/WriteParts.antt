@@ -10,6 +10,8 @@ use Rattle.usb_device.specs.declared.state.State.{State}
 use Rattle.usb_device.specs.Requests.{Outcome, Takes}
 use Rattle.usb_device.specs.Step.{awaited}
 use Rattle.usb_bus.specs.declared.fate.Fate.{Fate}
+use Rattle.usb_bus.specs.Bus.{has_data}
+use Rattle.usb_bus.proofs.TakenLemmas.{some_data}
 use Rattle.usb_bus.specs.Attempt.{IsAccepted, IsDeclined}
 use Rattle.usb_bus.proofs.WriteLemmas.{awaited_whole, first_bytes, packet, packet_size}
 use Rattle.usb_bus.proofs.WriteSteps.{After, Writes, writes, inner, accepted, declined, wrong, behind}
@@ -33,6 +35,13 @@ module _ (answer : State → SetupPacket → Outcome) (s : State) (q : SetupPack
     all_long : length (came ++ p) ≡ k * size + length p
     all_long = length-append came p ∙ ap (λ n. n + length p) whole
 
+    -- there are data in a packet that is due
+    sends : (length p == min size (q.length - length came)) ≡ true → has_data data_out ≡ true
+    sends right =
+        let n : length p ≡ min size (q.length - length came) = grind (arith, nat_tests) in
+        let long = packet_size size k data_out came came_is whole in
+        some_data data_out (omega (arith, n, long, whole, more, pos))
+
     -- the last packet: all data have come
     at_end : (length p == min size (q.length - length came)) ≡ true → k * size + min size (q.length - k * size) ≡ q.length →
         (good : Bool) → judge (take q.length data_out) ≡ good → G l b a fate k came (k * size) got strikes nak_count pending
@@ -52,10 +61,10 @@ module _ (answer : State → SetupPacket → Outcome) (s : State) (q : SetupPack
             (length p == min size (q.length - length came)) ≡ true → G l b a fate k came (k * size) got strikes nak_count pending
         by_judge true judged says count on enough right =
             let is : IsAccepted (answer s q) q data_out = record { judge = judge; answered = e; enough = enough; accepts = judged } in
-            accepted answer s q size naks data_out l b a fate judge k came (k * size) got strikes nak_count pending p e r o refl same_toggle right count on says now is
+            accepted answer s q size naks data_out l b a fate judge k came (k * size) got strikes nak_count pending p (sends right) e r o refl same_toggle right count on says now is
         by_judge false judged says count on enough right =
             let is : IsDeclined (answer s q) q data_out = record { judge = judge; answered = e; declines = inr judged } in
-            declined answer s q size naks data_out l b a fate judge k came (k * size) got strikes nak_count pending p e r o refl same_toggle right count on says now is
+            declined answer s q size naks data_out l b a fate judge k came (k * size) got strikes nak_count pending p (sends right) e r o refl same_toggle right count on says now is
 
     -- a whole packet, after which more are to come
     goes_on : (length p == min size (q.length - length came)) ≡ true → (k * size + min size (q.length - k * size) == q.length) ≡ false →
@@ -70,7 +79,7 @@ module _ (answer : State → SetupPacket → Outcome) (s : State) (q : SetupPack
         let is : came ++ p ≡ take (suc k * size) data_out = first_bytes size k data_out came came_is whole ∙ ap (λ n. take n data_out) sum in
         let size_is : length (came ++ p) ≡ suc k * size = all_long ∙ sum in
         let count : (length (came ++ p) == q.length) ≡ false = grind (arith, nat_tests) in
-        inner answer s q size naks data_out l b a fate judge k came (k * size) got strikes nak_count pending p e r o refl same_toggle right count on now
+        inner answer s q size naks data_out l b a fate judge k came (k * size) got strikes nak_count pending p (sends right) e r o refl same_toggle right count on now
         (writes answer s q size naks data_out judge (suc k) (suc k) (came ++ p) (k * size + min size (q.length - k * size)) e step is size_is further)
         (writes answer s q size naks data_out judge k (suc k) (came ++ p) (k * size) e refl is size_is further)
 
@@ -101,11 +110,14 @@ module _ (answer : State → SetupPacket → Outcome) (s : State) (q : SetupPack
     pub ahead : G l b a fate k came (k * size) got strikes nak_count pending
     ahead =
         let step : suc k * size ≡ k * size + size = suc-mul k size in
+        let taken : length (take (suc k * size) data_out) ≡ suc k * size = ap length (sym came_is) ∙ whole in
+        let long = length-take (suc k * size) data_out in
+        let sends = some_data data_out (omega (arith, taken, long, step, pos)) in
         let full : min size (q.length - k * size) ≡ size = omega arith in
         let sum : k * size + min size (q.length - k * size) ≡ suc k * size = ap (λ x. k * size + x) full ∙ sym step in
         let on : (k * size + min size (q.length - k * size) == q.length) ≡ false = grind (arith, nat_tests) in
         let other : is_same_toggle (toggle_of k) (awaited size (length came)) ≡ false = rw (awaited_whole size (suc k) (length came) pos whole) (same-flipped (toggle_of k)) in
-        behind answer s q size naks data_out l b a fate judge k came (k * size) got strikes nak_count pending (take size (drop (k * size) data_out)) e r o refl other on some
+        behind answer s q size naks data_out l b a fate judge k came (k * size) got strikes nak_count pending (take size (drop (k * size) data_out)) sends e r o refl other on some
         (writes answer s q size naks data_out judge k (suc k) came (k * size) e refl came_is whole more)
         (writes answer s q size naks data_out judge (suc k) (suc k) came (k * size + min size (q.length - k * size)) e sum came_is whole more)
 

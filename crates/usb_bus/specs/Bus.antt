@@ -4,7 +4,11 @@ use Rattle.usb_bus.specs.declared.fate.Fate.{Fate}
 use Rattle.usb_bus.specs.declared.fate.Fate.TheVariants.{Pass, Busy, LostAck, LostDown, LostUp}
 use Rattle.usb_fields.specs.declared.setup.Setup.{Setup}
 use Rattle.usb_fields.specs.Packets.{Sent, Reply, DataReply, NoReply}
-use Rattle.usb_host.specs.Transfer.{TransferView, Hearing, Brings, Taken, taken, due_of}
+use Rattle.usb_fields.specs.Packets.{AckReply}
+use Rattle.usb_host.specs.declared.transfer.TransferStage.{TransferStage}
+use Rattle.usb_host.specs.declared.transfer.TransferStage.TheVariants.{DataOut}
+use Rattle.usb_host.specs.Transfer.{TransferView, Hearing, Brings, Taken, taken_at, due_of}
+use Rattle.usb_host.specs.Write.{written_at}
 use Rattle.usb_device.specs.declared.state.State.{State}
 use Rattle.usb_device.specs.Requests.{Outcome}
 use Rattle.usb_device.specs.Step.{DeviceView, Served, served, acked}
@@ -85,9 +89,20 @@ with_heard got heard = got
 abbrev pub host_after : List ℕ → Taken → HostEnd
 host_after got t = record { transfer = t.transfer; got = with_heard got t.heard }
 
+-- whether there are data
+abbrev pub has_data : List ℕ → Bool
+has_data [] = false
+has_data (byte ∷ bytes) = true
+
+-- What a reply does at each stage. A request that sends data to the device is a `Write`, and any other one a `Transfer`: what they
+-- make of the ACK of a data packet is all that differs.
+abbrev pub taken_by : Bool → TransferView → TransferStage → Reply → Taken
+taken_by sends t DataOut AckReply = if sends then written_at t DataOut AckReply else taken_at t DataOut AckReply
+taken_by sends t stage reply = taken_at t stage reply
+
 -- the host hears a reply
-abbrev pub hears : HostEnd → Reply → HostEnd
-hears h reply = host_after h.got (taken h.transfer reply)
+abbrev pub hears : Bool → HostEnd → Reply → HostEnd
+hears sends h reply = host_after h.got (taken_by sends h.transfer h.transfer.stage reply)
 
 -- for any answers to requests, and any packet size of the device
 module _ (answer : State → Setup → Outcome) (packet : ℕ) where
@@ -106,14 +121,14 @@ module _ (answer : State → Setup → Outcome) (packet : ℕ) where
   carried d sent fate = carried_to d sent fate (readiness fate)
 
   -- a transaction, if one is due
-  abbrev pub exchanged : HostEnd → DeviceView → Option Sent → Fate → Ends
-  exchanged h d None fate = record { host = h; device = d }
-  exchanged h d (Some sent) fate =
-      let r = carried d sent fate in record { host = hears h r.reply; device = r.device }
+  abbrev pub exchanged : Bool → HostEnd → DeviceView → Option Sent → Fate → Ends
+  exchanged sends h d None fate = record { host = h; device = d }
+  exchanged sends h d (Some sent) fate =
+      let r = carried d sent fate in record { host = hears sends h r.reply; device = r.device }
 
   -- the transaction that the transfer is due, where these are the data to the device
   abbrev pub step_of : List ℕ → Fate → Ends → Ends
-  step_of bytes fate e = exchanged e.host e.device (due_of e.host.transfer bytes) fate
+  step_of bytes fate e = exchanged (has_data bytes) e.host e.device (due_of e.host.transfer bytes) fate
 
   -- transactions under these fates
   abbrev pub run_of : List ℕ → List Fate → Ends → Ends

@@ -12,4 +12,10 @@ pub mod Lines
 pub mod Exchanges
 pub mod Log
 pub mod UnderTest
+pub mod Wire
+pub mod WireRuns
+pub mod WireLaws
+pub mod Damaged
+pub mod DamagedRuns
+pub mod DamagedLaws
 pub mod inside

@@ -16,7 +16,7 @@ use Rattle.usb_device.specs.Step.{DeviceView, DeviceStage, is_set_address}
 use Rattle.usb_device.specs.Step as device
 use Rattle.usb_device.specs.Beside.{brings_bytes}
 use Rattle.usb_bus.specs.declared.fate.Fate.{Fate}
-use Rattle.usb_bus.specs.Bus.{losses, busies, acks_lost, HostEnd, carried}
+use Rattle.usb_bus.specs.Bus.{losses, busies, acks_lost, has_data, HostEnd, carried}
 use Rattle.usb_bus.specs.Attempt.{Attempt, Running, attempt_run, IsAccepted, IsDeclined, TransferEnds}
 use Rattle.usb_bus.specs.Run.{due_in}
 
@@ -105,7 +105,7 @@ module _ (answer : State → SetupPacket → Outcome) (cut : ℕ) (s : State) (q
   -- the host is one handshake behind: the ACK of the last packet was lost
   Stages l b a DataOut (device.StatusIn asked carried_out) awaited got count strikes d = HasAccepted l asked strikes d × IsLastPacket count
   -- all data have come, and an owner who would have judged them says nothing any more
-  Stages l b a DataOut (device.Written asked came) awaited got count strikes d = IsRefused l strikes d
+  Stages l b a DataOut (device.Written asked came) awaited got count strikes d = IsRefused l strikes d × (has_data data_out ≡ true)
   Stages l b a DataOut _ awaited got count strikes d = ⊥
   -- the device is one handshake behind: it counts all packets but the last one as acknowledged
   Stages l b a StatusOut (device.Sending asked bytes acknowledged) awaited got count strikes d =

@@ -9,8 +9,9 @@ use Rattle.usb_host.specs.Transfer.{TransferView}
 use Rattle.usb_host.specs.Steps.{Takes, WantsSent, outcome_of, transfer_in, wanted}
 use Rattle.usb_device.specs.declared.state.State.{State}
 use Rattle.usb_device.specs.Requests.{Outcome, answer}
-use Rattle.usb_device.specs.Step.{served, acked}
-use Rattle.usb_device.specs.Conformance.{IsAllowed, is_ready, is_refusing}
+use Rattle.usb_device.specs.Step.{DeviceView, served, acked}
+use Rattle.usb_device.specs.Conformance.{IsAllowed, is_free, is_ready}
+use Rattle.usb_device.specs.declared.open_transfer.OpenTransfer.{OpenTransfer}
 use Rattle.usb_bus.specs.declared.fate.Fate.{Fate}
 use Rattle.usb_bus.specs.declared.fate.Fate.TheVariants.{Pass, Busy, LostAck, LostDown, LostUp}
 use Rattle.usb_bus.specs.declared.enumeration.Run.{Run}
@@ -42,16 +43,16 @@ known_fate t = fate_by t.fate t.came
 abbrev pub bus_fate : Tested → Fate
 bus_fate t = t.fate
 
--- For any answers to requests, and any packet size, of the device of known descriptors. The pairs are the host, which speaks with
--- the device under test, and that device.
-module _ (table : State → Setup → Outcome) (packet : ℕ) where
-  -- Neither device hears what is sent, or both do. Then the answer that came is allowed beside the known one, and the host has
-  -- what the bus brings of it, and both devices the ACK of it, if there is one.
+-- For any answers to requests, and any packet size, of the device of known descriptors, and any transfers whose outcome is open.
+-- The pairs are the host, which speaks with the device under test, and that device.
+module _ (table : State → Setup → Outcome) (packet : ℕ) (free : DeviceView → Setup → Bool) where
+  -- Neither device hears what is sent, or both do. Then the answer that came is allowed beside the known one, whatever the one who
+  -- judges holds of an open transfer. The host has what the bus brings of it, and both devices the ACK of it, if there is one.
   abbrev pub Compares : Tested → TransferView → Sent → Pair → Pair → Option Bool → Type 0
   Compares t transfer sent x y None = Takes x.host NoReply y.host × (y.device ≡ x.device)
   Compares t transfer sent x y (Some ready) =
       let r = served table packet x.device sent (is_ready t.came) in
-      IsAllowed transfer.request (is_refusing x.device.stage) sent.token t.came r.reply
+      ((open_transfer : OpenTransfer) × IsAllowed (free x.device transfer.request) transfer.request packet open_transfer sent.token t.came r.reply)
       × Takes x.host (brought t.fate t.came) y.host
       × (y.device ≡ (if acknowledges t.fate t.came then acked table packet r.device else r.device))
 
@@ -74,7 +75,7 @@ module _ (table : State → Setup → Outcome) (packet : ℕ) where
 -- An enumeration of a device under test, beside one with these descriptors, comes to this.
 abbrev pub IsTest : DescriptorFile → Speed → LimitView → List Tested → Run → Type 0
 IsTest f speed limits tested run =
-    (earlier : List Pair) × (last : Pair) × RunsTested (answer f) f.device.packet tested (new_pair limits speed) earlier run.transactions last
+    (earlier : List Pair) × (last : Pair) × RunsTested (answer f) f.device.packet (is_free f) tested (new_pair limits speed) earlier run.transactions last
     × (last.host.resets ≡ run.attempts) × (outcome_of last.host.phase ≡ Some run.outcome) × (last.device.state ≡ run.state)
 
 -- the fates under which a device of known descriptors answers so

@@ -7,3 +7,4 @@ pub mod Image
 pub mod Following
 pub mod Described
 pub mod Seeing
+pub mod Addresses

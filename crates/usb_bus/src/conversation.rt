@@ -9,12 +9,13 @@ ghost use Rattle.usb_bus.specs.inside.Running.{settled};
 use crate::asked::Asked;
 use crate::exchange::{Ended, transfer_over};
 use crate::fate::Fate;
+use crate::sender::Sender;
 use std::alloc::Global;
 use std::marker::Model;
 use usb_device::{Description, Device, State, is_set_address};
 use usb_fields::{Sequence, Setup};
 use usb_file_data::NoMemory;
-use usb_host::{Reply, Transfer, Why};
+use usb_host::{Reply, Why};
 
 /// What came of a talk.
 #[derive(Clone, Debug, Drop, PartialEq, Eq, Hash)]
@@ -160,8 +161,8 @@ impl<'d> Conversation<'d> {
         let before = self.talk.transactions;
         let request = asked.setup;
         let sent = asked.data_sent();
-        let mut transfer = Transfer::new(self.address, self.packet, self.naks, request);
-        let ended = transfer_over(alloc, &mut self.device, &mut transfer, sent, before, fates)?;
+        let mut sender = Sender::new(self.address, self.packet, self.naks, request, sent);
+        let ended = transfer_over(alloc, &mut self.device, &mut sender, sent, before, fates)?;
         let transactions = ended.transactions;
         match settle(request, sent, ended) {
             Ok(reply) => {

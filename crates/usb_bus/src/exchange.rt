@@ -1,20 +1,21 @@
 //! One transaction, and one transfer, between two ends.
 ghost use Rattle.std.specs.Prelude.{◌≡◌, ◌≤◌, ◌+◌, ◌<◌, ◌^◌, [], OnOk, IfOk, None};
 ghost use Rattle.usb_fields.specs.Packets.{sent_of};
-ghost use Rattle.usb_host.specs.Transfer.{due, due_of, left, sent_by};
+ghost use Rattle.usb_host.specs.Transfer.{due, left};
 ghost use Rattle.usb_host.specs.declared.transfer.TransferStage.TheVariants.{Setup};
 ghost use Rattle.usb_device.specs.Requests.{answer};
 ghost use Rattle.usb_bus.specs.Attempt.{AreDataOf};
-ghost use Rattle.usb_bus.specs.Bus.{carried};
+ghost use Rattle.usb_bus.specs.Bus.{carried, has_data};
 ghost use Rattle.usb_bus.specs.Enumerate.{answered};
-ghost use Rattle.usb_bus.specs.inside.Running.{failure_of, LeadsTo};
+ghost use Rattle.usb_bus.specs.inside.Running.{failure_of, is_write, transfer_of, LeadsTo};
 
 use crate::fate::Fate;
+use crate::sender::Sender;
 use crate::steps::Observer;
 use std::alloc::{AllocError, Global};
 use usb_device::Device;
 use usb_fields::{Answer, Transaction};
-use usb_host::{Heard, Host, Transfer, Why};
+use usb_host::{Host, Why};
 
 /// A host's end, which hears what a bus leaves of an answer, and changes a `W` by it.
 pub(crate) trait Hears<W> {
@@ -28,34 +29,6 @@ pub(crate) trait Hears<W> {
 
     fn hear(&mut self, came: Answer<'_>, answer: Answer<'_>, w: &mut W) -> Self::Outcome
         ensures { hears (reply_of came.entry) (reply_of answer.entry) self.old w.old self.new w.new result };
-}
-
-/// The bytes that are new are kept. Comes to why the transfer has failed, if it has.
-impl Hears<Vec<u8>> for Transfer {
-    ghost use Rattle.std.specs.Prelude.{◌≡◌, ◌<◌, IfOk, IsSome, OnOk};
-    ghost use Rattle.usb_host.specs.Transfer.{due, left};
-    ghost use Rattle.usb_bus.specs.Bus.{hears};
-    ghost use Rattle.usb_bus.specs.inside.Running.{failure_of};
-
-    type Outcome = Result<Option<Why>, AllocError>;
-
-    ghost hears = { λ came _ old got new bytes result. OnOk result (record { transfer = new; got = bytes.items } ≡ hears (record { transfer = old; got = got.items }) came) × IfOk result (λ failure. failure ≡ failure_of new.stage) × (new.request ≡ old.request) × (IsSome (due old) → left new < left old) };
-
-    fn hear(
-        &mut self,
-        came: Answer<'_>,
-        _answer: Answer<'_>,
-        bytes: &mut Vec<u8>,
-    ) -> Result<Option<Why>, AllocError> {
-        match self.take(came) {
-            Heard::Again | Heard::Complete => Ok(None),
-            Heard::Bytes(more) => {
-                bytes.extend_from_slice(more)?;
-                Ok(None)
-            }
-            Heard::Failed(why) => Ok(Some(why)),
-        }
-    }
 }
 
 /// The observer sees all of the answer, and the host then.
@@ -109,43 +82,32 @@ pub(crate) struct Ended {
     pub(crate) transactions: u128,
 }
 
-/// The transaction that is due in a transfer with these data: none, or the wLength bytes that it brings to the device.
-fn due_with<'a>(transfer: &Transfer, sent: &'a [u8]) -> Option<Transaction<'a>>
-    requires { AreDataOf transfer.now.request sent.now }
-    ensures { sent_by result ≡ due_of transfer.now sent.now }
-{
-    if sent.is_empty() {
-        transfer.next()
-    } else {
-        transfer.next_of(sent)
-    }
-}
-
 /// One transfer with these data to its end, after so many transactions.
 pub(crate) fn transfer_over(
     alloc: Global,
     device: &mut Device<'_>,
-    transfer: &mut Transfer,
+    sender: &mut Sender,
     sent: &[u8],
     before: u128,
     fates: &[Fate],
 ) -> Result<Ended, AllocError>
-    requires setup { transfer.old.stage ≡ Setup }
-    requires data { AreDataOf transfer.old.request sent.now }
-    requires few { before + left transfer.old < 2 ^ 128 }
-    ensures leads { IfOk result (λ ended. LeadsTo (answer device.old.description.file) device.old.description.file.device.packet sent.now fates.now before (record { transfer = transfer.old; got = [] }) device.old.device ended.transactions (record { transfer = transfer.new; got = ended.bytes.items }) device.new.device) }
+    requires setup { (transfer_of sender.old).stage ≡ Setup }
+    requires kind { is_write sender.old ≡ has_data sent.now }
+    requires data { AreDataOf (transfer_of sender.old).request sent.now }
+    requires few { before + left (transfer_of sender.old) < 2 ^ 128 }
+    ensures leads { IfOk result (λ ended. LeadsTo (answer device.old.description.file) device.old.description.file.device.packet sent.now fates.now before (record { transfer = transfer_of sender.old; got = [] }) device.old.device ended.transactions (record { transfer = transfer_of sender.new; got = ended.bytes.items }) device.new.device) }
     ensures description { device.new.description ≡ device.old.description }
-    ensures request { OnOk result (transfer.new.request ≡ transfer.old.request) }
-    ensures over { OnOk result (due transfer.new ≡ None) }
-    ensures failure { IfOk result (λ ended. ended.failure ≡ failure_of transfer.new.stage) }
-    ensures most { IfOk result (λ ended. ended.transactions ≤ before + left transfer.old) }
+    ensures request { OnOk result ((transfer_of sender.new).request ≡ (transfer_of sender.old).request) }
+    ensures over { OnOk result (due (transfer_of sender.new) ≡ None) }
+    ensures failure { IfOk result (λ ended. ended.failure ≡ failure_of (transfer_of sender.new).stage) }
+    ensures most { IfOk result (λ ended. ended.transactions ≤ before + left (transfer_of sender.old)) }
 {
     let mut bytes = Vec::new(alloc);
     let mut failure = None;
     let mut transactions = before;
-    while let Some(t) = due_with(transfer, sent) {
+    while let Some(t) = sender.next(sent) {
         let fate = Fate::at(fates, transactions);
-        failure = exchange(transfer, device, &t, fate, &mut bytes)?;
+        failure = exchange(sender, device, &t, fate, &mut bytes)?;
         transactions += 1;
     }
     Ok(Ended {

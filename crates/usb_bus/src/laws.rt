@@ -122,8 +122,8 @@ pub fn a_responder_is_such_an_owner()
 
 /// An enumeration of a device under test, each of whose answers is allowed beside a device with these descriptors (see
 /// [`judge`](usb_device::judge)), is an enumeration of that device: a success has read just these descriptors. It never asks
-/// for the status of a device, nor for what the device refuses and an owner may answer, so what is allowed there changes
-/// nothing of it.
+/// for the status of a device, nor for what the device refuses and an owner may answer, nor for what a device may either do or
+/// refuse, so what is allowed there changes nothing of it.
 pub fn a_device_under_test_is_known()
     ensures { TestsEndAsKnown }
 {

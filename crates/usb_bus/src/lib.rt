@@ -23,8 +23,13 @@
 //! - So does an enumeration of a device under test, each of whose answers is allowed beside a device of known
 //!   descriptors.
 //!
+//! [`wire`] says the same of a bus of bytes, which loses packets and changes few bits of others: whoever receives such a
+//! packet ignores it, so that it is a lost one. [`enumerate_on_the_wire`] is an enumeration over a bus on which given bits
+//! change.
+//!
 //! One transaction is `specs/Bus.antt`, a talk `specs/Converse.antt`, a run of both ends `specs/Enumerate.antt`, one
-//! with a device under test `specs/UnderTest.antt`, and a log `specs/Log.antt` with its lines in `specs/Lines.antt`.
+//! with a device under test `specs/UnderTest.antt`, all of them over bytes `specs/Wire.antt`, where given bits change
+//! `specs/Damaged.antt`, and a log `specs/Log.antt` with its lines in `specs/Lines.antt`.
 #![tactic(auto)]
 
 mod asked;
@@ -38,9 +43,11 @@ pub mod laws;
 mod lemmas;
 mod log;
 mod packets;
+mod sender;
 mod step_lines;
 mod steps;
 mod tally;
+pub mod wire;
 
 pub use asked::Asked;
 pub use conversation::{Conversation, Talk, converse, converse_asked};
@@ -50,3 +57,4 @@ pub use log::{enumerate_encoded_logged, enumerate_logged};
 pub use steps::Observer;
 pub use usb_file_data::NoMemory;
 pub use usb_host::Reply;
+pub use wire::{BitChange, enumerate_encoded_on_the_wire, enumerate_on_the_wire};

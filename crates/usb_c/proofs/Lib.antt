@@ -13,7 +13,6 @@ mod Placed
 mod Reasons
 pub mod Named
 mod Taking
-mod TransferValues
 mod TreeWalks
 pub mod Walking
 mod InputStrings

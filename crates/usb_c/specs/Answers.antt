@@ -47,6 +47,7 @@ broken_answer (inputs.Trailing at) length = numbers 6 0 at length
 -- the numbers that C sees
 abbrev pub answer_of : Verdict → Answer
 answer_of (verdicts.Done length) = numbers 0 0 0 length
+answer_of (verdicts.Due place length) = numbers 0 0 place length
 answer_of (verdicts.Judged number) = numbers 0 number 0 0
 answer_of (verdicts.Open length) = numbers 1 0 0 length
 answer_of (verdicts.Broken fault length) = broken_answer fault length

@@ -1,4 +1,5 @@
 pub mod Answers
+pub mod BusPackets
 pub mod Conformance
 pub mod Decoders
 pub mod DescriptorFields
@@ -11,6 +12,7 @@ pub mod Remarks
 pub mod Strings
 pub mod Texts
 pub mod Transfers
+pub mod Writes
 pub mod WalkedEndpoints
 pub mod WalkedTrees
 pub mod inside

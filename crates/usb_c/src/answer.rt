@@ -19,7 +19,7 @@ pub struct Answer {
     pub status: u32,
     /// The number of the fault.
     pub number: u32,
-    /// The place of the fault, in bytes; of a listing its line.
+    /// The place of the fault, in bytes; of a listing its line; of a write's packet its place in the data.
     pub place: usize,
     /// How many bytes were taken or written, or are wanted.
     pub length: usize,
@@ -30,6 +30,8 @@ pub struct Answer {
 pub enum Verdict {
     /// All went well, and this many bytes were taken or written.
     Done(usize),
+    /// A transaction of a write is due: a data packet has so many of the data from this place on.
+    Due(usize, usize),
     /// The bytes are an input: 1 a set, 2 a descriptor file, 3 a dump.
     Judged(u8),
     /// The bytes so far, this many of them new, are a prefix of a set; or a host has not ended.
@@ -47,7 +49,8 @@ pub enum Verdict {
     /// The handle holds nothing.
     Closed,
     /// A number has no meaning: 1 the address, 2 the attempts, 3 the speed, 4 a fate, 5 a rule, 6 no string, 7 a packet size,
-    /// 8 a reply.
+    /// 8 a reply, 9 a request without data to the device, 10 data that are not wLength bytes, 11 numbers that are none of a
+    /// transfer, 12 no packet.
     BadArgument(u8),
     /// The enumeration ended without success.
     Trouble(Trouble),
@@ -90,6 +93,7 @@ impl Verdict {
     {
         match self {
             Verdict::Done(length) => numbers(0, 0, 0, length),
+            Verdict::Due(place, length) => numbers(0, 0, place, length),
             Verdict::Judged(number) => numbers(0, number, 0, 0),
             Verdict::Open(length) => numbers(1, 0, 0, length),
             Verdict::Broken(fault, length) => broken(fault, length),

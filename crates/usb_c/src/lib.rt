@@ -6,7 +6,10 @@
 //! strings are `specs/Facts.antt`; what is remarked of them is `specs/Remarks.antt`.
 //!
 //! `nzg_next` goes from a descriptor to the next one, and `nzg_field` gives its fields, as numbers in the caller's structs and without
-//! memory: `specs/Descriptors.antt`, `specs/DescriptorFields.antt`. [`laws`] says which descriptors those are.
+//! memory: `specs/Descriptors.antt`, `specs/DescriptorFields.antt`. [`laws`] says which descriptors those are. So are a transfer and a
+//! write: `specs/Transfers.antt`, `specs/Writes.antt`.
+//!
+//! `nzg_packet_parse` and `nzg_packet_write` are packets of the bus from PID to CRC: `specs/BusPackets.antt`.
 //!
 //! Each call comes to a `Verdict`, which is given as the numbers of an [`Answer`]. [`NzgTransaction`], [`NzgPacket`],
 //! [`NzgOutcome`], [`NzgTrouble`], [`NzgFinding`] and [`NzgRemark`] are transactions, outcomes, findings and remarks as
@@ -30,6 +33,7 @@ mod judging;
 pub mod laws;
 mod loose;
 mod outcome;
+mod packet;
 mod remark;
 mod step;
 mod string_place;
@@ -37,13 +41,14 @@ mod string_text;
 mod taken;
 mod text;
 mod transfer;
-mod transfer_handle;
+mod transfer_numbers;
 mod walk;
 mod with_strings;
+mod write;
 
 pub use answer::Answer;
 pub use buffer::{nzg_build, nzg_check, nzg_enumerate, nzg_explain, nzg_show};
-pub use conformance::nzg_judge_device;
+pub use conformance::{NzgOpenTransfer, nzg_judge_acked, nzg_judge_device};
 pub use decoder::{nzg_decoder_close, nzg_decoder_feed, nzg_decoder_list, nzg_decoder_open};
 pub use decoder_handle::NzgDecoder;
 pub use descriptor::NzgDescriptor;
@@ -63,11 +68,13 @@ pub use host::{
 pub use host_handle::NzgHost;
 pub use judging::nzg_judge;
 pub use outcome::NzgTrouble;
+pub use packet::{NzgPacketFields, nzg_crc5, nzg_crc16, nzg_packet_parse, nzg_packet_write};
 pub use remark::{NzgRemark, nzg_remarks};
 pub use step::NzgStep;
 pub use string_text::nzg_text;
-pub use transfer::{nzg_transfer_close, nzg_transfer_next, nzg_transfer_open, nzg_transfer_take};
-pub use transfer_handle::NzgTransfer;
+pub use transfer::{nzg_transfer_next, nzg_transfer_open, nzg_transfer_take};
+pub use transfer_numbers::NzgTransfer;
 pub use usb_device::{NzgPacket, NzgTransaction};
 pub use walk::nzg_next;
 pub use with_strings::nzg_with_strings;
+pub use write::{NzgWrite, nzg_write_next, nzg_write_open, nzg_write_take};

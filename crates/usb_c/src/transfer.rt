@@ -1,128 +1,119 @@
-//! One control transfer at the host's end, by a handle.
+//! One control transfer at the host's end, as numbers.
 ghost use Rattle.std.specs.Prelude.{◌≡◌, None, Some, is_some, unwrap_or, []};
 ghost use Rattle.std.specs.Option.{option_and_then, option_map};
 ghost use Rattle.usb_fields.specs.Packets.{Sent};
 ghost use Rattle.usb_fields.specs.Setup.{setup_of};
 ghost use Rattle.usb_host.specs.Heard.{heard_of};
-ghost use Rattle.usb_host.specs.Transfer.{due};
+ghost use Rattle.usb_host.specs.Transfer.{begun, due, taken};
 ghost use Rattle.usb_c.specs.Answers.{AnswersOn};
-ghost use Rattle.usb_c.specs.Transfers.{TakesReply, TransferOpens, heard_told};
+ghost use Rattle.usb_c.specs.Transfers.{Opens, TakesReply, heard_told, transfer_in, wrong_transfer};
 ghost use Rattle.usb_device.specs.Transactions.{reply_told, sent_told, transaction_of};
 
 use crate::answer::{Answer, Verdict};
 use crate::device::NzgSetup;
-use crate::transfer_handle::NzgTransfer;
-use std::alloc::Global;
-use std::mem::replace;
+use crate::transfer_numbers::NzgTransfer;
 use usb_device::{NzgTransaction, answer_of, told};
-use usb_fields::Setup;
-use usb_host::{Heard, Transfer};
+use usb_host::Heard;
 
 /// The highest address of a device (USB 2.0, 8.3.2.1).
 const LAST_ADDRESS: u8 = 127;
 
-/// Opens a transfer that begins with this setup packet (USB 2.0, 8.5.3). One that is held already is freed. After an
-/// address above 127, argument 1, a packet size of 0, argument 7, or out of memory the handle is as it was.
+/// Begins a transfer with this setup packet (USB 2.0, 8.5.3). After an address above 127, argument 1, or a packet size of 0,
+/// argument 7, the numbers are as they were.
 #[unsafe(no_mangle)]
 pub extern "C" fn nzg_transfer_open(
-    alloc: Global,
     transfer: &mut NzgTransfer,
     address: u8,
     packet: u8,
     naks: u16,
     setup: &NzgSetup,
 ) -> Answer
-    ensures { AnswersOn (TransferOpens address packet naks (setup_of setup.now.bytes) transfer.old.held transfer.new.held) result }
+    ensures { AnswersOn (Opens (wrong_transfer address packet) (begun address packet naks (setup_of setup.now.bytes)) transfer.old transfer.new) result }
 {
-    let request = Setup::from_bytes(&setup.bytes);
-    open_at(alloc, transfer, address, packet, naks, request).answer()
+    open_at(transfer, address, packet, naks, setup.bytes).answer()
+}
+
+/// The number of an argument that has no meaning.
+pub(crate) fn wrong_transfer(address: u8, packet: u8) -> Option<u8>
+    ensures { result ≡ wrong_transfer address packet }
+{
+    if address > LAST_ADDRESS {
+        Some(1)
+    } else if packet == 0 {
+        Some(7)
+    } else {
+        None
+    }
 }
 
 fn open_at(
-    alloc: Global,
     transfer: &mut NzgTransfer,
     address: u8,
     packet: u8,
     naks: u16,
-    request: Setup,
+    setup: [u8; 8],
 ) -> Verdict
-    ensures { TransferOpens address packet naks request transfer.old.held transfer.new.held result }
+    ensures { Opens (wrong_transfer address packet) (begun address packet naks (setup_of setup)) transfer.old transfer.new result }
 {
-    if address > LAST_ADDRESS {
-        return Verdict::BadArgument(1);
+    if let Some(number) = wrong_transfer(address, packet) {
+        return Verdict::BadArgument(number);
     }
-    if packet == 0 {
-        return Verdict::BadArgument(7);
-    }
-    match Box::new(alloc, Transfer::new(address, packet, naks, request)) {
-        Ok(held) => {
-            *transfer = NzgTransfer::of(held);
-            Verdict::Done(0)
-        }
-        Err(_) => Verdict::NoMemory,
-    }
+    *transfer = NzgTransfer::begun(address, packet, naks, setup);
+    Verdict::Done(0)
 }
 
-/// The transaction that is due. False once the transfer has ended, or where none is held: the transaction is then as it
-/// was. An OUT has no bytes.
-#[tactic(auto, using(crate::proofs::Due::due_whole))]
+/// The transaction that is due. False once the transfer has ended, or where the numbers are none of a transfer: the transaction
+/// is then as it was. An OUT has no bytes: of a request with data to the device, `nzg_write_next` has them.
 #[unsafe(no_mangle)]
 pub extern "C" fn nzg_transfer_next(
-    alloc: Global,
-    transfer: &mut NzgTransfer,
+    transfer: &NzgTransfer,
     transaction: &mut NzgTransaction,
 ) -> bool
-    ensures held { transfer.new.held ≡ transfer.old.held }
-    ensures due { transaction.new ≡ unwrap_or (option_map transaction_of (option_and_then due transfer.old.held)) transaction.old }
-    ensures found { result ≡ is_some (option_and_then due transfer.old.held) }
+    ensures due { transaction.new ≡ unwrap_or (option_map transaction_of (option_and_then due (transfer_in transfer.now))) transaction.old }
+    ensures found { result ≡ is_some (option_and_then due (transfer_in transfer.now)) }
     // With no bytes what is reported is the whole transaction.
-    ensures whole { (sent : Sent) → option_and_then due transfer.old.held ≡ Some sent → sent_told transaction.new [] ≡ Some sent }
+    ensures whole { (sent : Sent) → option_and_then due (transfer_in transfer.now) ≡ Some sent → sent_told transaction.new [] ≡ Some sent }
 {
-    let Some(held) = replace(transfer, NzgTransfer::empty(alloc)).into_box() else {
+    let Some(transfer) = transfer.transfer() else {
         return false;
     };
-    let due = held.next();
-    *transfer = NzgTransfer::of(held);
-    match due {
-        Some(due) => {
-            *transaction = told(&due);
-            true
-        }
-        None => false,
-    }
+    let Some(due) = transfer.next() else {
+        return false;
+    };
+    *transaction = told(&due);
+    true
 }
 
 /// What the transaction brought. It goes on, is done, or has failed; where it goes on, the length says how many of the
-/// bytes are new: all of them or none. A reply, or a toggle of a data packet, that has no meaning is argument 8:
-/// nothing changes then.
+/// bytes are new: all of them or none. A reply, or a toggle of a data packet, that has no meaning is argument 8, and numbers
+/// that are none of a transfer are argument 11: nothing changes then.
 #[unsafe(no_mangle)]
 pub extern "C" fn nzg_transfer_take(
-    alloc: Global,
     transfer: &mut NzgTransfer,
     reply: u8,
     toggle: u8,
     bytes: &[u8],
 ) -> Answer
-    ensures { AnswersOn (TakesReply transfer.old.held (reply_told reply toggle bytes.now) transfer.new.held) result }
+    ensures { AnswersOn (TakesReply taken transfer.old (reply_told reply toggle bytes.now) transfer.new) result }
 {
-    take(alloc, transfer, reply, toggle, bytes).answer()
+    take(transfer, reply, toggle, bytes).answer()
 }
 
-fn take(alloc: Global, transfer: &mut NzgTransfer, reply: u8, toggle: u8, bytes: &[u8]) -> Verdict
-    ensures { TakesReply transfer.old.held (reply_told reply toggle bytes.now) transfer.new.held result }
+fn take(numbers: &mut NzgTransfer, reply: u8, toggle: u8, bytes: &[u8]) -> Verdict
+    ensures { TakesReply taken numbers.old (reply_told reply toggle bytes.now) numbers.new result }
 {
     let Some(answer) = answer_of(reply, toggle, bytes) else {
         return Verdict::BadArgument(8);
     };
-    let Some(mut held) = replace(transfer, NzgTransfer::empty(alloc)).into_box() else {
-        return Verdict::Closed;
+    let Some(mut transfer) = numbers.transfer() else {
+        return Verdict::BadArgument(11);
     };
-    let heard = held.take(answer);
-    *transfer = NzgTransfer::of(held);
+    let heard = transfer.take(answer);
+    numbers.set_fields(transfer.fields());
     tell_heard(heard)
 }
 
-fn tell_heard(heard: Heard<'_>) -> Verdict
+pub(crate) fn tell_heard(heard: Heard<'_>) -> Verdict
     ensures { result ≡ heard_told (heard_of heard.entry) }
 {
     match heard {
@@ -131,12 +122,4 @@ fn tell_heard(heard: Heard<'_>) -> Verdict
         Heard::Complete => Verdict::Done(0),
         Heard::Failed(why) => Verdict::Failed(why),
     }
-}
-
-/// Frees the transfer, if one is held.
-#[unsafe(no_mangle)]
-pub extern "C" fn nzg_transfer_close(alloc: Global, transfer: &mut NzgTransfer)
-    ensures { transfer.new.held ≡ None }
-{
-    let _old = replace(transfer, NzgTransfer::empty(alloc));
 }

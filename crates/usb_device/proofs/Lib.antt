@@ -8,3 +8,4 @@ pub mod FitLemmas
 pub mod RankLemmas
 pub mod Replies
 pub mod OutlineLemmas
+pub mod OpenLemmas

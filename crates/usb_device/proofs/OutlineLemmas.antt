@@ -10,24 +10,34 @@ use Rattle.usb_device.specs.declared.outline.Alternate.{Alternate}
 use Rattle.usb_device.specs.declared.outline.EndpointIn.{EndpointIn}
 use Rattle.usb_device.specs.States.{without_halt}
 use Rattle.usb_device.specs.Requests.{address_of, addresses_in, has_endpoint, interface_addresses, is_alternate, is_at, is_of_interface}
-use Rattle.usb_device.specs.inside.Outlines.{alternate_of, endpoint_in, endpoints_in, is_chosen, is_named, is_numbered, cleared_in}
+use Rattle.usb_device.specs.inside.Outlines.{alternate_of, endpoint_in, endpoints_in, is_chosen, is_chosen_isochronous, is_named, is_numbered, is_other_named, cleared_in}
+use Rattle.usb_device.specs.Freedoms.{has_isochronous, is_other_setting}
 
 any_alternate : (p : Alternate → Bool) (ts : List Setting) → list_any p (map alternate_of ts) ≡ list_any (λ t. p (alternate_of t)) ts
 any_alternate p [] = refl
 any_alternate p (t ∷ ts) = ap (λ b. p (alternate_of t) || b) (any_alternate p ts)
 
-chosen_in : (alternates : List ℕ) (address : ℕ) (a : Alternate) (es : List Endpoint) (b : Bool) → (slice_index alternates a.number == a.alternate) ≡ b → list_any (is_chosen alternates address) (map (endpoint_in a) es) ≡ (b && list_any (is_at address) es)
-chosen_in alternates address a [] true is = refl
-chosen_in alternates address a [] false is = refl
-chosen_in alternates address a (e ∷ es) true is = rw is (ap (λ b. (e.address == address) || b) (chosen_in alternates address a es true is))
-chosen_in alternates address a (e ∷ es) false is = rw is (chosen_in alternates address a es false is)
+-- by what is asked of an endpoint beside that its setting is chosen
+chosen_in : (alternates : List ℕ) (p : EndpointIn → Bool) (a : Alternate) (es : List Endpoint) (b : Bool) → (slice_index alternates a.number == a.alternate) ≡ b →
+    list_any (λ e. (slice_index alternates e.setting.number == e.setting.alternate) && p e) (map (endpoint_in a) es) ≡ (b && list_any (λ e. p (endpoint_in a e)) es)
+chosen_in alternates p a [] true is = refl
+chosen_in alternates p a [] false is = refl
+chosen_in alternates p a (e ∷ es) true is = rw is (ap (λ b. p (endpoint_in a e) || b) (chosen_in alternates p a es true is))
+chosen_in alternates p a (e ∷ es) false is = rw is (chosen_in alternates p a es false is)
 
 any_chosen : (alternates : List ℕ) (address : ℕ) (ts : List Setting) → list_any (is_chosen alternates address) (flat_map endpoints_in ts) ≡ list_any (has_endpoint alternates address) ts
 any_chosen alternates address [] = refl
 any_chosen alternates address (t ∷ ts) =
     let here : list_any (is_chosen alternates address) (endpoints_in t) ≡ has_endpoint alternates address t =
-    chosen_in alternates address (alternate_of t) t.endpoints (slice_index alternates t.number == t.alternate) refl in
+    chosen_in alternates (λ e. e.address == address) (alternate_of t) t.endpoints (slice_index alternates t.number == t.alternate) refl in
     rw (list_any-append (is_chosen alternates address) (endpoints_in t) (flat_map endpoints_in ts), here, any_chosen alternates address ts) refl
+
+any_isochronous : (alternates : List ℕ) (address : ℕ) (ts : List Setting) → list_any (is_chosen_isochronous alternates address) (flat_map endpoints_in ts) ≡ list_any (has_isochronous alternates address) ts
+any_isochronous alternates address [] = refl
+any_isochronous alternates address (t ∷ ts) =
+    let here : list_any (is_chosen_isochronous alternates address) (endpoints_in t) ≡ has_isochronous alternates address t =
+    chosen_in alternates (λ e. (e.address == address) && e.isochronous) (alternate_of t) t.endpoints (slice_index alternates t.number == t.alternate) refl in
+    rw (list_any-append (is_chosen_isochronous alternates address) (endpoints_in t) (flat_map endpoints_in ts), here, any_isochronous alternates address ts) refl
 
 clears_setting : (number : ℕ) (a : Alternate) (es : List Endpoint) (b : Bool) → (a.number == number) ≡ b → (halts : ℕ) → fold (cleared_in number) halts (map (endpoint_in a) es) ≡ fold without_halt halts (if b then map address_of es else [])
 clears_setting number a [] true is halts = refl
@@ -54,6 +64,13 @@ numbered kept c number is = rw is (any_alternate (is_numbered number) c.settings
 
 pub named : (kept : List Alternate) (c : Configuration) (number alternate : ℕ) → kept ≡ map alternate_of c.settings → list_any (is_named number alternate) kept ≡ list_any (is_alternate number alternate) c.settings
 named kept c number alternate is = rw is (any_alternate (is_named number alternate) c.settings)
+
+pub others : (kept : List Alternate) (c : Configuration) (number alternate : ℕ) → kept ≡ map alternate_of c.settings → list_any (is_other_named number alternate) kept ≡ list_any (is_other_setting number alternate) c.settings
+others kept c number alternate is = rw is (any_alternate (is_other_named number alternate) c.settings)
+
+pub chosen_isochronous : (kept : List EndpointIn) (c : Configuration) (alternates : List ℕ) (address : ℕ) → kept ≡ flat_map endpoints_in c.settings →
+    list_any (is_chosen_isochronous alternates address) kept ≡ list_any (has_isochronous alternates address) c.settings
+chosen_isochronous kept c alternates address is = rw is (any_isochronous alternates address c.settings)
 
 pub chosen : (kept : List EndpointIn) (c : Configuration) (alternates : List ℕ) (address : ℕ) → kept ≡ flat_map endpoints_in c.settings → list_any (is_chosen alternates address) kept ≡ list_any (has_endpoint alternates address) c.settings
 chosen kept c alternates address is = rw is (any_chosen alternates address c.settings)

@@ -39,9 +39,18 @@ is_beside_file Endpoint kind = true
 is_beside_file Other kind = false
 is_beside_file Reserved kind = false
 
--- GET_DESCRIPTOR of such a descriptor
+-- whether a data stage goes to the host (9.3.1)
+abbrev pub is_in : Direction → Bool
+is_in directions.In = true
+is_in directions.Out = false
+
+-- whether a request brings bytes to the device
+abbrev pub brings_bytes : Setup → Bool
+brings_bytes q = not (q.length == 0) && not (is_in (direction_of q.request_type))
+
+-- GET_DESCRIPTOR of such a descriptor, which brings no bytes to the device (9.4.3)
 abbrev pub is_other_descriptor : Setup → Bool
-is_other_descriptor q = (q.request == 6) && is_beside_file (recipient_of q.request_type) (q.value / 256)
+is_other_descriptor q = (q.request == 6) && not (brings_bytes q) && is_beside_file (recipient_of q.request_type) (q.value / 256)
 
 -- which of the requests that the standard, a class or a vendor defines are open (table 9-2)
 abbrev pub is_open_to : Class → Setup → Bool
@@ -54,18 +63,9 @@ is_open_to classes.Reserved q = false
 abbrev pub is_open : Setup → Bool
 is_open q = is_open_to (class_of q.request_type) q
 
--- whether a data stage goes to the host (9.3.1)
-abbrev pub is_in : Direction → Bool
-is_in directions.In = true
-is_in directions.Out = false
-
 -- whether a request asks for bytes from the device (9.3.1 and 9.3.5)
 abbrev pub asks_for_bytes : Setup → Bool
 asks_for_bytes q = not (q.length == 0) && is_in (direction_of q.request_type)
-
--- whether a request brings bytes to the device
-abbrev pub brings_bytes : Setup → Bool
-brings_bytes q = not (q.length == 0) && not (is_in (direction_of q.request_type))
 
 -- whether bytes, cut to wLength, are more than a room has
 abbrev pub overflows : ℕ → Setup → List ℕ → Bool

@@ -1,11 +1,15 @@
 -- What is allowed of a device under test in one transaction, beside what a device of these descriptors answers to it.
-use Rattle.std.specs.Prelude.{◌≡◌, ◌↔◌, ℕ, IfSome, Option, None, ◌/◌, ◌%◌, ◌==◌, ◌&&◌, ◌⊎◌, Bool, true, false, if◌then◌else◌, List, [], ◌∷◌}
+use Rattle.std.specs.Prelude.{◌≡◌, ◌↔◌, ℕ, MatchOption, Option, None, ◌/◌, ◌%◌, ◌==◌, ◌&&◌, ◌||◌, ◌⊎◌, Bool, true, false, if◌then◌else◌, List, [], ◌∷◌}
 use Rattle.usb_fields.specs.Numbers.{number_in}
 use Rattle.usb_fields.specs.declared.packet.Toggle.{Toggle}
 use Rattle.usb_fields.specs.declared.setup.Setup.{Setup}
-use Rattle.usb_fields.specs.Packets.{Token, SetupToken, Reply, NakReply, StallReply, DataReply, NoReply, is_same_toggle}
-use Rattle.usb_device.specs.Beside.{is_open}
-use Rattle.usb_device.specs.Step.{DeviceStage, Halted}
+use Rattle.usb_fields.specs.Packets.{Token, SetupToken, InToken, Reply, NakReply, StallReply, DataReply, NoReply, flipped, is_same_toggle}
+use Rattle.usb_file_data.specs.declared.file.DescriptorFile.{DescriptorFile}
+use Rattle.usb_device.specs.Beside.{asks_for_bytes, is_open}
+use Rattle.usb_device.specs.Freedoms.{is_either}
+use Rattle.usb_device.specs.Step.{DeviceStage, DeviceView, Halted}
+use Rattle.usb_device.specs.OpenTransfers.{after_answer, is_stalled, may_answer, new_transfer}
+use Rattle.usb_device.specs.declared.open_transfer.OpenTransfer.{OpenTransfer}
 use Rattle.usb_device.specs.declared.conformance.Difference.{Difference}
 use Rattle.usb_device.specs.contracts.conformance.Difference.{the_type as differences}
 use Rattle.usb_device.specs.declared.conformance.Difference.TheVariants as differs
@@ -36,22 +40,42 @@ abbrev pub is_refusing : DeviceStage → Bool
 is_refusing (Halted refused) = true
 is_refusing stage = false
 
--- In the transfer of request q this came of a device under test, where the device of these descriptors `has` that answer to the
--- same transaction, and refuses the request or not. It is the same; or the request is open to an owner, who may answer as he
--- likes up to the next SETUP; or it is the same status.
-abbrev pub IsAllowed : Setup → Bool → Token → Reply → Reply → Type 0
-IsAllowed q refused token came has =
-    (came ≡ has)
-    ⊎ ((is_in_transfer token has ≡ true)
-    × (((refused ≡ true) × (is_open q ≡ true)) ⊎ ((is_device_status q ≡ true) × IsSameStatus came has)))
+-- Whether the outcome of the transfer of request q is open: the device of these descriptors refuses what its owner may answer, or a
+-- device may either carry it out or refuse it.
+abbrev pub is_free : DescriptorFile → DeviceView → Setup → Bool
+is_free f d q = (is_refusing d.stage && is_open q) || is_either f d.state q
+
+-- The same answer, or the same status.
+abbrev pub IsSame : Setup → Token → Reply → Reply → Type 0
+IsSame q token came has = (came ≡ has) ⊎ ((is_in_transfer token has ≡ true) × (is_device_status q ≡ true) × IsSameStatus came has)
+
+abbrev pub IsAllowedIn : Bool → Setup → ℕ → OpenTransfer → Token → Reply → Reply → Type 0
+IsAllowedIn true q packet t token came has = may_answer q packet t token came ≡ true
+IsAllowedIn false q packet t token came has = IsSame q token came has
+
+-- In the transfer of request q this came of a device under test with packets of this size, where the device of these descriptors
+-- `has` that answer to the same transaction. Where the outcome is open, it may come in a transfer that stands so.
+abbrev pub IsAllowed : Bool → Setup → ℕ → OpenTransfer → Token → Reply → Reply → Type 0
+IsAllowed free q packet t token came has = IsAllowedIn (free && is_in_transfer token has) q packet t token came has
+
+-- whether a transfer begins: a SETUP was taken
+abbrev pub begins : Token → Reply → Bool
+begins (SetupToken bytes) NoReply = false
+begins (SetupToken bytes) has = true
+begins token has = false
+
+-- the transfer after a transaction
+abbrev pub after_transaction : Bool → Setup → ℕ → OpenTransfer → Token → Reply → Reply → OpenTransfer
+after_transaction true q packet t token came has = after_answer q packet t token came
+after_transaction false q packet t token came has = if begins token has then new_transfer else t
 
 -- Where a packet with these bytes and this toggle is due.
 abbrev pub differs_from_data : Reply → Toggle → List ℕ → Difference
 differs_from_data NoReply toggle bytes = differs.Address
+differs_from_data StallReply toggle bytes = differs.Stall
 differs_from_data (DataReply t []) toggle [] = differs.Toggle
 differs_from_data came toggle [] = differs.Empty
 differs_from_data (DataReply t b) toggle bytes = if is_same_toggle t toggle then differs.Bytes else differs.Toggle
-differs_from_data StallReply toggle bytes = differs.Stall
 differs_from_data came toggle bytes = differs.Kind
 
 -- Where a handshake is due.
@@ -69,10 +93,29 @@ difference_of token NoReply StallReply = differs.Address
 difference_of token came StallReply = differs.Refusal
 difference_of token came has = differs_from_handshake came
 
--- What is judged of it: nothing where it is allowed, and else the difference.
-abbrev pub IsJudged : Setup → Bool → Token → Reply → Reply → Option Difference → Type 0
-IsJudged q refused token came has result =
-    ((result ≡ None) ↔ IsAllowed q refused token came has) × IfSome result (λ why. why ≡ difference_of token came has)
+-- Which it is of a packet: in the data stage, or as the status stage.
+abbrev pub differs_from_due : Bool → OpenTransfer → Toggle → List ℕ → Difference
+differs_from_due true t toggle bytes = if is_same_toggle toggle (flipped t.last) then differs.Bytes else differs.Toggle
+differs_from_due false t toggle [] = differs.Toggle
+differs_from_due false t toggle bytes = differs.Empty
+
+-- Which it is where the outcome is open.
+abbrev pub open_difference : Setup → OpenTransfer → Token → Reply → Difference
+open_difference q t token NoReply = differs.Address
+open_difference q t token StallReply = differs.Stall
+open_difference q t InToken (DataReply toggle bytes) = if is_stalled t.stage then differs.Refusal else differs_from_due (asks_for_bytes q) t toggle bytes
+open_difference q t token came = if is_stalled t.stage then differs.Refusal else differs.Kind
+
+abbrev pub difference_in : Bool → Setup → OpenTransfer → Token → Reply → Reply → Difference
+difference_in true q t token came has = open_difference q t token came
+difference_in false q t token came has = difference_of token came has
+
+-- What is judged of it: nothing where it is allowed, and else the difference; the transfer goes on where it is allowed.
+abbrev pub IsJudged : Bool → Setup → ℕ → OpenTransfer → Token → Reply → Reply → OpenTransfer → Option Difference → Type 0
+IsJudged free q packet t token came has next result =
+    ((result ≡ None) ↔ IsAllowed free q packet t token came has)
+    × MatchOption result (next ≡ after_transaction (free && is_in_transfer token has) q packet t token came has)
+    (λ why. (why ≡ difference_in (free && is_in_transfer token has) q t token came has) × (next ≡ t))
 
 -- its number, from 1
 abbrev pub difference_number : Difference → ℕ

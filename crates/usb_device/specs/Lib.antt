@@ -2,6 +2,8 @@ pub mod States
 pub mod Requests
 pub mod Step
 pub mod Beside
+pub mod OpenTransfers
+pub mod Freedoms
 pub mod Conformance
 pub mod Accepted
 pub mod View

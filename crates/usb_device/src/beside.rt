@@ -4,7 +4,7 @@ ghost use Rattle.usb_device.specs.Beside.{is_open, is_other_descriptor};
 ghost use Rattle.std.specs.Prelude.{◌≡◌, Some};
 
 use std::{error, fmt};
-use usb_fields::{Class, Recipient, Setup, request};
+use usb_fields::{Class, Direction, Recipient, Setup, request};
 
 /// The most bytes that a device keeps: of an answer, [`Device::answer_with`](crate::Device::answer_with), or of a write,
 /// [`Device::written`](crate::Device::written).
@@ -12,13 +12,15 @@ pub const ROOM: usize = 512;
 
 /// Whether a device's owner may answer the request, where the device rejects it: class and vendor requests, and
 /// GET_DESCRIPTOR of what isn't in the descriptor file. That is any descriptor of an interface or endpoint, and of
-/// the device any but those of types 1, 2, 6 and 7, so that a device without a second speed stays one.
+/// the device any but those of types 1, 2, 6 and 7, so that a device without a second speed stays one. A GET_DESCRIPTOR
+/// with data to the device is not open.
 ///
 /// ```rust
 /// // GET_DESCRIPTOR of the report descriptor of interface 0.
 /// assert!(rt; is_open(Setup::from_bytes(&[0x81, 6, 0, 0x22, 0, 0, 52, 0])));
-/// // GET_DESCRIPTOR of the qualifier.
+/// // GET_DESCRIPTOR of the qualifier, and one with data to the device.
 /// assert!(rt; !is_open(Setup::from_bytes(&[0x80, 6, 0, 6, 0, 0, 10, 0])));
+/// assert!(rt; !is_open(Setup::from_bytes(&[0x01, 6, 0, 0x22, 0, 0, 8, 0])));
 /// ```
 pub fn is_open(q: Setup) -> bool
     ensures { result ≡ is_open q }
@@ -34,6 +36,7 @@ fn is_other_descriptor(q: Setup) -> bool
     ensures { result ≡ is_other_descriptor q }
 {
     q.request == request::GET_DESCRIPTOR
+        && (q.length == 0 || q.direction() == Direction::In)
         && match q.recipient() {
             Recipient::Device => !matches!(q.value / 256, 1 | 2 | 6 | 7),
             Recipient::Interface | Recipient::Endpoint => true,

@@ -1,9 +1,10 @@
 //! What is allowed of a device under test in one transaction.
-ghost use Rattle.std.specs.Prelude.{◌≡◌, ◌↔◌, IsTrue};
+ghost use Rattle.std.specs.Prelude.{◌≡◌, ◌↔◌, IsTrue, MatchOption, None, true};
 ghost use Rattle.usb_fields.specs.Packets.{reply_of, token_of};
-ghost use Rattle.usb_device.specs.Conformance.{difference_of, differs_from_data, differs_from_handshake, is_device_status, is_in_transfer, is_ready, IsJudged, IsSameStatus};
+ghost use Rattle.usb_device.specs.Conformance.{difference_of, differs_from_data, differs_from_handshake, is_device_status, is_in_transfer, is_ready, begins, IsJudged, IsSame, IsSameStatus, open_difference};
+ghost use Rattle.usb_device.specs.OpenTransfers.{after_answer, may_answer};
 
-use crate::beside::is_open;
+use crate::open_transfer::OpenTransfer;
 use usb_fields::laws::equal_answers_say_the_same;
 use usb_fields::{Answer, Setup, Stage, Toggle};
 
@@ -13,7 +14,9 @@ use usb_fields::{Answer, Setup, Stage, Toggle};
 /// // DATA0 where DATA1 is due.
 /// let came = Answer::Data(Toggle::Data0, &[]);
 /// let has = Answer::Data(Toggle::Data1, &[]);
-/// assert_eq!(rt; judge(setup, false, Stage::In, came, has), Some(Difference::Toggle));
+/// let mut transfer = OpenTransfer::new();
+/// let judged = judge(&mut transfer, false, setup, 64, Stage::In, came, has);
+/// assert_eq!(rt; judged, Some(Difference::Toggle));
 /// ```
 #[derive(Clone, Copy, Debug, PartialEq, Eq, Hash)]
 pub enum Difference {
@@ -24,12 +27,12 @@ pub enum Difference {
     Address,
     /// The other toggle: DATA1 is first, and each packet that the host acknowledged flips it (8.5.3 and 8.6).
     Toggle,
-    /// No empty packet. It ends an answer that is shorter than wLength and a whole multiple of the packet size (8.5.3.2),
-    /// and it is the status stage of a request without data (8.5.3.1).
+    /// Another packet, or an ACK, in place of an empty one. That ends an answer that is shorter than wLength and a whole multiple
+    /// of the packet size (8.5.3.2), and it is the status stage of a request without data (8.5.3.1).
     Empty,
-    /// Other bytes (8.5.3.2 and 9.4).
+    /// Other bytes (8.5.3.2 and 9.4), or more or fewer than may come (8.5.3 and 8.6.4).
     Bytes,
-    /// STALL of a request that the device has (9.4).
+    /// STALL of a request that the device has (9.4), or that it has carried out, in the data stage or in the status stage.
     Stall,
     /// No STALL of a request that the device doesn't have, or before the next SETUP after one (9.2.7 and 8.5.3.4).
     Refusal,
@@ -56,29 +59,69 @@ pub fn is_ready(came: Answer<'_>) -> bool
     !matches!(came, Answer::Nak)
 }
 
-/// Judges one transaction of a device under test, in the transfer of this request. `came` is its answer; `has` is that of a
-/// [`Device`](crate::Device) of the same descriptors, which had the same transactions, to this one where [`is_ready`] says
-/// whether it is ready. `refused` is whether that device refuses the request.
+/// Judges one transaction of a device under test, in the transfer of this request, with packets of so many bytes. `came` is its
+/// answer; `has` is that of a [`Device`](crate::Device) of the same descriptors, which had the same transactions, to this one where
+/// [`is_ready`] says whether it is ready. `free` is whether the outcome of the transfer is open to a device:
+/// [`OwnedDevice::is_free`](crate::OwnedDevice::is_free).
 ///
-/// `None` is an allowed answer: the same; any answer in the transfer of a request that is refused and that [`is_open`] to an
-/// owner; and the status of a device with another bit 0, self-powered (USB 2.0, 9.4.5).
+/// `None` is an allowed answer: the same; where the outcome is open, one that keeps chapter 8 after what is known of the transfer;
+/// and the status of a device with another bit 0, self-powered (USB 2.0, 9.4.5). The transfer then goes on by it.
 pub fn judge(
+    transfer: &mut OpenTransfer,
+    free: bool,
     request: Setup,
-    refused: bool,
+    packet: usize,
     stage: Stage<'_>,
     came: Answer<'_>,
     has: Answer<'_>,
 ) -> Option<Difference>
-    ensures { IsJudged request refused (token_of stage.entry) (reply_of came.entry) (reply_of has.entry) result }
+    ensures { IsJudged free request packet transfer.old (token_of stage.entry) (reply_of came.entry) (reply_of has.entry) transfer.new result }
 {
-    if equal_answers_say_the_same(&came, &has)
-        || (is_in_transfer(stage, has)
-            && ((refused && is_open(request))
-                || (is_device_status(request) && is_same_status(came, has))))
-    {
-        None
-    } else {
-        Some(difference_of(stage, came, has))
+    if free && is_in_transfer(stage, has) {
+        return judge_open(transfer, request, packet, stage, came);
+    }
+    if !is_same(request, stage, came, has) {
+        return Some(difference_of(stage, came, has));
+    }
+    if begins(stage, has) {
+        *transfer = OpenTransfer::new();
+    }
+    None
+}
+
+/// Where the outcome is open.
+fn judge_open(
+    transfer: &mut OpenTransfer,
+    request: Setup,
+    packet: usize,
+    stage: Stage<'_>,
+    came: Answer<'_>,
+) -> Option<Difference>
+    ensures allowed { (result ≡ None) ↔ (may_answer request packet transfer.old (token_of stage.entry) (reply_of came.entry) ≡ true) }
+    ensures judged { MatchOption result (transfer.new ≡ after_answer request packet transfer.old (token_of stage.entry) (reply_of came.entry)) (λ why. (why ≡ open_difference request transfer.old (token_of stage.entry) (reply_of came.entry)) × (transfer.new ≡ transfer.old)) }
+{
+    if !transfer.may_answer(request, packet, stage, came) {
+        return Some(transfer.difference(request, stage, came));
+    }
+    transfer.answered(request, packet, stage, came);
+    None
+}
+
+fn is_same(request: Setup, stage: Stage<'_>, came: Answer<'_>, has: Answer<'_>) -> bool
+    ensures { IsTrue result ↔ IsSame request (token_of stage.entry) (reply_of came.entry) (reply_of has.entry) }
+{
+    equal_answers_say_the_same(&came, &has)
+        || (is_in_transfer(stage, has) && is_device_status(request) && is_same_status(came, has))
+}
+
+/// Whether a transfer begins: the device takes a SETUP.
+fn begins(stage: Stage<'_>, has: Answer<'_>) -> bool
+    ensures { result ≡ begins (token_of stage.entry) (reply_of has.entry) }
+{
+    match (stage, has) {
+        (Stage::Setup(_), Answer::Silence) => false,
+        (Stage::Setup(_), _) => true,
+        _ => false,
     }
 }
 
@@ -124,6 +167,7 @@ fn differs_from_data(came: Answer<'_>, toggle: Toggle, bytes: &[u8]) -> Differen
 {
     match (came, bytes) {
         (Answer::Silence, _) => Difference::Address,
+        (Answer::Stall, _) => Difference::Stall,
         (Answer::Data(_, []), []) => Difference::Toggle,
         (_, []) => Difference::Empty,
         (Answer::Data(t, _), _) => {
@@ -133,7 +177,6 @@ fn differs_from_data(came: Answer<'_>, toggle: Toggle, bytes: &[u8]) -> Differen
                 Difference::Toggle
             }
         }
-        (Answer::Stall, _) => Difference::Stall,
         _ => Difference::Kind,
     }
 }

@@ -18,7 +18,7 @@
 //! - Which descriptors make a device is `specs/Accepted.antt`, and where each is `specs/Descriptors.antt`.
 //! - What comes of each request is `specs/Requests.antt`, a definition for each row of the table, over
 //!   `specs/States.antt`; what may be answered beside the table is `specs/Beside.antt`, and
-//!   what is allowed of a device under test `specs/Conformance.antt`.
+//!   what is allowed of a device under test `specs/Conformance.antt` and `specs/OpenTransfers.antt`.
 //! - How a device goes through a control transfer is `specs/Step.antt`, whatever the table is.
 //! - What the parts of a device mean is `specs/View.antt` and `specs/Stages.antt`: the code has an offset and a toggle
 //!   where the definition has a list of packets. Transactions as numbers are `specs/Transactions.antt`.
@@ -35,6 +35,7 @@ mod endpoint_zero;
 mod halts;
 mod image;
 pub mod laws;
+mod open_transfer;
 mod outline;
 mod owned_device;
 mod request;
@@ -50,6 +51,7 @@ pub use description::Description;
 pub use device::Device;
 pub use encoded::Encoded;
 pub use endpoint_zero::EndpointZero;
+pub use open_transfer::{OpenStage, OpenTransfer};
 pub use owned_device::OwnedDevice;
 pub use request::is_set_address;
 pub use stage::Stage as DeviceStage;

@@ -3,7 +3,8 @@ ghost use Rattle.std.specs.Prelude.{◌≡◌, ◌++◌, fold, map, IfOk, OnOk};
 ghost use Rattle.std.specs.List.{list_any, flat_map};
 ghost use Rattle.usb_device.specs.Requests.{has_endpoint, interface_addresses, is_alternate, is_of_interface};
 ghost use Rattle.usb_device.specs.States.{without_halt};
-ghost use Rattle.usb_device.specs.inside.Outlines.{alternate_of, endpoint_in, endpoints_in, is_chosen, is_named, is_numbered};
+ghost use Rattle.usb_device.specs.inside.Outlines.{alternate_of, endpoint_in, endpoints_in, is_chosen, is_chosen_isochronous, is_named, is_numbered, is_other_named};
+ghost use Rattle.usb_device.specs.Freedoms.{has_isochronous, is_other_setting};
 
 use crate::halts;
 use std::alloc::{AllocError, Global};
@@ -24,6 +25,7 @@ pub(crate) struct Alternate {
 pub(crate) struct EndpointIn {
     pub(crate) setting: Alternate,
     pub(crate) address: u8,
+    pub(crate) isochronous: bool,
 }
 
 /// A set, of which only so much is kept as a request can name. Proofs see all of it.
@@ -92,6 +94,22 @@ impl Outline {
         any_named(&self.settings, number, alternate)
     }
 
+    /// Whether that interface has another one.
+    #[tactic(auto, using(crate::proofs::OutlineLemmas::others))]
+    pub(crate) fn has_other(&self, number: u8, alternate: u8) -> bool
+        ensures { result ≡ list_any (is_other_setting number alternate) self.now.settings }
+    {
+        any_other(&self.settings, number, alternate)
+    }
+
+    /// Whether a setting that is chosen has an isochronous endpoint with this address.
+    #[tactic(auto, using(crate::proofs::OutlineLemmas::chosen_isochronous))]
+    pub(crate) fn has_isochronous(&self, alternates: &[u8; 256], address: u8) -> bool
+        ensures { result ≡ list_any (has_isochronous alternates.now address) self.now.settings }
+    {
+        any_isochronous(&self.endpoints, alternates, address)
+    }
+
     /// Whether a setting that is chosen has an endpoint with this address.
     #[tactic(auto, using(crate::proofs::OutlineLemmas::chosen))]
     pub(crate) fn has_endpoint(&self, alternates: &[u8; 256], address: u8) -> bool
@@ -119,6 +137,26 @@ fn any_named(settings: &[Alternate], number: u8, alternate: u8) -> bool
     ensures { result ≡ list_any (is_named number alternate) settings.now }
 {
     settings.iter().any(|setting| setting.number == number && setting.alternate == alternate)
+}
+
+fn any_other(settings: &[Alternate], number: u8, alternate: u8) -> bool
+    ensures { result ≡ list_any (is_other_named number alternate) settings.now }
+{
+    settings.iter().any(|setting| setting.number == number && setting.alternate != alternate)
+}
+
+fn any_isochronous(endpoints: &[EndpointIn], alternates: &[u8; 256], address: u8) -> bool
+    ensures { result ≡ list_any (is_chosen_isochronous alternates.now address) endpoints.now }
+{
+    endpoints
+        .iter()
+        .any(|endpoint| is_isochronous(endpoint, alternates, address))
+}
+
+fn is_isochronous(endpoint: &EndpointIn, alternates: &[u8; 256], address: u8) -> bool
+    ensures { result ≡ is_chosen_isochronous alternates.now address endpoint.now }
+{
+    is_chosen(endpoint, alternates, address) && endpoint.isochronous
 }
 
 fn any_chosen(endpoints: &[EndpointIn], alternates: &[u8; 256], address: u8) -> bool
@@ -177,6 +215,7 @@ fn add_endpoints(
         them.push(EndpointIn {
             setting,
             address: endpoint.address,
+            isochronous: endpoint.attributes % 4 == 1,
         })?;
     }
     Ok(())

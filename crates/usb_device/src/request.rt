@@ -5,6 +5,8 @@ ghost use Rattle.std.specs.Prelude.{◌≡◌, ◌∷◌, [], find, if◌then◌
 ghost use Rattle.std.specs.Option.{option_copied};
 ghost use Rattle.usb_device.specs.Step.{is_set_address};
 
+mod freedom;
+
 use crate::encoded::Encoded;
 use crate::outline::Outline;
 use crate::stage::{Change, Decision};

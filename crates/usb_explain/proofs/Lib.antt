@@ -20,5 +20,8 @@ pub mod FieldSteps
 pub mod FieldsCover
 pub mod TableWords
 pub mod RemarksShown
+pub mod RemarksCounted
 pub mod SettingSteps
-pub mod Lacking
+pub mod AssociationSteps
+pub mod EndpointSteps
+pub mod NumberSteps

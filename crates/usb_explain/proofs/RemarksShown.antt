@@ -29,9 +29,13 @@ neither true x = refl
 neither false x = refl
 
 -- there are none on a descriptor without a type of its own, before any interface
+pub no_remarks : (d : Described) → d.role ≡ Raw → d.interface ≡ None → remarks_on d.role d ≡ []
+unfolding remarks_on raw_remarks header_remark
+no_remarks d is_raw none = rw (is_raw, none) (rw (neither {X = Option Remark} (not (is_of_endpoint d.owner)) None) refl)
+
 pub no_lines : (d : Described) → d.role ≡ Raw → d.interface ≡ None → remark_lines d ≡ []
-unfolding remark_lines remarks_on raw_remarks header_remark
-no_lines d is_raw none = rw (is_raw, none) (rw (neither {X = Option Remark} (not (is_of_endpoint d.owner)) None) refl)
+unfolding remark_lines
+no_lines d is_raw none = ap (flat_map (remark_line d.depth)) (no_remarks d is_raw none)
 
 -- and those that `check` has of it
 pub all_placed : (d : Described) (remarks : List (Option Remark)) → flat_map there remarks ≡ remarks_on d.role d

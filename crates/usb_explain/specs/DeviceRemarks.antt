@@ -1,6 +1,6 @@
 -- What is remarked of a device, its qualifier, and a set: a release of USB that there is none of, a size of packets that the
--- speed doesn't have, no set, too much current, and an association whose device doesn't say that it has some (USB 2.0, 5.5.3,
--- 7.2.1, 9.6.1 and 9.6.3; USB 3.2, 9.6.1 and chapter 11; the association's ECN).
+-- speed doesn't have, no set, too much current, associations that the class doesn't say, and two sides of one speed (USB 2.0,
+-- 5.5.3, 7.2.1, 9.6.1 to 9.6.3; USB 3.2, 9.6.1 and chapter 11; the association's ECN).
 use Rattle.std.specs.Prelude.{ℕ, List, [], ◌∷◌, Bool, true, false, nat_le, nat_lt, not, ◌==◌, ◌&&◌, ◌||◌, Option, Some, None, option_and_then}
 use Rattle.std.specs.Option.{option_or}
 use Rattle.usb_file_data.specs.declared.cause.Found.{Found}
@@ -25,7 +25,7 @@ release_remark usb = remark_if (not (is_release usb)) remarks.Release
 
 -- the same of a qualifier, whose release is 2.0 at least (9.6.2)
 abbrev pub qualifier_release_remark : ℕ → Option Remark
-qualifier_release_remark usb = option_or (release_remark usb) (remark_if (nat_lt usb 0x0200) remarks.OldQualifier)
+qualifier_release_remark usb = option_or (release_remark usb) (remark_if (nat_lt usb 0x0200) (remarks.OldQualifier usb))
 
 -- A class that interfaces alone have, by the list of base classes that the USB-IF keeps: audio, HID, physical, image, printer, mass
 -- storage, CDC data, smart card, content security, video, personal healthcare, and audio and video.
@@ -48,7 +48,7 @@ first_packets _ = None
 
 -- bMaxPacketSize0 that is none of these
 abbrev pub of_another_packet : SetSpeed → ℕ → PacketSizes → Option Remark
-of_another_packet speed packet sizes = remark_if (not (is_size sizes packet)) (remarks.FirstPacket speed sizes)
+of_another_packet speed packet sizes = remark_if (not (is_size sizes packet)) (remarks.FirstPacket speed sizes packet)
 
 abbrev pub packet_remark : SetSpeed → ℕ → Option Remark
 packet_remark speed packet = option_and_then (of_another_packet speed packet) (first_packets speed)
@@ -77,7 +77,14 @@ power_remark speed power =
 abbrev pub tells_associations : ClassCodes → Bool
 tells_associations codes = (codes.class == 0xef) && ((codes.subclass == 2) && (codes.protocol == 1))
 
--- an association of a device or a qualifier that has others; nothing is said where there is none
-abbrev pub association_remark : Option ClassCodes → Option Remark
-association_remark None = None
-association_remark (Some codes) = remark_if (not (tells_associations codes)) remarks.UntoldAssociation
+-- associations in the sets of a device or a qualifier of other codes, or none where it has these (their ECN; the USB-IF's class
+-- codes); nothing is said where it isn't known whether there are some
+abbrev pub associations_remark : ClassCodes → Option Bool → Option Remark
+associations_remark codes None = None
+associations_remark codes (Some true) = remark_if (not (tells_associations codes)) remarks.UntoldAssociation
+associations_remark codes (Some false) = remark_if (tells_associations codes) remarks.NoAssociation
+
+-- the sets before a qualifier and those after it have one speed, though theirs are two (9.6.2)
+abbrev pub one_speed_remark : Option SetSpeed → Option Remark
+one_speed_remark None = None
+one_speed_remark (Some speed) = Some (remarks.OneSpeed speed)

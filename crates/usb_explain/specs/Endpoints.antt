@@ -6,7 +6,8 @@ use Rattle.usb_set.specs.declared.endpoint.TransferType.{TransferType}
 use Rattle.usb_set.specs.declared.endpoint.TransferType.TheVariants.{Isochronous, Interrupt}
 use Rattle.usb_text.specs.Shown.{Shown, Number}
 use Rattle.usb_explain.specs.declared.speed.SetSpeed.{SetSpeed}
-use Rattle.usb_explain.specs.declared.speed.SetSpeed.TheVariants.{High, Super}
+use Rattle.usb_explain.specs.declared.speed.SetSpeed.TheVariants.{FullOrHigh, High, Super}
+use Rattle.usb_explain.specs.SetSpeeds.{has_multiple}
 use Rattle.usb_explain.specs.Speeds.{interval_at, is_periodic, milliamperes}
 
 -- so many packets of so many bytes in a microframe, where there are several; `None` is the reserved value of bits 12..11
@@ -14,16 +15,19 @@ abbrev pub packets_shown : Option ℕ → ℕ → List Shown
 packets_shown None size = Number size ∷ []
 packets_shown (Some packets) size = if packets == 1 then Number size ∷ [] else Number packets ∷ Number size ∷ []
 
--- bits 12..11 of wMaxPacketSize count packets of periodic endpoints at high speed, and are reserved elsewhere
-abbrev pub has_packets : SetSpeed → TransferType → Bool
-has_packets High Isochronous = true
-has_packets High Interrupt = true
-has_packets _ _ = false
+-- bits 12..11 of wMaxPacketSize count packets of periodic endpoints at high speed, and where that is open and their size is one of
+-- so many; elsewhere they are reserved
+abbrev pub has_packets : SetSpeed → TransferType → ℕ → Bool
+has_packets High Isochronous max_packet = true
+has_packets High Interrupt max_packet = true
+has_packets FullOrHigh Isochronous max_packet = has_multiple max_packet
+has_packets FullOrHigh Interrupt max_packet = has_multiple max_packet
+has_packets _ _ _ = false
 
 -- wMaxPacketSize of an endpoint of these attributes: bits 10..0 in bytes, with bits 12..11 where they count packets
 unfoldable pub size_shown : SetSpeed → ℕ → ℕ → List Shown
 size_shown speed attributes max_packet =
-    if has_packets speed (transfer_type_of attributes) then packets_shown (transactions_of max_packet) (packet_size_of max_packet)
+    if has_packets speed (transfer_type_of attributes) max_packet then packets_shown (transactions_of max_packet) (packet_size_of max_packet)
     else Number (packet_size_of max_packet) ∷ []
 
 -- Values of fields that have a number and its meaning.

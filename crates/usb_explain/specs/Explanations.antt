@@ -1,5 +1,5 @@
 -- The explanation of an input, and of bytes that are none: what its lines show, one after another.
-use Rattle.std.specs.Prelude.{ℕ, List, ◌-◌, ◌++◌, length, take, drop, flat_map, if◌then◌else◌, [], ◌∷◌, codes, nat_lt, ◌==◌, Ok, Err}
+use Rattle.std.specs.Prelude.{ℕ, List, ◌-◌, ◌++◌, length, take, drop, flat_map, if◌then◌else◌, [], ◌∷◌, codes, nat_lt, Ok, Err}
 use Rattle.usb_file_data.specs.declared.cause.Found.{Found}
 use Rattle.usb_file_data.specs.Findings.{found_in_order}
 use Rattle.usb_text.specs.Output.{Held}
@@ -9,6 +9,7 @@ use Rattle.usb_explain.specs.declared.manner.Look.{Look}
 use Rattle.usb_explain.specs.declared.manner.Manner.{Manner}
 use Rattle.usb_explain.specs.Descriptors.{lines_of}
 use Rattle.usb_explain.specs.Faults.{fault_lines, place_of_fault}
+use Rattle.usb_explain.specs.LastLines.{last_line, remark_count}
 use Rattle.usb_explain.specs.Lines.{field_line, heading_line}
 use Rattle.usb_explain.specs.Outline.{Described, bytes_of, outline}
 use Rattle.usb_explain.specs.Subjects.{Reading, subject_of}
@@ -53,14 +54,14 @@ descriptors_of manner read b = outline manner.speed (found_of read) (before_faul
 abbrev pub first_line : ℕ → List Shown
 first_line n = Number n ∷ End ∷ []
 
--- the line of how many findings there are
-abbrev pub last_line : ℕ → List Shown
-last_line n = if n == 0 then End ∷ [] else Number n ∷ End ∷ []
+-- how many findings an input has, and how many remarks there are on its descriptors
+abbrev pub counts_line : Manner → Reading → List ℕ → List Shown
+counts_line manner read b = last_line (length (found_of read)) (remark_count (descriptors_of manner read b))
 
--- what ends it, where the descriptors end at this place: the bytes that are left, and how many findings an input has or what
--- is at fault with the bytes
+-- what ends it, where the descriptors end at this place: the bytes that are left, and those counts or what is at fault with the
+-- bytes
 abbrev pub ending : Manner → Reading → List ℕ → ℕ → List Shown
-ending manner (Ok input) b at = rest_lines manner.look at (drop at b) ++ last_line (length (found_of (Ok input)))
+ending manner (Ok input) b at = rest_lines manner.look at (drop at b) ++ counts_line manner (Ok input) b
 ending manner (Err fault) b at = fault_lines manner.decoded fault b ++ rest_lines manner.look at (drop at b)
 
 -- the first line and those of these descriptors

@@ -7,6 +7,8 @@ use Rattle.usb_file_data.specs.declared.likeness.Likeness.{Likeness}
 use Rattle.usb_file_data.specs.declared.likeness.Likeness.TheVariants as likes
 use Rattle.usb_file_data.specs.Likeness.{likeness_of}
 use Rattle.usb_file_data.specs.FileFaults.{why_number}
+use Rattle.usb_explain.specs.Containers.{container_of, magic}
+use Rattle.usb_explain.specs.declared.container.Container.{Container}
 use Rattle.usb_text.specs.Shown.{Shown, End, Number}
 
 -- the place of the fault in the input
@@ -38,6 +40,11 @@ abbrev pub seen_likeness : Bool → Option Likeness → Option Likeness
 seen_likeness true (Some likes.Text) = None
 seen_likeness decoded likeness = likeness
 
+-- the line of what bytes begin as, or else of what they look like
+abbrev pub look_line : Bool → InputFault → List ℕ → Option Container → List Shown
+look_line decoded fault b None = likeness_line (seen_likeness decoded (likeness_of fault b))
+look_line decoded fault b (Some container) = magic container b ++ End ∷ []
+
 -- both lines
 unfoldable pub fault_lines : Bool → InputFault → List ℕ → List Shown
-fault_lines decoded fault b = fault_shown fault ++ End ∷ likeness_line (seen_likeness decoded (likeness_of fault b))
+fault_lines decoded fault b = fault_shown fault ++ End ∷ look_line decoded fault b (container_of b)

@@ -23,6 +23,7 @@ use Rattle.usb_explain.specs.Lines.{field_line, heading_line}
 use Rattle.usb_explain.specs.Outline.{Described, bytes_of}
 use Rattle.usb_explain.specs.RemarkPlaces.{outside}
 use Rattle.usb_explain.specs.Roles.{is_association, is_interface, typed_role}
+use Rattle.usb_explain.specs.SetSpeeds.{other_speed}
 use Rattle.usb_explain.specs.StringNames.{no_names}
 use Rattle.usb_explain.specs.Subjects.{Subject}
 use Rattle.usb_explain.specs.Trees.{descriptors}
@@ -74,6 +75,11 @@ position_past p d = record {
 abbrev pub fragment_start : FragmentPosition
 fragment_start = record { at = 0; interface = None; associations = 0 }
 
+-- the speed of a descriptor, where the device has this one: a qualifier is of the other
+abbrev pub speed_there : Role → SetSpeed → SetSpeed
+speed_there Qualifier speed = unwrap_or (other_speed speed) FullOrHigh
+speed_there role speed = speed
+
 -- a descriptor at a position: it is in no set, nobody's, and nothing is found of it
 unfoldable pub described_alone : SetSpeed → FragmentPosition → List ℕ → Described
 described_alone speed p d = record {
@@ -83,17 +89,18 @@ described_alone speed p d = record {
   role = role_alone d;
   depth = 0;
   owner = None;
-  speed = speed;
+  speed = speed_there (role_alone d) speed;
   findings = [];
   associations = p.associations;
   association = None;
   missing = None;
   follows = false;
   interface = option_or p.interface (class_alone d);
-  device = None;
   string = 0;
   rest = None;
-  lacks_associations = false;
+  is_late = false;
+  has_associations = None;
+  one_speed = None;
 }
 
 -- descriptors from a position on

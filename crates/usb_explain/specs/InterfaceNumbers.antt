@@ -1,9 +1,10 @@
 -- The numbers of the interfaces of a set, and which of them a descriptor names: an association (its ECN, 9.X.Y), or a functional
 -- descriptor of a communications interface, of call management (PSTN 1.2, 5.3.1) or a union (CDC 1.2, 5.2.3.2).
-use Rattle.std.specs.Prelude.{ℕ, List, [], ◌∷◌, map, take, drop, length, slice_index, slice_index_or, Bool, false, nat_le, ◌==◌, ◌&&◌, Option, Some, None, if◌then◌else◌}
-use Rattle.std.specs.List.{range_with_len}
+use Rattle.std.specs.Prelude.{ℕ, ◌%◌, List, [], ◌∷◌, map, take, drop, length, slice_index, slice_index_or, Bool, false, nat_le, ◌==◌, ◌&&◌, Option, Some, None, if◌then◌else◌}
+use Rattle.std.specs.List.{list_any, range_with_len}
 use Rattle.usb_names.specs.declared.codes.ClassCodes.{ClassCodes}
-use Rattle.usb_explain.specs.Roles.{is_association}
+use Rattle.usb_explain.specs.declared.role.Role.{Role}
+use Rattle.usb_explain.specs.declared.role.Role.TheVariants.{Association}
 use Rattle.usb_explain.specs.SettingRemarks.{has_setting}
 
 -- for each of the 256 numbers, whether an interface has it
@@ -23,20 +24,21 @@ is_of_class class type (Some codes) d = (codes.class == class) && (slice_index d
 abbrev pub is_functional : Option ClassCodes → List ℕ → Bool
 is_functional interface d = is_of_class 0x02 0x24 interface d
 
+-- call management goes over a data interface: bits 1 and 0 of bmCapabilities, without which bDataInterface has no meaning
+abbrev pub has_data_interface : List ℕ → Bool
+has_data_interface d = slice_index d 3 % 4 == 3
+
 -- the interfaces that a functional descriptor names: call management its data interface, the fifth byte, and a union a controlling
 -- interface and those below it, from the fourth byte on
 abbrev pub function_interfaces : List ℕ → List ℕ
 function_interfaces d =
-    if slice_index d 2 == 1 then take 1 (drop 4 d)
+    if slice_index d 2 == 1 then (if has_data_interface d then take 1 (drop 4 d) else [])
     else if slice_index d 2 == 6 then drop 3 d
     else []
 
--- those that a descriptor names: a functional one of five bytes at least, and an association its first one
+-- those that a descriptor names: a functional one of five bytes at least
 abbrev pub named_interfaces : Option ClassCodes → List ℕ → List ℕ
-named_interfaces interface d =
-    if is_association d then take 1 (drop 2 d)
-    else if is_functional interface d && nat_le 5 (length d) then function_interfaces d
-    else []
+named_interfaces interface d = if is_functional interface d && nat_le 5 (length d) then function_interfaces d else []
 
 -- the first of these numbers that no interface has
 abbrev pub first_missing : List Bool → List ℕ → Option ℕ
@@ -46,3 +48,8 @@ first_missing numbers (n ∷ ns) = if has_number numbers n then first_missing nu
 -- the first interface that a descriptor names and that isn't there
 unfoldable pub missing_interface : List Bool → Option ClassCodes → List ℕ → Option ℕ
 missing_interface numbers interface d = first_missing numbers (named_interfaces interface d)
+
+-- an association that comes after an interface that it binds, where those before it have these numbers (its ECN, 9.X.Y)
+unfoldable pub is_late : List Bool → Role → List ℕ → Bool
+is_late before Association d = list_any (has_number before) (range_with_len (slice_index d 2) (slice_index d 3))
+is_late before role d = false

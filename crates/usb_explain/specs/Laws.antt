@@ -1,7 +1,7 @@
 -- What holds of the outline of an input, and so of its explanation: each byte is in one descriptor, and of an input no bytes
 -- are left. Each finding stands at its descriptor, with its cause, and the descriptors are those of the input's tree, each with
 -- its owner.
-use Rattle.std.specs.Prelude.{Bool, ◌≡◌, ◌<◌, ◌≤◌, ℕ, true, false, ◌+◌, List, [], ◌∷◌, ◌++◌, length, map, take, drop, flat_map, slice_index, Option}
+use Rattle.std.specs.Prelude.{Bool, ◌≡◌, ◌<◌, ◌≤◌, ℕ, true, false, ◌+◌, List, [], ◌∷◌, ◌++◌, length, map, take, drop, flat_map, slice_index, Option, Err}
 use Rattle.std.specs.List.{AllByRecursion}
 use Rattle.usb_fields.specs.Bytes.{AreBytes}
 use Rattle.usb_file_data.specs.declared.file.Input.{Input}
@@ -9,9 +9,12 @@ use Rattle.usb_file_data.specs.declared.fault.InputFault.{InputFault}
 use Rattle.usb_file_data.specs.Inputs.{InputRefused, IsInput}
 use Rattle.usb_file_data.specs.Findings.{found_in_order, input_findings}
 use Rattle.usb_file_data.specs.declared.cause.Found.{Found}
+use Rattle.usb_text.specs.Shown.{Shown, End}
+use Rattle.usb_explain.specs.declared.manner.Manner.{Manner}
 use Rattle.usb_explain.specs.declared.speed.SetSpeed.{SetSpeed}
 use Rattle.usb_explain.specs.Descriptors.{field_lines, lines_of}
-use Rattle.usb_explain.specs.Faults.{place_of_fault}
+use Rattle.usb_explain.specs.Explanations.{beginning, descriptors_of, explanation}
+use Rattle.usb_explain.specs.Faults.{fault_shown, place_of_fault}
 use Rattle.usb_explain.specs.Findings.{is_here}
 use Rattle.usb_explain.specs.Outline.{Described, Entry, bytes_of, end_of, entries, findings_of, outline}
 use Rattle.usb_explain.specs.Uncovered.{most_uncovered}
@@ -95,3 +98,12 @@ looking brief subject = record subject { manner = record subject.manner { look =
 abbrev pub BriefLeavesOutFields : Type 0
 BriefLeavesOutFields =
     (subject : Subject) (d : Described) → lines_of (looking false subject) d ≡ lines_of (looking true subject) d ++ field_lines subject.names d
+
+-- the explanation of bytes that show a fault has a line for it, right after those of the descriptors before its place
+pub record SaysLineOfFault (manner : Manner) (fault : InputFault) (b : List ℕ) : Type 0 where
+  pub later : List Shown
+  pub lines : explanation manner (Err fault) b ≡ beginning manner (Err fault) b (descriptors_of manner (Err fault) b) ++ (fault_shown fault ++ End ∷ []) ++ later
+
+-- so it is of each fault, in any manner
+abbrev pub AllSayLineOfFault : Type 0
+AllSayLineOfFault = (manner : Manner) (fault : InputFault) (b : List ℕ) → SaysLineOfFault manner fault b

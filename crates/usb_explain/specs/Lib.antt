@@ -9,8 +9,10 @@ pub mod Findings
 pub mod Associations
 pub mod Outline
 pub mod Numbered
+pub mod LastLines
 pub mod Explanations
 pub mod Fragments
+pub mod Containers
 pub mod Faults
 pub mod Lines
 pub mod Uncovered
@@ -40,6 +42,7 @@ pub mod RemarkValues
 pub mod DeviceRemarks
 pub mod SettingRemarks
 pub mod ClassRemarks
+pub mod EndpointAddresses
 pub mod StringRemarks
 pub mod InterfaceNumbers
 pub mod Remarks

@@ -9,11 +9,11 @@ use Rattle.usb_explain.specs.declared.standing.Standing.{Standing}
 use Rattle.usb_explain.specs.declared.place.Place.{Place}
 use Rattle.usb_explain.specs.declared.role.Role.{Role}
 use Rattle.usb_explain.specs.declared.speed.SetSpeed.{SetSpeed}
-use Rattle.usb_explain.specs.Associations.{lacks_associations}
+use Rattle.usb_explain.specs.Associations.{has_associations}
 use Rattle.usb_explain.specs.Bindings.{bound_at}
-use Rattle.usb_explain.specs.Contexts.{codes_of, depth_of, interface_number, rest_of_set, speed_of}
+use Rattle.usb_explain.specs.Contexts.{codes_of, depth_of, interface_number, one_speed_at, rest_of_set, speed_of}
 use Rattle.usb_explain.specs.Findings.{found_at}
-use Rattle.usb_explain.specs.InterfaceNumbers.{missing_interface}
+use Rattle.usb_explain.specs.InterfaceNumbers.{is_late, missing_interface}
 use Rattle.usb_explain.specs.Owners.{owner_of}
 use Rattle.usb_explain.specs.RemarkPlaces.{place_in}
 use Rattle.usb_explain.specs.Roles.{next_role}
@@ -21,10 +21,12 @@ use Rattle.usb_explain.specs.SetStart.{entered}
 use Rattle.usb_explain.specs.SettingRemarks.{follows}
 use Rattle.usb_explain.specs.Standings.{passed, start}
 
--- A descriptor of an input: its place in bytes and among sets, settings and endpoints, its bytes, what it is, how deep and whose, its speed, and what is found there. Then
--- how many associations of its set come before it; the first one of its set that binds an interface of its number; the first
--- interface that it names and its set lacks; whether an interface of its number follows in its set; what the interface is that it follows; what the device is, or the qualifier for the sets after it; how many strings come before it; the bytes of its set after it, where they are all there; and, of a device or a qualifier, whether
--- it says that it has associations and has none.
+-- A descriptor of an input: its place in bytes and among sets, settings and endpoints, its bytes, what it is, how deep and whose,
+-- its speed, and what is found there. Then how many associations of its set come before it; the first one of its set that binds an
+-- interface of its number; the first interface that it names and its set lacks; whether an interface of its number follows in its
+-- set; what the interface is that it follows; how many strings come before it; the bytes of its set after it, where they are all
+-- there. Then whether it is an association after an interface that it binds; of a device or a qualifier whether its sets have
+-- associations, where that is known; and of a qualifier the speed of the sets before and after it, if both have one.
 pub record Described : Type 0 where
   pub at : ℕ
   pub place : Place
@@ -39,10 +41,11 @@ pub record Described : Type 0 where
   pub missing : Option ℕ
   pub follows : Bool
   pub interface : Option ClassCodes
-  pub device : Option ClassCodes
   pub string : ℕ
   pub rest : Option (List ℕ)
-  pub lacks_associations : Bool
+  pub is_late : Bool
+  pub has_associations : Option Bool
+  pub one_speed : Option SetSpeed
 
 -- that which a descriptor of the code says
 abbrev pub described : Descriptor → Described
@@ -60,10 +63,11 @@ described d = record {
   missing = d.missing;
   follows = d.follows;
   interface = d.interface;
-  device = d.device;
   string = d.string;
   rest = option_copied d.rest;
-  lacks_associations = d.lacks_associations;
+  is_late = d.is_late;
+  has_associations = d.has_associations;
+  one_speed = d.one_speed;
 }
 
 -- a descriptor where it stands: what came before it, what it is there, its bytes, those after it, and what is found from it on
@@ -94,10 +98,11 @@ describe running e = record {
   missing = missing_interface e.standing.interfaces (codes_of e.standing.position) e.bytes;
   follows = follows (interface_number e.standing.position e.role e.bytes) (rest_of_set e.standing.position e.bytes e.after);
   interface = codes_of e.standing.position;
-  device = e.standing.codes;
   string = e.standing.position.strings;
   rest = rest_of_set e.standing.position e.bytes e.after;
-  lacks_associations = lacks_associations e.role e.bytes e.after;
+  is_late = is_late e.standing.before e.role e.bytes;
+  has_associations = has_associations e.role e.bytes e.after;
+  one_speed = one_speed_at e.standing e.role;
 }
 
 -- the state at the descriptor with which these bytes begin: in its set, where it begins one

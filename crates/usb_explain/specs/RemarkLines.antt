@@ -1,9 +1,9 @@
 -- The lines of remarks.
-use Rattle.std.specs.Prelude.{ℕ, List, [], ◌∷◌, ◌++◌}
+use Rattle.std.specs.Prelude.{ℕ, List, [], ◌∷◌, ◌++◌, nat_lt, if◌then◌else◌}
 use Rattle.std.specs.List.{flat_map}
 use Rattle.usb_text.specs.Shown.{Shown, Number}
 use Rattle.usb_explain.specs.declared.remark.PacketSizes.{PacketSizes}
-use Rattle.usb_explain.specs.declared.remark.PacketSizes.TheVariants.{Only, UpTo}
+use Rattle.usb_explain.specs.declared.remark.PacketSizes.TheVariants.{NoEndpoint, Only, UpTo}
 use Rattle.usb_explain.specs.declared.remark.Remark.{Remark}
 use Rattle.usb_explain.specs.declared.remark.Remark.TheVariants as remarks
 use Rattle.usb_explain.specs.Lines.{line_below}
@@ -16,27 +16,44 @@ sizes_shown (Only size) = Number size ∷ []
 sizes_shown (UpTo most) = Number most ∷ []
 sizes_shown _ = []
 
--- the numbers of a remark on what a speed has: the values of bInterval, or sizes
+-- the size that there is and those, where there are any
+abbrev pub packet_shown : PacketSizes → ℕ → List Shown
+packet_shown NoEndpoint found = []
+packet_shown sizes found = Number found ∷ sizes_shown sizes
+
+-- the numbers of a remark on what a speed has: the value of bInterval and its range, or sizes
 abbrev pub speed_shown : Remark → List Shown
-speed_shown (remarks.Interval transfer speed range) = Number range.least ∷ Number range.most ∷ []
-speed_shown (remarks.Packet transfer speed sizes) = sizes_shown sizes
-speed_shown (remarks.FirstPacket speed sizes) = sizes_shown sizes
+speed_shown (remarks.Interval transfer speed range found) = Number found ∷ Number range.least ∷ Number range.most ∷ []
+speed_shown (remarks.Packet transfer speed sizes found) = packet_shown sizes found
+speed_shown (remarks.FirstPacket speed sizes found) = Number found ∷ sizes_shown sizes
 speed_shown _ = []
 
+-- those of one on a value: the value, or the size of so many transactions and the least one
+abbrev pub value_shown : Remark → List Shown
+value_shown (remarks.SmallMultiple transactions least found) = Number found ∷ Number transactions ∷ Number least ∷ []
+value_shown (remarks.DefaultIsochronous found) = Number found ∷ []
+value_shown (remarks.DefaultInterrupt found) = Number found ∷ []
+value_shown (remarks.OldQualifier found) = Number found ∷ []
+value_shown (remarks.NoLanguage found) = Number found ∷ []
+value_shown _ = []
+
+-- the length of a HID descriptor, and the one by its bNumDescriptors, if that is there
+abbrev pub hid_shown : ℕ → ℕ → List Shown
+hid_shown due found = if nat_lt found 6 then Number found ∷ [] else Number due ∷ Number found ∷ []
+
 -- those of one on a count: what is said and what there is, what is needed and the most that there is, the length that is due and
--- the one that there is, an interface, or how many transactions need which size
+-- the one that there is, or an interface
 abbrev pub length_shown : Remark → List Shown
 length_shown (remarks.TotalLength declared found) = Number declared ∷ Number found ∷ []
 length_shown (remarks.Current needed most) = Number needed ∷ Number most ∷ []
-length_shown (remarks.HidLength due found) = Number due ∷ Number found ∷ []
+length_shown (remarks.HidLength due found) = hid_shown due found
 length_shown (remarks.ShortFunctional least found) = Number least ∷ Number found ∷ []
 length_shown (remarks.MissingInterface interface) = Number interface ∷ []
-length_shown (remarks.SmallMultiple transactions least) = Number transactions ∷ Number least ∷ []
 length_shown _ = []
 
--- the numbers of a remark, which are of one of the two kinds if there are any
+-- the numbers of a remark, which are of one of the three kinds if there are any
 abbrev pub remark_shown : Remark → List Shown
-remark_shown remark = speed_shown remark ++ length_shown remark
+remark_shown remark = speed_shown remark ++ value_shown remark ++ length_shown remark
 
 -- its line, below a heading of this depth
 unfoldable pub remark_line : ℕ → Remark → List Shown

@@ -5,8 +5,8 @@ use Rattle.usb_explain.specs.declared.remark.Remark.TheVariants as remarks
 
 -- from 1, in the order of their table
 abbrev pub remark_number : Remark → ℕ
-remark_number (remarks.Interval transfer speed range) = 1
-remark_number (remarks.Packet transfer speed sizes) = 2
+remark_number (remarks.Interval transfer speed range found) = 1
+remark_number (remarks.Packet transfer speed sizes found) = 2
 remark_number remarks.ReservedMultiple = 3
 remark_number remarks.PacketBits = 4
 remark_number remarks.ReservedUsage = 5
@@ -15,11 +15,11 @@ remark_number remarks.HighBits = 7
 remark_number remarks.ReservedClass = 8
 remark_number (remarks.TotalLength declared found) = 9
 remark_number (remarks.Current needed most) = 10
-remark_number (remarks.FirstPacket speed sizes) = 11
+remark_number (remarks.FirstPacket speed sizes found) = 11
 remark_number remarks.Release = 12
 remark_number remarks.NoSets = 13
 remark_number remarks.UntoldAssociation = 14
-remark_number remarks.DefaultIsochronous = 15
+remark_number (remarks.DefaultIsochronous found) = 15
 remark_number remarks.EmptyPackets = 16
 remark_number remarks.NoHidDescriptor = 17
 remark_number remarks.LateHidDescriptor = 18
@@ -30,14 +30,17 @@ remark_number (remarks.ShortFunctional least found) = 22
 remark_number remarks.OneDirection = 23
 remark_number remarks.ForbiddenClass = 24
 remark_number (remarks.MissingInterface interface) = 25
-remark_number (remarks.SmallMultiple transactions least) = 26
+remark_number (remarks.SmallMultiple transactions least found) = 26
 remark_number remarks.LateFunctional = 27
 remark_number remarks.NoInterruptIn = 28
 remark_number remarks.NoReport = 29
 remark_number remarks.InterfaceClass = 30
 remark_number remarks.LateAssociation = 31
-remark_number remarks.OldQualifier = 32
-remark_number remarks.NoLanguage = 33
+remark_number (remarks.OldQualifier found) = 32
+remark_number (remarks.NoLanguage found) = 33
 remark_number remarks.EndedString = 34
 remark_number remarks.ClassRelease = 35
 remark_number remarks.NoAssociation = 36
+remark_number (remarks.OneSpeed speed) = 37
+remark_number (remarks.DefaultInterrupt found) = 38
+remark_number remarks.ManyEndpoints = 39

@@ -19,8 +19,10 @@ use Rattle.usb_explain.specs.declared.remark.Remark.{Remark}
 use Rattle.usb_explain.specs.declared.remark.Remark.TheVariants as remarks
 use Rattle.usb_explain.specs.Headers.{header_remark}
 use Rattle.usb_explain.specs.RemarkValues.{is_size, remark_if, there}
-use Rattle.usb_explain.specs.DeviceRemarks.{association_remark, count_remark, device_class_remark, packet_remark, power_remark, qualifier_release_remark, release_remark}
-use Rattle.usb_explain.specs.SettingRemarks.{association_place_remark, default_remark, empty_remark, pipe_remark, setting_remark}
+use Rattle.usb_explain.specs.DeviceRemarks.{associations_remark, count_remark, device_class_remark, one_speed_remark, packet_remark, power_remark, qualifier_release_remark, release_remark}
+use Rattle.usb_explain.specs.EndpointAddresses.{endpoints_remark}
+use Rattle.usb_explain.specs.SettingRemarks.{default_remark, empty_remark, pipe_remark, setting_remark}
+use Rattle.usb_explain.specs.Standings.{device_codes}
 use Rattle.usb_explain.specs.ClassRemarks.{class_release_remark, functional_remark, hid_length_remark, hid_report_remark, late_remark}
 use Rattle.usb_explain.specs.StringRemarks.{languages_remark, text_remark}
 
@@ -49,7 +51,7 @@ is_within range n = nat_le range.least n && nat_le n range.most
 
 -- bInterval that is out of its range
 abbrev pub out_of_range : SetSpeed → TransferType → ℕ → IntervalRange → Option Remark
-out_of_range speed transfer n range = remark_if (not (is_within range n)) (remarks.Interval transfer speed range)
+out_of_range speed transfer n range = remark_if (not (is_within range n)) (remarks.Interval transfer speed range n)
 
 abbrev pub interval_remark : SetSpeed → TransferType → ℕ → Option Remark
 interval_remark speed transfer n = option_and_then (out_of_range speed transfer n) (interval_range speed transfer)
@@ -83,7 +85,7 @@ sizes_at Super _ = None
 
 -- packets of another size
 abbrev pub of_another_size : SetSpeed → TransferType → ℕ → PacketSizes → Option Remark
-of_another_size speed transfer n sizes = remark_if (not (is_size sizes n)) (remarks.Packet transfer speed sizes)
+of_another_size speed transfer n sizes = remark_if (not (is_size sizes n)) (remarks.Packet transfer speed sizes n)
 
 abbrev pub size_remark : SetSpeed → TransferType → ℕ → Option Remark
 size_remark speed transfer n = option_and_then (of_another_size speed transfer n) (sizes_at speed transfer)
@@ -106,7 +108,7 @@ least_size more = if more == 1 then 513 else if more == 2 then 683 else 0
 abbrev pub counted_remark : ℕ → ℕ → Option Remark
 counted_remark more size =
     if more == 3 then Some remarks.ReservedMultiple
-    else remark_if (nat_lt size (least_size more)) (remarks.SmallMultiple (more + 1) (least_size more))
+    else remark_if (nat_lt size (least_size more)) (remarks.SmallMultiple (more + 1) (least_size more) size)
 
 -- elsewhere they are zero
 abbrev pub multiple_remark : SetSpeed → TransferType → ℕ → Option Remark
@@ -169,17 +171,18 @@ remarks_on roles.Device d =
     ++ there (device_class_remark (slice_index d.bytes 4))
     ++ there (packet_remark d.speed (slice_index d.bytes 7))
     ++ there (count_remark (slice_index d.bytes 17) d.findings)
-    ++ there (remark_if d.lacks_associations remarks.NoAssociation)
+    ++ there (associations_remark (device_codes d.bytes) d.has_associations)
 remarks_on roles.Qualifier d =
     there (qualifier_release_remark (little_endian_at d.bytes 2))
     ++ there (device_class_remark (slice_index d.bytes 4))
+    ++ there (packet_remark d.speed (slice_index d.bytes 7))
     ++ there (count_remark (slice_index d.bytes 8) d.findings)
-    ++ there (remark_if d.lacks_associations remarks.NoAssociation)
-remarks_on roles.Configuration d = there (power_remark d.speed (slice_index d.bytes 8))
+    ++ there (associations_remark (device_codes d.bytes) d.has_associations)
+    ++ there (one_speed_remark d.one_speed)
+remarks_on roles.Configuration d =
+    there (power_remark d.speed (slice_index d.bytes 8)) ++ there (endpoints_remark d.speed d.rest)
 remarks_on roles.Association d =
-    there (association_class_remark (slice_index d.bytes 4))
-    ++ there (association_remark d.device)
-    ++ there (association_place_remark d.missing d.follows d.rest)
+    there (association_class_remark (slice_index d.bytes 4)) ++ there (remark_if d.is_late remarks.LateAssociation)
 remarks_on roles.Interface d =
     there (class_remark (slice_index d.bytes 5)) ++ there (setting_remark d.bytes d.rest) ++ there (pipe_remark d.bytes d.rest)
 remarks_on roles.Endpoint d = endpoint_remarks d

@@ -7,7 +7,8 @@ use Rattle.usb_set.specs.declared.endpoint.TransferType.{TransferType}
 use Rattle.usb_set.specs.declared.endpoint.TransferType.TheVariants.{Control, Isochronous, Bulk, Interrupt}
 use Rattle.usb_explain.specs.declared.speed_evidence.Evidence.{Evidence}
 use Rattle.usb_explain.specs.Roles.{is_endpoint, is_interface}
-use Rattle.std.specs.Option.{option_or}
+use Rattle.std.specs.Option.{option_map, option_or}
+use Rattle.usb_explain.specs.declared.device_facts.DeviceFacts.{DeviceFacts}
 use Rattle.usb_explain.specs.declared.speed.SetSpeed.{SetSpeed}
 use Rattle.usb_explain.specs.declared.speed.SetSpeed.TheVariants as speeds
 use Rattle.usb_explain.specs.declared.set_speed.Background.{Background}
@@ -160,6 +161,31 @@ without_low _ speed = speed
 -- the speed of a set
 abbrev pub speed_by : Background → Evidence → SetSpeed
 speed_by background evidence = without_low (low_is_excluded background evidence) (decided_speed background evidence)
+
+-- The two sides of a device of full and high speed: it and its sets, and its qualifier and the sets after that.
+
+-- the speed of a side by its own descriptors alone: the device or the qualifier, the endpoints of its sets, and bMaxPacketSize0
+abbrev pub side_speed : DeviceFacts → Evidence → Option SetSpeed
+side_speed facts evidence =
+    option_map (without_low true)
+    (option_or (option_or facts.speed (proved_speed (Some facts.packet) evidence)) (speed_of_packet (Some facts.packet)))
+
+-- the one that both sides have
+abbrev pub one_speed : Option SetSpeed → Option SetSpeed → Option SetSpeed
+one_speed (Some speeds.Full) (Some speeds.Full) = Some speeds.Full
+one_speed (Some speeds.High) (Some speeds.High) = Some speeds.High
+one_speed own other = None
+
+-- the device is at high speed by its own side
+abbrev pub high_side : Option SetSpeed → Option SetSpeed
+high_side (Some speeds.High) = Some speeds.High
+high_side own = None
+
+-- and its qualifier is of high speed by its side, or beside one of full speed
+abbrev pub high_beside : Option SetSpeed → Option SetSpeed → Option SetSpeed
+high_beside own (Some speeds.High) = Some speeds.High
+high_beside (Some speeds.Full) other = Some speeds.High
+high_beside own other = None
 
 -- What is known of a set before its descriptors are gone over one by one.
 

@@ -1,5 +1,5 @@
 -- How a set begins.
-use Rattle.std.specs.Prelude.{ℕ, List, length, slice_index, take, drop, nat_le, ◌==◌, ◌&&◌, ◌-◌, Bool, false, Option, Some, None, option_and_then, if◌then◌else◌}
+use Rattle.std.specs.Prelude.{ℕ, List, length, replicate, slice_index, take, drop, nat_le, ◌==◌, ◌&&◌, ◌-◌, Bool, false, Option, Some, None, option_and_then, if◌then◌else◌}
 use Rattle.std.specs.Option.{option_or}
 use Rattle.usb_fields.specs.Bytes.{little_endian_at}
 use Rattle.usb_file_data.specs.Likeness.{after_sets}
@@ -8,7 +8,7 @@ use Rattle.usb_explain.specs.declared.speed.SetSpeed.TheVariants.{FullOrHigh}
 use Rattle.usb_explain.specs.declared.set_speed.Background.{Background}
 use Rattle.usb_explain.specs.DeviceFacts.{facts_of_device, facts_of_qualifier}
 use Rattle.usb_explain.specs.Trees.{descriptors}
-use Rattle.usb_explain.specs.SetSpeeds.{other_speed, speed_by, survey_of}
+use Rattle.usb_explain.specs.SetSpeeds.{evidence_of, other_speed, side_speed, speed_by, survey_of}
 use Rattle.usb_explain.specs.declared.role.Role.{Role}
 use Rattle.usb_explain.specs.declared.role.Role.TheVariants.{Configuration, Device}
 use Rattle.usb_explain.specs.declared.device_facts.DeviceFacts.{DeviceFacts}
@@ -57,9 +57,13 @@ speed_after_qualifier b =
 abbrev pub after_own_sets : List ℕ → List ℕ
 after_own_sets ahead = after_sets (slice_index ahead 17) (drop 18 ahead)
 
+-- the first so many sets with which bytes begin, as far as they are there
+abbrev pub sets_ahead : ℕ → List ℕ → List ℕ
+sets_ahead n b = take (length b - length (after_sets n b)) b
+
 -- the bytes of its sets
 abbrev pub own_sets : List ℕ → List ℕ
-own_sets ahead = let sets = drop 18 ahead in take (length sets - length (after_own_sets ahead)) sets
+own_sets ahead = sets_ahead (slice_index ahead 17) (drop 18 ahead)
 
 -- the other speed of the device with which these bytes begin
 unfoldable pub other_ahead : List ℕ → Option SetSpeed
@@ -69,6 +73,18 @@ other_ahead ahead = speed_after_qualifier (after_own_sets ahead)
 unfoldable pub own_ahead : Option SetSpeed → List ℕ → SetSpeed
 own_ahead running ahead = speed_together (background_of running (facts_of_device ahead) (Some FullOrHigh)) (own_sets ahead)
 
+-- the speed of its own side, by that alone
+unfoldable pub own_side : List ℕ → Option SetSpeed
+own_side ahead = side_speed (facts_of_device ahead) (evidence_of (descriptors (own_sets ahead)))
+
+-- that of the side of a qualifier with which these bytes begin
+abbrev pub side_of_qualifier : List ℕ → Option SetSpeed
+side_of_qualifier b = if has_qualifier b then side_speed (facts_of_qualifier b) (evidence_of (descriptors (drop 10 b))) else None
+
+-- that of its other side
+unfoldable pub other_side : List ℕ → Option SetSpeed
+other_side ahead = side_of_qualifier (after_own_sets ahead)
+
 -- what the bytes of a set say of the whole of it, as far as they are there
 unfoldable pub surveyed : Option SetSpeed → List ℕ → Standing → Standing
 surveyed running ahead s =
@@ -77,11 +93,17 @@ surveyed running ahead s =
       speed = speed_by (background_by running s s.device s.qualifier) survey.spoken;
       bindings = survey.bindings;
       interfaces = survey.interfaces;
+      before = replicate 256 false;
     }
 
 -- what is looked for ahead at a descriptor of this role: the two speeds of a device, and what a set says
 abbrev pub looked : Role → Option SetSpeed → List ℕ → Standing → Standing
-looked Device running ahead s = record s { own_speed = own_ahead running ahead; other_speed = other_ahead ahead }
+looked Device running ahead s = record s {
+  own_speed = own_ahead running ahead;
+  own_side = own_side ahead;
+  other_speed = other_ahead ahead;
+  other_side = other_side ahead;
+}
 looked Configuration running ahead s = surveyed running ahead s
 looked _ running ahead s = s
 

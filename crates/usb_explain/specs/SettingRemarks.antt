@@ -1,6 +1,6 @@
--- What is remarked of an interface's setting by the descriptors in it, and of an endpoint by its setting (USB 2.0, 5.6.3 and
--- 9.6.5; HID 1.11, 4.4 and 7.1; CDC 1.2, 5.2.3; Mass Storage Bulk-Only 1.0, 4.3 and 4.4).
-use Rattle.std.specs.Prelude.{ℕ, List, slice_index, Bool, true, false, nat_le, nat_lt, not, ◌==◌, ◌&&◌, Option, Some, None, if◌then◌else◌}
+-- What is remarked of an interface's setting by the descriptors in it, and of an endpoint by its setting (USB 2.0, 5.6.3, 5.7.3
+-- and 9.6.5; HID 1.11, 4.4 and 7.1; CDC 1.2, 5.2.3; Mass Storage Bulk-Only 1.0, 4.3 and 4.4).
+use Rattle.std.specs.Prelude.{ℕ, List, length, slice_index, Bool, true, false, nat_le, nat_lt, not, ◌==◌, ◌&&◌, Option, Some, None, if◌then◌else◌}
 use Rattle.std.specs.List.{list_any, take_while}
 use Rattle.usb_set.specs.Descriptors.{transfer_type_of}
 use Rattle.usb_set.specs.declared.endpoint.TransferType.{TransferType}
@@ -8,7 +8,7 @@ use Rattle.usb_set.specs.declared.endpoint.TransferType.TheVariants.{Isochronous
 use Rattle.usb_explain.specs.declared.owner.DescriptorOwner.{DescriptorOwner}
 use Rattle.usb_explain.specs.declared.owner.InterfaceSetting.{InterfaceSetting}
 use Rattle.usb_explain.specs.declared.speed.SetSpeed.{SetSpeed}
-use Rattle.usb_explain.specs.declared.speed.SetSpeed.TheVariants.{Super}
+use Rattle.usb_explain.specs.declared.speed.SetSpeed.TheVariants.{High, Super}
 use Rattle.usb_explain.specs.declared.remark.Remark.{Remark}
 use Rattle.usb_explain.specs.declared.remark.Remark.TheVariants as remarks
 use Rattle.usb_explain.specs.declared.setting_remark.Wanted.{Wanted}
@@ -44,7 +44,7 @@ is_wanted wanted.HidDescriptor d = slice_index d 1 == 0x21
 is_wanted wanted.InterruptIn d = is_interrupt_in d
 is_wanted wanted.BulkIn d = is_bulk_endpoint d && nat_le 0x80 (slice_index d 2)
 is_wanted wanted.BulkOut d = is_bulk_endpoint d && nat_lt (slice_index d 2) 0x80
-is_wanted wanted.FunctionalHeader d = (slice_index d 1 == 0x24) && (slice_index d 2 == 0)
+is_wanted wanted.FunctionalHeader d = (slice_index d 1 == 0x24) && (nat_le 3 (length d) && (slice_index d 2 == 0))
 
 -- the descriptors of a setting are those up to the next interface
 abbrev pub no_interface : List ℕ → Bool
@@ -93,11 +93,12 @@ abbrev pub in_default_setting : Option DescriptorOwner → Bool
 in_default_setting None = false
 in_default_setting (Some owner) = is_default owner.setting
 
--- An isochronous endpoint of alternate setting 0 has packets of 0 bytes, so that it takes nothing of the bus (5.6.3). Nothing is
--- said of SuperSpeed.
+-- An isochronous endpoint of alternate setting 0 has packets of 0 bytes, so that it takes nothing of the bus (5.6.3), and an
+-- interrupt endpoint of it has at most 64 at high speed (5.7.3). Nothing is said of SuperSpeed.
 abbrev pub default_remark : SetSpeed → TransferType → Option DescriptorOwner → ℕ → Option Remark
 default_remark Super transfer owner size = None
-default_remark speed Isochronous owner size = remark_if (in_default_setting owner && not (size == 0)) remarks.DefaultIsochronous
+default_remark speed Isochronous owner size = remark_if (in_default_setting owner && not (size == 0)) (remarks.DefaultIsochronous size)
+default_remark High Interrupt owner size = remark_if (in_default_setting owner && nat_lt 64 size) (remarks.DefaultInterrupt size)
 default_remark speed transfer owner size = None
 
 -- an interface of this number
@@ -117,11 +118,3 @@ follows number (Some rest) = has_setting number (descriptors rest)
 abbrev pub empty_remark : Option DescriptorOwner → ℕ → Bool → Option (List ℕ) → Option Remark
 empty_remark owner size follows (Some rest) = remark_if ((size == 0) && (in_default_setting owner && not follows)) remarks.EmptyPackets
 empty_remark owner size follows None = None
-
--- ---- an association
-
--- No setting of its first interface follows an association, which stands before all of those that it binds (its ECN, 9.X.Y),
--- and the set has that interface.
-abbrev pub association_place_remark : Option ℕ → Bool → Option (List ℕ) → Option Remark
-association_place_remark None follows (Some rest) = remark_if (not follows) remarks.LateAssociation
-association_place_remark missing follows rest = None

@@ -1,15 +1,22 @@
 -- What is remarked of string descriptors: a language list with a number that is none of a language, and a string that a unit 0
 -- ends, as those of C are (USB 2.0, 9.6.7).
-use Rattle.std.specs.Prelude.{ℕ, List, ◌-◌, drop, length, ◌==◌, ◌&&◌, not, nat_le, Option}
+use Rattle.std.specs.Prelude.{ℕ, ◌+◌, ◌-◌, ◌*◌, List, [], ◌∷◌, drop, length, ◌==◌, ◌&&◌, nat_le, Option, Some, None, if◌then◌else◌}
+use Rattle.std.specs.Option.{option_map}
 use Rattle.usb_fields.specs.Bytes.{little_endian_at}
-use Rattle.usb_file_data.specs.Likeness.{names_languages}
+use Rattle.usb_file_data.specs.Likeness.{is_of_language}
 use Rattle.usb_explain.specs.declared.remark.Remark.{Remark}
 use Rattle.usb_explain.specs.declared.remark.Remark.TheVariants as remarks
 use Rattle.usb_explain.specs.RemarkValues.{remark_if}
 
--- a language list in which not each number is one of a language
+-- the first of these units that is no number of a language
+abbrev pub no_language : List ℕ → Option ℕ
+no_language [] = None
+no_language (low ∷ []) = None
+no_language (low ∷ high ∷ rest) = if is_of_language high then no_language rest else Some (low + 256 * high)
+
+-- that of a language list
 abbrev pub languages_remark : List ℕ → Option Remark
-languages_remark d = remark_if (not (names_languages d)) remarks.NoLanguage
+languages_remark d = option_map remarks.NoLanguage (no_language (drop 2 d))
 
 -- a string whose last unit is 0
 abbrev pub text_remark : List ℕ → Option Remark

@@ -1,13 +1,12 @@
-//! Whether a device says by its class that it has associations, and has none.
+//! Whether the sets of a device or a qualifier have associations.
 ghost use Rattle.std.specs.Prelude.{◌≡◌};
-ghost use Rattle.usb_explain.specs.Associations.{has_association, is_without, lack_associations, lacks_associations, tells_of_none};
+ghost use Rattle.usb_explain.specs.Associations.{are_whole, associations_in, has_association, has_associations, is_whole};
 ghost use Rattle.usb_explain.specs.Trees.{descriptors};
 
-use crate::device_remark::tells_associations;
 use crate::rest_lines::first_descriptor;
 use crate::role::{Role, is_association};
-use crate::standing::device_codes;
-use usb_fields::{after, byte_at, prefix, word_at};
+use crate::set_start::sets_ahead;
+use usb_fields::{after, byte_at, word_at};
 
 /// Whether one of the descriptors of these bytes is an association.
 fn has_association(set: &[u8]) -> bool
@@ -23,43 +22,49 @@ fn has_association(set: &[u8]) -> bool
     false
 }
 
-/// Whether the bytes begin with a set that is all there and has no association.
-fn is_without(b: &[u8]) -> bool
-    ensures { result ≡ is_without b.now }
+/// Whether the bytes begin with a set that is all there.
+fn is_whole(b: &[u8]) -> bool
+    ensures { result ≡ is_whole b.now }
 {
     let total = usize::from(word_at(b, 2));
-    total >= 9 && total <= b.len() && !has_association(prefix(b, total))
+    total >= 9 && total <= b.len()
 }
 
 /// Whether they begin with so many such sets, one after another.
-#[tactic(auto, using(crate::proofs::Lacking::lack_none, crate::proofs::Lacking::lack_step))]
-fn lack_associations(sets: u8, b: &[u8]) -> bool
-    ensures { result ≡ lack_associations sets b.now }
+#[tactic(auto, using(crate::proofs::AssociationSteps::whole_none, crate::proofs::AssociationSteps::whole_step))]
+fn are_whole(sets: u8, b: &[u8]) -> bool
+    ensures { result ≡ are_whole sets b.now }
 {
     if sets == 0 {
         true
-    } else if is_without(b) {
-        lack_associations(sets - 1, after(b, usize::from(word_at(b, 2))))
+    } else if is_whole(b) {
+        are_whole(sets - 1, after(b, usize::from(word_at(b, 2))))
     } else {
         false
     }
 }
 
-/// Whether a device or a qualifier with so many sets after it says that it has associations, and they have none.
-fn tells_of_none(d: &[u8], sets: u8, behind: &[u8]) -> bool
-    ensures { result ≡ tells_of_none d.now sets behind.now }
+/// Whether the first so many sets have an association, as far as they are there; or have none, where they all are.
+fn associations_in(sets: u8, behind: &[u8]) -> Option<bool>
+    ensures { result ≡ associations_in sets behind.now }
 {
-    tells_associations(device_codes(d)) && sets > 0 && lack_associations(sets, behind)
+    if has_association(sets_ahead(sets, behind)) {
+        Some(true)
+    } else if sets > 0 && are_whole(sets, behind) {
+        Some(false)
+    } else {
+        None
+    }
 }
 
-/// Whether a descriptor of this role, with these bytes after it, is such a device or qualifier (USB 2.0, 9.6.1 and 9.6.2).
-#[tactic(auto, unfolding(crate::specs::Associations::lacks_associations))]
-pub(crate) fn lacks_associations(role: Role, d: &[u8], behind: &[u8]) -> bool
-    ensures { result ≡ lacks_associations role d.now behind.now }
+/// Whether the sets of a descriptor of this role, with these bytes after it, have associations (USB 2.0, 9.6.1 and 9.6.2).
+#[tactic(auto, unfolding(crate::specs::Associations::has_associations))]
+pub(crate) fn has_associations(role: Role, d: &[u8], behind: &[u8]) -> Option<bool>
+    ensures { result ≡ has_associations role d.now behind.now }
 {
     match role {
-        Role::Device => tells_of_none(d, byte_at(d, 17), behind),
-        Role::Qualifier => tells_of_none(d, byte_at(d, 8), behind),
-        _ => false,
+        Role::Device => associations_in(byte_at(d, 17), behind),
+        Role::Qualifier => associations_in(byte_at(d, 8), behind),
+        _ => None,
     }
 }

@@ -1,25 +1,41 @@
 //! What is known of a descriptor at its place beside its bytes.
 ghost use Rattle.std.specs.Prelude.{◌≡◌, ◌-◌, length, take};
 ghost use Rattle.std.specs.Option.{option_copied};
-ghost use Rattle.usb_explain.specs.Contexts.{codes_of, depth_of, interface_number, is_super, rest_of_set, speed_of};
+ghost use Rattle.usb_explain.specs.Contexts.{codes_of, depth_of, interface_number, is_super, one_speed_at, rest_of_set, speed_of};
 
 use crate::position::Position;
 use crate::role::Role;
-use crate::set_speed::is_super_device;
+use crate::set_speed::{high_beside, high_side, is_super_device, one_speed};
+use crate::set_start::other_speed_of;
 use crate::speed::SetSpeed;
 use crate::standing::Standing;
 use usb_fields::{byte_at, prefix, word_at};
 use usb_names::ClassCodes;
 
 impl Standing {
-    /// The speed of the device or of the set.
+    /// The speed of the device, of the qualifier or of the set.
     pub(crate) fn speed(&self, running: Option<SetSpeed>, role: Role, d: &[u8]) -> SetSpeed
         ensures { result ≡ speed_of running self.now role d.now }
     {
         match role {
             Role::Device if is_super(running, word_at(d, 2), byte_at(d, 7)) => SetSpeed::Super,
-            Role::Device => running.unwrap_or(SetSpeed::FullOrHigh),
+            Role::Device => running
+                .or(high_side(self.own_side))
+                .unwrap_or(SetSpeed::FullOrHigh),
+            Role::Qualifier => other_speed_of(running)
+                .or(high_beside(self.own_side, self.other_side))
+                .unwrap_or(SetSpeed::FullOrHigh),
             _ => self.speed,
+        }
+    }
+
+    /// The speed that both sides of a device have, at its qualifier.
+    pub(crate) fn one_speed(&self, role: Role) -> Option<SetSpeed>
+        ensures { result ≡ one_speed_at self.now role }
+    {
+        match role {
+            Role::Qualifier => one_speed(self.own_side, self.other_side),
+            _ => None,
         }
     }
 }
@@ -40,12 +56,12 @@ impl Position {
         }
     }
 
-    /// The number of the interface that a descriptor of this role is or names first, or else of the last one before it.
+    /// The number of the interface that a descriptor of this role is, or else of the last one before it.
     pub(crate) fn interface_number(&self, role: Role, d: &[u8]) -> u8
         ensures { result ≡ interface_number self.now role d.now }
     {
         match role {
-            Role::Interface | Role::Association => byte_at(d, 2),
+            Role::Interface => byte_at(d, 2),
             _ => self.interface,
         }
     }

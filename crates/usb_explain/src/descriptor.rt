@@ -21,7 +21,8 @@ pub struct Descriptor<'b> {
     pub depth: u8,
     /// Whose it is. A descriptor outside of sets has no owner.
     pub owner: Option<DescriptorOwner>,
-    /// The speed of its set, or of the device: bMaxPacketSize0 of a device of SuperSpeed is an exponent (USB 3.2, 9.6.1).
+    /// The speed of its set. Of a device and a qualifier their own, as far as it is known or their descriptors prove it:
+    /// bMaxPacketSize0 of a device of SuperSpeed is an exponent (USB 3.2, 9.6.1).
     pub speed: SetSpeed,
     /// The findings that stand at it, with their causes.
     pub findings: &'b [Found],
@@ -29,21 +30,21 @@ pub struct Descriptor<'b> {
     pub associations: usize,
     /// The number of the first association of its set that binds an interface of its number.
     pub association: Option<u64>,
-    /// The first interface that it names and its set lacks: it is a call management or union functional descriptor, or an
-    /// association.
+    /// The first interface that it names and its set lacks: it is a call management or union functional descriptor.
     pub missing: Option<u8>,
-    /// Whether an interface of its number follows in its set, where all of that is there: of the number that it has if it is an
-    /// interface, that it names first if it is an association, and else of that of the interface that it follows.
+    /// Whether a later interface of its set has the same number: its own if it is an interface, else that of the interface before it.
+    /// False if the set is cut off.
     pub follows: bool,
     /// The codes of the interface that it follows.
     pub interface: Option<ClassCodes>,
-    /// The codes of the device, or of the qualifier in the sets after it.
-    pub device: Option<ClassCodes>,
     /// How many strings come before it, which is a string's number among those of a file.
     pub string: usize,
     /// The bytes of its set after it, where they are all there.
     pub rest: Option<&'b [u8]>,
-    /// Whether it is a device or a qualifier that says by its class that it has associations, and its sets, which are all there,
-    /// have none.
-    pub lacks_associations: bool,
+    /// Whether it is an association that comes after an interface that it binds.
+    pub is_late: bool,
+    /// Of a device or a qualifier: whether its sets have associations. `None` if there are none before the sets are cut off.
+    pub has_associations: Option<bool>,
+    /// Of a qualifier: the speed that the sets before and after it both have, by their own descriptors.
+    pub one_speed: Option<SetSpeed>,
 }

@@ -1,7 +1,8 @@
 //! The lines of a descriptor.
-ghost use Rattle.std.specs.Prelude.{◌≡◌, OnOk};
+ghost use Rattle.std.specs.Prelude.{◌≡◌, IfOk, OnOk};
 ghost use Rattle.usb_text.specs.Shown.{showing_all};
 ghost use Rattle.usb_explain.specs.Descriptors.{lines_of};
+ghost use Rattle.usb_explain.specs.LastLines.{remarks_of};
 ghost use Rattle.usb_explain.specs.Outline.{described};
 
 use crate::descriptor::Descriptor;
@@ -14,7 +15,7 @@ use crate::table_names::row_in;
 use std::alloc::AllocError;
 use usb_text::Page;
 
-/// Puts the lines of a descriptor: its heading, its findings, its remarks and its fields.
+/// Puts the lines of a descriptor: its heading, its findings, its remarks and its fields. Answers how many remarks there are.
 ///
 /// # Errors
 ///
@@ -25,12 +26,14 @@ pub(crate) fn put_descriptor<P: Page>(
     page: &mut P,
     subject: &Subject,
     d: &Descriptor<'_>,
-) -> Result<(), AllocError>
-    ensures { OnOk result (P.seen page.new ≡ showing_all P.showing (lines_of subject.now (described d.now)) (P.seen page.old)) }
+) -> Result<usize, AllocError>
+    ensures lines { OnOk result (P.seen page.new ≡ showing_all P.showing (lines_of subject.now (described d.now)) (P.seen page.old)) }
+    ensures remarks { IfOk result (λ remarks. remarks ≡ remarks_of (described d.now)) }
 {
     let row = row_in(d.role, d.interface, d.bytes);
     put_heading(page, subject, d, row)?;
     put_findings(page, d.depth, d.findings)?;
-    put_remarks(page, d)?;
-    put_fields(page, subject, d, row)
+    let remarks = put_remarks(page, d)?;
+    put_fields(page, subject, d, row)?;
+    Ok(remarks)
 }

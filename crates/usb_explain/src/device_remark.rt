@@ -1,7 +1,7 @@
 //! What is remarked of a device, of its qualifier, and of a set.
 ghost use Rattle.std.specs.Prelude.{◌≡◌};
 ghost use Rattle.std.specs.Option.{option_copied};
-ghost use Rattle.usb_explain.specs.DeviceRemarks.{association_remark, count_remark, device_class_remark, finds_nothing, first_packets, is_of_interfaces, is_release, most_current, packet_remark, power_remark, qualifier_release_remark, release_remark, tells_associations};
+ghost use Rattle.usb_explain.specs.DeviceRemarks.{associations_remark, count_remark, device_class_remark, finds_nothing, first_packets, is_of_interfaces, is_release, most_current, one_speed_remark, packet_remark, power_remark, qualifier_release_remark, release_remark, tells_associations};
 
 use crate::remark::{PacketSizes, Remark, is_size, remark_if};
 use crate::speed::SetSpeed;
@@ -28,7 +28,7 @@ pub(crate) fn release_remark(usb: u16) -> Option<Remark>
 pub(crate) fn qualifier_release_remark(usb: u16) -> Option<Remark>
     ensures { result ≡ qualifier_release_remark usb }
 {
-    release_remark(usb).or(remark_if(usb < 0x0200, Remark::OldQualifier))
+    release_remark(usb).or(remark_if(usb < 0x0200, Remark::OldQualifier { found: usb }))
 }
 
 /// Whether interfaces alone have a class, by the list of base classes that the USB-IF keeps.
@@ -65,7 +65,11 @@ pub(crate) fn packet_remark(speed: SetSpeed, packet: u8) -> Option<Remark>
     let sizes = first_packets(speed)?;
     remark_if(
         !is_size(sizes, u16::from(packet)),
-        Remark::FirstPacket { speed, sizes },
+        Remark::FirstPacket {
+            speed,
+            sizes,
+            found: packet,
+        },
     )
 }
 
@@ -104,18 +108,30 @@ pub(crate) fn power_remark(speed: SetSpeed, power: u8) -> Option<Remark>
     remark_if(needed > most, Remark::Current { needed, most })
 }
 
-pub(crate) fn tells_associations(codes: ClassCodes) -> bool
+/// Whether they are the codes of a device with associations.
+fn tells_associations(codes: ClassCodes) -> bool
     ensures { result ≡ tells_associations codes }
 {
     codes.class == 0xef && codes.subclass == 2 && codes.protocol == 1
 }
 
-/// A remark on an association of a device that doesn't say that it has some.
-pub(crate) fn association_remark(device: Option<ClassCodes>) -> Option<Remark>
-    ensures { result ≡ association_remark device }
+/// A remark on a device or a qualifier of these codes by whether its sets have associations, where that is known.
+pub(crate) fn associations_remark(codes: ClassCodes, has: Option<bool>) -> Option<Remark>
+    ensures { result ≡ associations_remark codes has }
 {
-    match device {
+    match has {
         None => None,
-        Some(codes) => remark_if(!tells_associations(codes), Remark::UntoldAssociation),
+        Some(true) => remark_if(!tells_associations(codes), Remark::UntoldAssociation),
+        Some(false) => remark_if(tells_associations(codes), Remark::NoAssociation),
+    }
+}
+
+/// A remark on a qualifier by the speed that the sets before and after it have, if that is one (USB 2.0, 9.6.2).
+pub(crate) fn one_speed_remark(speed: Option<SetSpeed>) -> Option<Remark>
+    ensures { result ≡ one_speed_remark speed }
+{
+    match speed {
+        None => None,
+        Some(speed) => Some(Remark::OneSpeed { speed }),
     }
 }

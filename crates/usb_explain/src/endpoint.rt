@@ -8,6 +8,7 @@ ghost use Rattle.usb_explain.specs.Speeds.{interval_at};
 
 use crate::interval::{is_periodic, put_interval};
 use crate::speed::SetSpeed;
+use crate::speed_evidence::has_multiple;
 use std::alloc::AllocError;
 use usb_fields::{Direction, byte_at, word_at};
 use usb_set::TransferType;
@@ -89,19 +90,22 @@ fn put_size<P: Page>(
     ensures { OnOk result (P.seen page.new ≡ showing_all P.showing (size_shown speed attributes max_packet) (P.seen page.old)) }
 {
     let size = u64::from(max_packet % 2048);
-    if has_packets(speed, TransferType::of(attributes)) {
+    if has_packets(speed, TransferType::of(attributes), max_packet) {
         put_packets(page, transactions(max_packet), size)
     } else {
         page.put_count(size, "byte")
     }
 }
 
-/// Whether bits 12..11 of wMaxPacketSize count packets.
-fn has_packets(speed: SetSpeed, transfer: TransferType) -> bool
-    ensures { result ≡ has_packets speed transfer }
+/// Whether bits 12..11 of wMaxPacketSize count packets: at high speed, or where that is open and their size is one of so many.
+fn has_packets(speed: SetSpeed, transfer: TransferType, max_packet: u16) -> bool
+    ensures { result ≡ has_packets speed transfer max_packet }
 {
     match (speed, transfer) {
         (SetSpeed::High, TransferType::Isochronous | TransferType::Interrupt) => true,
+        (SetSpeed::FullOrHigh, TransferType::Isochronous | TransferType::Interrupt) => {
+            has_multiple(max_packet)
+        }
         _ => false,
     }
 }

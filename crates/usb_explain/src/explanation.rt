@@ -1,20 +1,20 @@
 //! Whole explanations.
-ghost use Rattle.std.specs.Prelude.{◌≡◌, ◌⊎◌, ◌+◌, ◌<◌, ◌^◌, length, IfErr, IfOk, IsTrue, OnErr, OnOk};
+ghost use Rattle.std.specs.Prelude.{◌≡◌, ◌⊎◌, ◌<◌, ◌^◌, length, IfErr, IfOk, IsTrue, OnErr, OnOk};
 ghost use Rattle.std.specs.Io.KnownBytes.{Keeps};
-ghost use Rattle.std.specs.List.{flat_map};
 ghost use Rattle.usb_text.specs.Shown.{ends, showing_all};
-ghost use Rattle.usb_text.specs.Written.{WritesLess, WritesLines, is_words, written};
-ghost use Rattle.usb_explain.specs.Descriptors.{lines_of};
-ghost use Rattle.usb_explain.specs.Explanations.{EndsBetween, before_fault, ending, explanation, first_line, found_of, last_line};
+ghost use Rattle.usb_text.specs.Written.{WritesLess, WritesLines, is_words};
+ghost use Rattle.usb_explain.specs.Explanations.{EndsBetween, before_fault, descriptors_of, ending, explanation, first_line, found_of};
+ghost use Rattle.usb_explain.specs.LastLines.{remark_count};
 ghost use Rattle.usb_explain.specs.Outline.{bytes_of, outline};
-ghost use Rattle.usb_explain.specs.inside.Explaining.{PutsDescriptors, StopsBetween};
+ghost use Rattle.usb_explain.specs.inside.Explaining.{ShowsEach, ShowsExplanation, StopsAtOne, StopsExplanation};
 
 use crate::descriptor_lines::put_descriptor;
 use crate::fault_line::{fault_place, put_fault_lines};
+use crate::last_line::put_last_line;
 use crate::manner::Manner;
 use crate::outline::Outline;
+use crate::passing_page::PassingPage;
 use crate::rest_lines::put_rest;
-use crate::speed::SetSpeed;
 use crate::subject::Subject;
 use std::alloc::{AllocError, Global};
 use std::io::Write;
@@ -45,14 +45,29 @@ pub fn explain<W: Write>(
     ensures err { OnErr result (WritesLess manner.look.utf8 (ends (explanation manner read.now bytes.now)) (W.contents w.old) (W.contents w.new)) }
     ensures memory { IfErr result (λ fault. fault ≡ OutFault.Memory → Keeps (W.contents w.old) (W.contents w.new) ⊎ EndsBetween manner read.now bytes.now (W.contents w.old) (W.contents w.new)) }
 {
+    let mut lines = Lines::with_room(alloc, manner.look.utf8)?;
+    put_explanation(alloc, &mut lines, bytes, read, manner, w)?;
+    lines.finish(w)
+}
+
+/// Puts the explanation of bytes of which this was read on a page: the first line, the lines of each descriptor, and what ends it.
+fn put_explanation<W: Write, P: PassingPage<W>>(
+    alloc: Global,
+    page: &mut P,
+    bytes: &[u8],
+    read: &Result<Input, InputFault>,
+    manner: Manner,
+    w: &mut W,
+) -> Result<(), OutFault>
+    ensures shows { OnOk result (ShowsExplanation P.seen P.showing P.passed manner read.now bytes.now page.old w.old page.new w.new) }
+    ensures stops { IfErr result (StopsExplanation P.seen P.showing P.passed P.broken manner read.now bytes.now page.old w.old w.new) }
+{
     let found = found_of(alloc, read)?;
     let subject = Subject::of(alloc, manner, read)?;
-    let mut lines = Lines::with_room(alloc, manner.look.utf8)?;
-    put_first_line(&mut lines, read, bytes)?;
-    let described = before_fault(read, bytes);
-    let place = write_descriptors(&mut lines, &subject, described, manner.speed, &found, w)?;
-    put_ending(&mut lines, manner, read, found.len(), bytes, place)?;
-    lines.finish(w)
+    put_first_line(page, read, bytes)?;
+    let put = put_descriptors(page, &subject, before_fault(read, bytes), &found, w)?;
+    put_ending(page, manner, read, found.len(), bytes, put)?;
+    Ok(())
 }
 
 /// What breaks a rule, in the order of the bytes.
@@ -75,30 +90,41 @@ fn before_fault<'b>(read: &Result<Input, InputFault>, bytes: &'b [u8]) -> &'b [u
     }
 }
 
-/// Writes the lines of the descriptors of these bytes, as their outline has them. Answers how many bytes those have.
-fn write_descriptors<W: Write>(
-    lines: &mut Lines,
-    subject: &Subject,
-    bytes: &[u8],
-    running: Option<SetSpeed>,
-    found: &[Found],
-    w: &mut W,
-) -> Result<usize, OutFault>
-    requires { length (bytes_of (outline running found.now bytes.now)) < 2 ^ 63 }
-    ensures ok { IfOk result (PutsDescriptors subject.now (outline running found.now bytes.now) (W.contents w.old) (W.contents w.new) (written lines.old) (written lines.new)) }
-    ensures err { OnErr result (WritesLess lines.old.utf8 ((written lines.old).ended + ends (flat_map (lines_of subject.now) (outline running found.now bytes.now))) (W.contents w.old) (W.contents w.new)) }
-    ensures memory { IfErr result (λ fault. fault ≡ OutFault.Memory → StopsBetween subject.now (outline running found.now bytes.now) (written lines.old) (W.contents w.old) (W.contents w.new)) }
-{
-    let mut place = 0;
-    for descriptor in Outline::of(bytes, running, found) {
-        put_descriptor(lines, subject, &descriptor)?;
-        lines.pass_on(w)?;
-        place += descriptor.bytes.len();
-    }
-    Ok(place)
+/// Descriptors whose lines were put.
+#[derive(Clone, Copy)]
+struct DescriptorsPut {
+    /// Where they end.
+    end: usize,
+    /// How many remarks there are on them, as far as a count goes.
+    remarks: usize,
 }
 
-/// Puts what ends an explanation, with so many findings, where the descriptors end at this place.
+/// Puts the lines of the descriptors of these bytes, as their outline has them, and passes them on.
+fn put_descriptors<W: Write, P: PassingPage<W>>(
+    page: &mut P,
+    subject: &Subject,
+    bytes: &[u8],
+    found: &[Found],
+    w: &mut W,
+) -> Result<DescriptorsPut, OutFault>
+    requires { length (bytes_of (outline subject.now.manner.speed found.now bytes.now)) < 2 ^ 63 }
+    ensures shows { OnOk result (ShowsEach P.seen P.showing P.passed subject.now (outline subject.now.manner.speed found.now bytes.now) page.old w.old page.new w.new) }
+    ensures end { IfOk result (λ put. put.end ≡ length (bytes_of (outline subject.now.manner.speed found.now bytes.now))) }
+    ensures remarks { IfOk result (λ put. put.remarks ≡ remark_count (outline subject.now.manner.speed found.now bytes.now)) }
+    ensures stops { IfErr result (StopsAtOne P.seen P.showing P.passed P.broken subject.now (outline subject.now.manner.speed found.now bytes.now) page.old w.old w.new) }
+{
+    let mut end = 0;
+    let mut remarks: usize = 0;
+    for descriptor in Outline::of(bytes, subject.manner().speed, found) {
+        let more = put_descriptor(page, subject, &descriptor)?;
+        page.pass_lines(w)?;
+        end += descriptor.bytes.len();
+        remarks = remarks.saturating_add(more);
+    }
+    Ok(DescriptorsPut { end, remarks })
+}
+
+/// Puts what ends an explanation with so many findings, after these descriptors.
 #[tactic(auto, using(usb_text::proofs::ShownLines::showing_joined))]
 fn put_ending<P: Page>(
     page: &mut P,
@@ -106,20 +132,21 @@ fn put_ending<P: Page>(
     read: &Result<Input, InputFault>,
     findings: usize,
     bytes: &[u8],
-    place: usize,
+    put: DescriptorsPut,
 ) -> Result<(), AllocError>
-    requires { findings ≡ length (found_of read.now) }
-    ensures { OnOk result (P.seen page.new ≡ showing_all P.showing (ending manner read.now bytes.now place) (P.seen page.old)) }
+    requires findings { findings ≡ length (found_of read.now) }
+    requires remarks { put.remarks ≡ remark_count (descriptors_of manner read.now bytes.now) }
+    ensures { OnOk result (P.seen page.new ≡ showing_all P.showing (ending manner read.now bytes.now put.end) (P.seen page.old)) }
 {
-    let rest = after(bytes, place);
+    let rest = after(bytes, put.end);
     match read {
         Ok(_) => {
-            put_rest(page, manner.look, place, rest)?;
-            put_last_line(page, findings)
+            put_rest(page, manner.look, put.end, rest)?;
+            put_last_line(page, findings, put.remarks)
         }
         Err(fault) => {
             put_fault_lines(page, manner.decoded, *fault, bytes)?;
-            put_rest(page, manner.look, place, rest)
+            put_rest(page, manner.look, put.end, rest)
         }
     }
 }
@@ -137,17 +164,6 @@ fn put_first_line<P: Page>(
     })?;
     page.put(", ")?;
     page.put_count(bytes.len() as u64, "byte")?;
-    page.end_line()
-}
-
-fn put_last_line<P: Page>(page: &mut P, findings: usize) -> Result<(), AllocError>
-    ensures { OnOk result (P.seen page.new ≡ showing_all P.showing (last_line findings) (P.seen page.old)) }
-{
-    if findings == 0 {
-        page.put("no findings")?;
-    } else {
-        page.put_count(findings as u64, "finding")?;
-    }
     page.end_line()
 }
 

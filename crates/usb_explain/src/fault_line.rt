@@ -1,8 +1,10 @@
 //! The lines of the fault of a broken input: what is wrong, and what its bytes look like.
 ghost use Rattle.std.specs.Prelude.{◌≡◌, ◌∷◌, [], OnOk};
 ghost use Rattle.usb_text.specs.Shown.{Number, showing_all};
-ghost use Rattle.usb_explain.specs.Faults.{fault_lines, fault_shown, likeness_line, likeness_shown, place_of_fault, seen_likeness};
+ghost use Rattle.usb_explain.specs.Faults.{fault_lines, fault_shown, likeness_line, likeness_shown, look_line, place_of_fault, seen_likeness};
+ghost use Rattle.usb_explain.specs.Containers.{container_of};
 
+use crate::container::{container_of, put_container};
 use std::alloc::AllocError;
 use usb_file_data::{FileWhy, InputFault, Likeness, likeness_of};
 use usb_text::Page;
@@ -32,7 +34,22 @@ pub(crate) fn put_fault_lines<P: Page>(
     page.put("  ! ")?;
     put_fault(page, fault)?;
     page.end_line()?;
-    put_likeness(page, seen_likeness(decoded, likeness_of(fault, bytes)))
+    put_look(page, decoded, fault, bytes)
+}
+
+/// Puts the line of what bytes begin as, or else of what they look like.
+fn put_look<P: Page>(
+    page: &mut P,
+    decoded: bool,
+    fault: InputFault,
+    bytes: &[u8],
+) -> Result<(), AllocError>
+    ensures { OnOk result (P.seen page.new ≡ showing_all P.showing (look_line decoded fault bytes.now (container_of bytes.now)) (P.seen page.old)) }
+{
+    match container_of(bytes) {
+        None => put_likeness(page, seen_likeness(decoded, likeness_of(fault, bytes))),
+        Some(container) => put_container(page, container, bytes),
+    }
 }
 
 /// What bytes look like; those that were decoded from text are not called text.

@@ -1,11 +1,12 @@
 //! Explanations of fragments: descriptors one after another, or a setup packet.
-ghost use Rattle.std.specs.Prelude.{◌≡◌, ◌+◌, ◌≤◌, ◌<◌, ◌^◌, IfOk, OnErr, OnOk, length};
+ghost use Rattle.std.specs.Prelude.{◌≡◌, ◌+◌, ◌≤◌, ◌<◌, ◌^◌, IfErr, IfOk, OnErr, OnOk, length};
+ghost use Rattle.std.specs.Io.KnownBytes.{Keeps};
 ghost use Rattle.std.specs.List.{flat_map};
 ghost use Rattle.usb_text.specs.Shown.{ends, showing_all};
 ghost use Rattle.usb_text.specs.Written.{WritesLess, WritesLines};
 ghost use Rattle.usb_explain.specs.Descriptors.{lines_of};
 ghost use Rattle.usb_explain.specs.Explanations.{first_line};
-ghost use Rattle.usb_explain.specs.Fragments.{class_alone, described_alone, descriptors_lines, fragment, fragment_lines, fragment_start, hub_length, interface_codes, position_past, role_alone, speed_alone, string_alone};
+ghost use Rattle.usb_explain.specs.Fragments.{class_alone, described_alone, descriptors_lines, fragment, fragment_lines, fragment_start, hub_length, interface_codes, position_past, role_alone, speed_alone, speed_there, string_alone};
 ghost use Rattle.usb_explain.specs.Outline.{bytes_of, described};
 
 use crate::class_remark::hid_length;
@@ -15,6 +16,7 @@ use crate::manner::Manner;
 use crate::place::outside;
 use crate::rest_lines::{descriptor_length, put_rest};
 use crate::role::{Role, is_association, is_interface, typed_role};
+use crate::set_speed::other_speed;
 use crate::setup_lines::{is_setup, put_setup};
 use crate::speed::SetSpeed;
 use crate::subject::Subject;
@@ -34,7 +36,8 @@ use usb_text::{Lines, OutFault, Page};
 ///
 /// # Errors
 ///
-/// `Write` where the writer failed, `Memory` when out of memory. The writer has fewer lines then, and maybe a part of one more.
+/// `Write` where the writer failed, `Memory` when out of memory. The writer has fewer lines then, and maybe a part of one more; of
+/// `Memory` nothing.
 pub fn explain_fragment<W: Write>(
     alloc: Global,
     bytes: &[u8],
@@ -43,6 +46,7 @@ pub fn explain_fragment<W: Write>(
 ) -> Result<(), OutFault>
     ensures ok { OnOk result (WritesLines manner.look.utf8 (ends (fragment_lines manner bytes.now)) (W.contents w.old) (W.contents w.new)) }
     ensures err { OnErr result (WritesLess manner.look.utf8 (ends (fragment_lines manner bytes.now)) (W.contents w.old) (W.contents w.new)) }
+    ensures memory { IfErr result (λ fault. fault ≡ OutFault.Memory → Keeps (W.contents w.old) (W.contents w.new)) }
 {
     let mut lines = Lines::new(alloc, manner.look.utf8);
     put_fragment(alloc, &mut lines, manner, bytes)?;
@@ -146,24 +150,26 @@ impl FragmentPosition {
     fn describe(self, speed: SetSpeed, d: &[u8]) -> Descriptor<'_>
         ensures { described result ≡ described_alone speed self d.now }
     {
+        let role = role_alone(d);
         Descriptor {
             at: self.at,
             place: outside(Part::Device),
             bytes: d,
-            role: role_alone(d),
+            role,
             depth: 0,
             owner: None,
-            speed,
+            speed: speed_there(role, speed),
             findings: &[],
             associations: self.associations,
             association: None,
             missing: None,
             follows: false,
             interface: self.interface.or(class_alone(d)),
-            device: None,
             string: 0,
             rest: None,
-            lacks_associations: false,
+            is_late: false,
+            has_associations: None,
+            one_speed: None,
         }
     }
 
@@ -186,6 +192,16 @@ impl FragmentPosition {
                 self.associations
             },
         }
+    }
+}
+
+/// The speed of a descriptor, where the device has this one: a qualifier is of the other.
+fn speed_there(role: Role, speed: SetSpeed) -> SetSpeed
+    ensures { result ≡ speed_there role speed }
+{
+    match role {
+        Role::Qualifier => other_speed(speed).unwrap_or(SetSpeed::FullOrHigh),
+        _ => speed,
     }
 }
 

@@ -1,9 +1,10 @@
 //! The numbers of the interfaces of a set, and which of them a descriptor names.
-ghost use Rattle.std.specs.Prelude.{◌≡◌, ◌<◌, ◌||◌, ℕ, false, length, replicate};
-ghost use Rattle.usb_explain.specs.InterfaceNumbers.{first_missing, function_interfaces, has_number, is_functional, is_of_class, missing_interface, named_interfaces};
+ghost use Rattle.std.specs.Prelude.{◌≡◌, ◌<◌, ◌+◌, ◌^◌, ◌||◌, ℕ, true, false, length, replicate, slice_set};
+ghost use Rattle.std.specs.List.{list_any, range_with_len};
+ghost use Rattle.usb_explain.specs.InterfaceNumbers.{first_missing, function_interfaces, has_data_interface, has_number, is_functional, is_late, is_of_class, missing_interface, named_interfaces};
 ghost use Rattle.usb_explain.specs.SettingRemarks.{is_numbered};
 
-use crate::role::{is_association, is_interface};
+use crate::role::{Role, is_interface};
 use std::marker::Model;
 use usb_fields::{after, byte_at, prefix};
 use usb_names::ClassCodes;
@@ -44,6 +45,50 @@ impl InterfaceNumbers {
     {
         if is_interface(d) {
             self.has[usize::from(byte_at(d, 2))] = true;
+        }
+    }
+
+    /// Adds a number.
+    pub(crate) fn mark(&mut self, number: u8)
+        ensures { self.new ≡ slice_set self.old number true }
+    {
+        self.has[usize::from(number)] = true;
+    }
+
+    /// Whether it is an association that comes after an interface that it binds, where those before it have these numbers (its
+    /// ECN, 9.X.Y).
+    #[tactic(auto, unfolding(crate::specs::InterfaceNumbers::is_late))]
+    pub(crate) fn is_late(&self, role: Role, d: &[u8]) -> bool
+        ensures { result ≡ is_late self.now role d.now }
+    {
+        match role {
+            Role::Association => self.has_any(usize::from(byte_at(d, 2)), byte_at(d, 3)),
+            _ => false,
+        }
+    }
+
+    /// Whether an interface has one of so many numbers from the first on.
+    #[tactic(auto, using(crate::proofs::NumberSteps::any_none, crate::proofs::NumberSteps::any_step))]
+    fn has_any(&self, first: usize, count: u8) -> bool
+        requires { first + count < 2 ^ 64 }
+        ensures { result ≡ list_any (has_number self.now) (range_with_len first count) }
+    {
+        if count == 0 {
+            false
+        } else if self.has_at(first) {
+            true
+        } else {
+            self.has_any(first + 1, count - 1)
+        }
+    }
+
+    /// The same of a number that may be above all of them.
+    fn has_at(&self, number: usize) -> bool
+        ensures { result ≡ has_number self.now number }
+    {
+        match self.has.get(number) {
+            None => false,
+            Some(has) => *has,
         }
     }
 
@@ -92,25 +137,30 @@ pub(crate) fn is_functional(interface: Option<ClassCodes>, d: &[u8]) -> bool
     is_of_class(0x02, 0x24, interface, d)
 }
 
+/// Whether call management goes over a data interface, by bits 1 and 0 of bmCapabilities (PSTN 1.2, 5.3.1).
+fn has_data_interface(d: &[u8]) -> bool
+    ensures { result ≡ has_data_interface d.now }
+{
+    byte_at(d, 3) % 4 == 3
+}
+
 /// The interfaces that a functional descriptor names: the data interface of call management (PSTN 1.2, 5.3.1), or all of a union
 /// (CDC 1.2, 5.2.3.2).
 fn function_interfaces(d: &[u8]) -> &[u8]
     ensures { result.now ≡ function_interfaces d.now }
 {
     match byte_at(d, 2) {
-        1 => prefix(after(d, 4), 1),
+        1 if has_data_interface(d) => prefix(after(d, 4), 1),
         6 => after(d, 3),
         _ => &[],
     }
 }
 
-/// The interfaces that a descriptor names: those of a functional one, and the first one of an association.
+/// The interfaces that a descriptor names.
 fn named_interfaces(interface: Option<ClassCodes>, d: &[u8]) -> &[u8]
     ensures { result.now ≡ named_interfaces interface d.now }
 {
-    if is_association(d) {
-        prefix(after(d, 2), 1)
-    } else if is_functional(interface, d) && d.len() >= 5 {
+    if is_functional(interface, d) && d.len() >= 5 {
         function_interfaces(d)
     } else {
         &[]

@@ -156,6 +156,7 @@ pub(crate) fn interval_remark(
             transfer,
             speed,
             range,
+            found: interval,
         })
     }
 }

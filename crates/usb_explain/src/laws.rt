@@ -2,7 +2,7 @@
 //! functions of these laws do nothing: their contracts are the laws.
 ghost use Rattle.usb_explain.specs.FieldLaws.{AllFieldsHaveAllBytes};
 ghost use Rattle.usb_explain.specs.Fragments.{AllFragmentBytesOnce};
-ghost use Rattle.usb_explain.specs.Laws.{AllEachByteOnce, BriefLeavesOutFields, BrokenCoversUpToFault, WholeHasNoRest, WholeShowsTree, WholeReportsFindings};
+ghost use Rattle.usb_explain.specs.Laws.{AllEachByteOnce, AllSayLineOfFault, BriefLeavesOutFields, BrokenCoversUpToFault, WholeHasNoRest, WholeShowsTree, WholeReportsFindings};
 ghost use Rattle.usb_explain.specs.Numbered.{NumbersAreOutline};
 ghost use Rattle.usb_explain.specs.OwnedEndpoints.{WholeShowsEndpoints};
 ghost use Rattle.usb_explain.specs.Remarks.{FullOrHighIsOpen, LowOrFullIsOpen};
@@ -25,6 +25,12 @@ pub fn each_byte_of_a_fragment_is_in_one_descriptor()
 /// first descriptor of a set is at fault, at most two of its bytes.
 pub fn a_broken_input_is_explained_up_to_its_fault()
     ensures { BrokenCoversUpToFault }
+{}
+
+/// An explanation says the line of its fault: of bytes that `read_input` refuses it has, right after the lines of the descriptors
+/// before the place of the fault, a line with the fault's number, if it has one, and its place.
+pub fn an_explanation_says_the_line_of_its_fault()
+    ensures { AllSayLineOfFault }
 {}
 
 /// Each finding once: the findings that stand at the descriptors are, in the order of the bytes, just those that `check` reports

@@ -14,19 +14,22 @@
 //!
 //! [`laws`] says what holds of each outline: every byte of the input is in one descriptor, the descriptors are those that were
 //! read, each with its owner, every finding stands at one of them, every byte of a descriptor is in one field; a brief
-//! explanation leaves out the lines of fields alone; and a remark at an open speed holds at both speeds.
+//! explanation leaves out the lines of fields alone, and that of a broken input has the line of its fault; and a remark at an open
+//! speed holds at both speeds.
 #![tactic(auto)]
 
 mod associations;
 mod bindings;
 mod bits;
 mod class_remark;
+mod container;
 mod context;
 mod descriptor;
 mod descriptor_lines;
 mod device_facts;
 mod device_remark;
 mod endpoint;
+mod endpoint_addresses;
 mod explanation;
 mod fault_line;
 mod field;
@@ -41,6 +44,7 @@ mod header;
 mod heading;
 mod interface_numbers;
 mod interval;
+mod last_line;
 mod later_interfaces;
 pub mod laws;
 mod line;
@@ -48,6 +52,7 @@ mod manner;
 mod names;
 mod outline;
 mod owner;
+mod passing_page;
 mod place;
 mod placed_remark;
 mod position;

@@ -8,7 +8,7 @@ ghost use Rattle.usb_explain.specs.Positions.{position_at};
 ghost use Rattle.usb_explain.specs.inside.Coming.{Awaits};
 ghost use Rattle.usb_explain.specs.inside.Walking.{Counted};
 
-use crate::associations::lacks_associations;
+use crate::associations::has_associations;
 use crate::descriptor::Descriptor;
 use crate::later_interfaces::LaterInterfaces;
 use crate::role::Role;
@@ -154,10 +154,11 @@ impl Standing {
             missing: self.interfaces.missing(self.position.codes(), bytes),
             follows: later.follows(self.position.interface_number(role, bytes), rest),
             interface: self.position.codes(),
-            device: self.codes,
             string: self.position.strings,
             rest,
-            lacks_associations: lacks_associations(role, bytes, behind),
+            is_late: self.before.is_late(role, bytes),
+            has_associations: has_associations(role, bytes, behind),
+            one_speed: self.one_speed(role),
         };
         (here, left)
     }

@@ -39,12 +39,16 @@ pub enum Remark {
         transfer: TransferType,
         speed: SetSpeed,
         range: IntervalRange,
+        /// bInterval.
+        found: u8,
     },
     /// A packet has none of the sizes that it can have at this speed.
     Packet {
         transfer: TransferType,
         speed: SetSpeed,
         sizes: PacketSizes,
+        /// Bits 10 to 0 of wMaxPacketSize.
+        found: u16,
     },
     /// Bits 12 to 11 of wMaxPacketSize are 3 where they count transactions.
     ReservedMultiple,
@@ -76,20 +80,25 @@ pub enum Remark {
     FirstPacket {
         speed: SetSpeed,
         sizes: PacketSizes,
+        /// bMaxPacketSize0.
+        found: u8,
     },
     /// bcdUSB is no release of USB: 1.0, 1.1, 2.0, 2.01, 2.1, 2.5, 3.0, 3.1 or 3.2.
     Release,
     /// bNumConfigurations is 0, and the input is broken.
     NoSets,
-    /// The device or the qualifier of an association isn't of class EF, subclass 02, protocol 01.
+    /// A device or a qualifier whose sets have associations isn't of class EF, subclass 02, protocol 01.
     UntoldAssociation,
     /// An isochronous endpoint of alternate setting 0 has packets of more than 0 bytes.
-    DefaultIsochronous,
+    DefaultIsochronous {
+        /// Their size.
+        found: u16,
+    },
     /// An endpoint of alternate setting 0 has packets of 0 bytes, and no setting of its interface follows.
     EmptyPackets,
     /// A HID interface has no HID descriptor.
     NoHidDescriptor,
-    /// A HID descriptor stands after an endpoint of its interface.
+    /// A HID descriptor comes after an endpoint of its interface.
     LateHidDescriptor,
     /// The length of a HID descriptor isn't that by its bNumDescriptors.
     HidLength {
@@ -124,8 +133,10 @@ pub enum Remark {
         transactions: u8,
         /// The least size of so many.
         least: u16,
+        /// Their size.
+        found: u16,
     },
-    /// A functional descriptor stands after an endpoint of its interface.
+    /// A functional descriptor comes after an endpoint of its interface.
     LateFunctional,
     /// A HID interface has no interrupt endpoint to the host.
     NoInterruptIn,
@@ -133,18 +144,35 @@ pub enum Remark {
     NoReport,
     /// The class of a device or a qualifier is one that interfaces alone have.
     InterfaceClass,
-    /// An association stands after the interfaces that it binds.
+    /// An association comes after an interface that it binds.
     LateAssociation,
     /// bcdUSB of a qualifier is below 2.0.
-    OldQualifier,
+    OldQualifier {
+        /// bcdUSB.
+        found: u16,
+    },
     /// A number in the language list is none of a language: bits 9 to 8 of it aren't zero, or bits 15 to 10 are.
-    NoLanguage,
+    NoLanguage {
+        /// The first one.
+        found: u16,
+    },
     /// The last unit of a string is 0.
     EndedString,
     /// bcdHID or bcdCDC is below 1.0, or 10.0 or more.
     ClassRelease,
     /// A device or a qualifier of class EF, subclass 02, protocol 01 has no association.
     NoAssociation,
+    /// The sets before and after a qualifier have one speed by their own descriptors.
+    OneSpeed {
+        speed: SetSpeed,
+    },
+    /// An interrupt endpoint of alternate setting 0 has packets of more than 64 bytes at high speed.
+    DefaultInterrupt {
+        /// Their size.
+        found: u16,
+    },
+    /// A set has more than two endpoints at low speed.
+    ManyEndpoints,
 }
 
 impl Remark {
@@ -171,7 +199,7 @@ impl Remark {
             Remark::Release => 12,
             Remark::NoSets => 13,
             Remark::UntoldAssociation => 14,
-            Remark::DefaultIsochronous => 15,
+            Remark::DefaultIsochronous { .. } => 15,
             Remark::EmptyPackets => 16,
             Remark::NoHidDescriptor => 17,
             Remark::LateHidDescriptor => 18,
@@ -188,11 +216,14 @@ impl Remark {
             Remark::NoReport => 29,
             Remark::InterfaceClass => 30,
             Remark::LateAssociation => 31,
-            Remark::OldQualifier => 32,
-            Remark::NoLanguage => 33,
+            Remark::OldQualifier { .. } => 32,
+            Remark::NoLanguage { .. } => 33,
             Remark::EndedString => 34,
             Remark::ClassRelease => 35,
             Remark::NoAssociation => 36,
+            Remark::OneSpeed { .. } => 37,
+            Remark::DefaultInterrupt { .. } => 38,
+            Remark::ManyEndpoints => 39,
         }
     }
 }
@@ -256,6 +287,7 @@ pub(crate) fn size_remark(speed: SetSpeed, transfer: TransferType, size: u16) ->
             transfer,
             speed,
             sizes,
+            found: size,
         })
     }
 }
@@ -305,6 +337,7 @@ fn counted_remark(more: u8, size: u16) -> Option<Remark>
             Remark::SmallMultiple {
                 transactions,
                 least,
+                found: size,
             },
         )
     }

@@ -10,9 +10,10 @@ use crate::class_remark::{
 };
 use crate::descriptor::Descriptor;
 use crate::device_remark::{
-    association_remark, count_remark, device_class_remark, packet_remark, power_remark,
-    qualifier_release_remark, release_remark,
+    associations_remark, count_remark, device_class_remark, one_speed_remark, packet_remark,
+    power_remark, qualifier_release_remark, release_remark,
 };
+use crate::endpoint_addresses::endpoints_remark;
 use crate::header::header_remark;
 use crate::interval::interval_remark;
 use crate::remark::{
@@ -20,9 +21,8 @@ use crate::remark::{
     size_remark,
 };
 use crate::role::Role;
-use crate::setting_remark::{
-    association_place_remark, default_remark, empty_remark, pipe_remark, setting_remark,
-};
+use crate::setting_remark::{default_remark, empty_remark, pipe_remark, setting_remark};
+use crate::standing::device_codes;
 use crate::string_remark::{languages_remark, text_remark};
 use usb_fields::{byte_at, word_at};
 use usb_set::TransferType;
@@ -42,24 +42,15 @@ impl Descriptor<'_> {
     {
         let b = self.bytes;
         match self.role {
-            Role::Device => five(
-                release_remark(word_at(b, 2)),
-                device_class_remark(byte_at(b, 4)),
-                packet_remark(self.speed, byte_at(b, 7)),
-                count_remark(byte_at(b, 17), self.findings),
-                remark_if(self.lacks_associations, Remark::NoAssociation),
+            Role::Device => self.device_remarks(),
+            Role::Qualifier => self.qualifier_remarks(),
+            Role::Configuration => two(
+                power_remark(self.speed, byte_at(b, 8)),
+                endpoints_remark(self.speed, self.rest),
             ),
-            Role::Qualifier => four(
-                qualifier_release_remark(word_at(b, 2)),
-                device_class_remark(byte_at(b, 4)),
-                count_remark(byte_at(b, 8), self.findings),
-                remark_if(self.lacks_associations, Remark::NoAssociation),
-            ),
-            Role::Configuration => one(power_remark(self.speed, byte_at(b, 8))),
-            Role::Association => three(
+            Role::Association => two(
                 association_class_remark(byte_at(b, 4)),
-                association_remark(self.device),
-                association_place_remark(self.missing, self.follows, self.rest),
+                remark_if(self.is_late, Remark::LateAssociation),
             ),
             Role::Interface => three(
                 class_remark(byte_at(b, 5)),
@@ -71,6 +62,38 @@ impl Descriptor<'_> {
             Role::Languages => one(languages_remark(b)),
             Role::Text => one(text_remark(b)),
         }
+    }
+
+    /// Those on a device.
+    #[tactic(auto, unfolding(crate::specs::Remarks::remarks_on))]
+    fn device_remarks(&self) -> [Option<Remark>; 6]
+        ensures { flat_map there result ≡ remarks_on Role.Device (described self.now) }
+    {
+        let b = self.bytes;
+        [
+            release_remark(word_at(b, 2)),
+            device_class_remark(byte_at(b, 4)),
+            packet_remark(self.speed, byte_at(b, 7)),
+            count_remark(byte_at(b, 17), self.findings),
+            associations_remark(device_codes(b), self.has_associations),
+            None,
+        ]
+    }
+
+    /// Those on a qualifier.
+    #[tactic(auto, unfolding(crate::specs::Remarks::remarks_on))]
+    fn qualifier_remarks(&self) -> [Option<Remark>; 6]
+        ensures { flat_map there result ≡ remarks_on Role.Qualifier (described self.now) }
+    {
+        let b = self.bytes;
+        [
+            qualifier_release_remark(word_at(b, 2)),
+            device_class_remark(byte_at(b, 4)),
+            packet_remark(self.speed, byte_at(b, 7)),
+            count_remark(byte_at(b, 8), self.findings),
+            associations_remark(device_codes(b), self.has_associations),
+            one_speed_remark(self.one_speed),
+        ]
     }
 
     /// Those on an endpoint.
@@ -115,34 +138,16 @@ fn one(remark: Option<Remark>) -> [Option<Remark>; 6]
     [remark, None, None, None, None, None]
 }
 
+/// Two remarks, if there are any.
+fn two(one: Option<Remark>, other: Option<Remark>) -> [Option<Remark>; 6]
+    ensures { flat_map there result ≡ there one ++ there other }
+{
+    [one, other, None, None, None, None]
+}
+
 /// Three remarks, if there are any.
 fn three(one: Option<Remark>, other: Option<Remark>, last: Option<Remark>) -> [Option<Remark>; 6]
     ensures { flat_map there result ≡ there one ++ (there other ++ there last) }
 {
     [one, other, last, None, None, None]
-}
-
-/// Four remarks, if there are any.
-fn four(
-    one: Option<Remark>,
-    other: Option<Remark>,
-    third: Option<Remark>,
-    last: Option<Remark>,
-) -> [Option<Remark>; 6]
-    ensures { flat_map there result ≡ there one ++ (there other ++ (there third ++ there last)) }
-{
-    [one, other, third, last, None, None]
-}
-
-/// Five remarks, if there are any.
-fn five(
-    one: Option<Remark>,
-    other: Option<Remark>,
-    third: Option<Remark>,
-    fourth: Option<Remark>,
-    last: Option<Remark>,
-) -> [Option<Remark>; 6]
-    ensures { flat_map there result ≡ there one ++ (there other ++ (there third ++ (there fourth ++ there last))) }
-{
-    [one, other, third, fourth, last, None]
 }

@@ -1,7 +1,8 @@
 //! The speed of a set.
 ghost use Rattle.std.specs.Prelude.{◌≡◌, option_and_then};
-ghost use Rattle.usb_explain.specs.SetSpeeds.{decided_speed, hinted_speed, low_is_excluded, is_high_hub, is_super_device, packet_excludes_low, other_speed, proved_speed, release_hint, speed_by, speed_of_device, speed_of_hub, speed_of_packet, without_low};
+ghost use Rattle.usb_explain.specs.SetSpeeds.{decided_speed, high_beside, high_side, hinted_speed, low_is_excluded, is_high_hub, is_super_device, one_speed, packet_excludes_low, other_speed, proved_speed, release_hint, side_speed, speed_by, speed_of_device, speed_of_hub, speed_of_packet, without_low};
 
+use crate::device_facts::DeviceFacts;
 use crate::speed::SetSpeed;
 use crate::speed_evidence::Evidence;
 
@@ -91,6 +92,50 @@ pub(crate) fn speed_by(background: Background, evidence: Evidence) -> SetSpeed
         low_is_excluded(background, evidence),
         decided_speed(background, evidence),
     )
+}
+
+/// The speed of a side of a device of full and high speed by its own descriptors alone: the device or the qualifier, the endpoints
+/// of its sets, and bMaxPacketSize0.
+pub(crate) fn side_speed(facts: DeviceFacts, evidence: Evidence) -> Option<SetSpeed>
+    ensures { result ≡ side_speed facts evidence }
+{
+    let packet = Some(facts.packet);
+    let proved = facts.speed.or(proved_speed(packet, evidence));
+    match proved.or(speed_of_packet(packet)) {
+        None => None,
+        Some(speed) => Some(without_low(true, speed)),
+    }
+}
+
+/// The speed that both sides of a device have.
+pub(crate) fn one_speed(own: Option<SetSpeed>, other: Option<SetSpeed>) -> Option<SetSpeed>
+    ensures { result ≡ one_speed own other }
+{
+    match (own, other) {
+        (Some(SetSpeed::Full), Some(SetSpeed::Full)) => Some(SetSpeed::Full),
+        (Some(SetSpeed::High), Some(SetSpeed::High)) => Some(SetSpeed::High),
+        _ => None,
+    }
+}
+
+/// High speed, where the device's own side is at that.
+pub(crate) fn high_side(own: Option<SetSpeed>) -> Option<SetSpeed>
+    ensures { result ≡ high_side own }
+{
+    match own {
+        Some(SetSpeed::High) => Some(SetSpeed::High),
+        _ => None,
+    }
+}
+
+/// High speed, where the qualifier's side is at that, or the device's own side at full speed.
+pub(crate) fn high_beside(own: Option<SetSpeed>, other: Option<SetSpeed>) -> Option<SetSpeed>
+    ensures { result ≡ high_beside own other }
+{
+    match (own, other) {
+        (_, Some(SetSpeed::High)) | (Some(SetSpeed::Full), _) => Some(SetSpeed::High),
+        _ => None,
+    }
 }
 
 fn decided_speed(background: Background, evidence: Evidence) -> SetSpeed

@@ -1,11 +1,11 @@
 //! How a set begins.
 ghost use Rattle.std.specs.Prelude.{◌≡◌, Some, option_and_then};
 ghost use Rattle.usb_explain.specs.SetSpeeds.{other_speed};
-ghost use Rattle.usb_explain.specs.SetStart.{after_own_sets, background_after, background_alone, background_by, background_of, entered, has_qualifier, looked, other_ahead, own_ahead, own_sets, speed_together, surveyed};
+ghost use Rattle.usb_explain.specs.SetStart.{after_own_sets, background_after, background_alone, background_by, background_of, entered, has_qualifier, looked, own_ahead, own_sets, own_side, sets_ahead, side_of_qualifier, speed_after_qualifier, surveyed};
 
 use crate::device_facts::DeviceFacts;
 use crate::role::Role;
-use crate::set_speed::{Background, other_speed, speed_by};
+use crate::set_speed::{Background, other_speed, side_speed, speed_by};
 use crate::speed::SetSpeed;
 use crate::speed_evidence::Evidence;
 use crate::standing::Standing;
@@ -23,13 +23,14 @@ impl Standing {
     }
 
     /// Looks for the two speeds of a device, and for what the descriptors of a set say of the whole of it.
+    #[tactic(auto, unfolding(crate::specs::SetStart::other_ahead, crate::specs::SetStart::other_side))]
     fn look_ahead(&mut self, role: Role, running: Option<SetSpeed>, ahead: &[u8])
         ensures { self.new ≡ looked role running ahead.now self.old }
     {
         match role {
             Role::Device => {
-                self.own_speed = own_ahead(running, ahead);
-                self.other_speed = other_ahead(ahead);
+                self.look_at_own_side(running, ahead);
+                self.look_at_other_side(after_own_sets(ahead));
             }
             Role::Configuration => self.survey(running, ahead),
             _ => {}
@@ -48,7 +49,38 @@ impl Standing {
             &mut self.bindings,
             &mut self.interfaces,
         );
+        self.before.clear();
         self.speed = speed_by(background, spoken);
+    }
+
+    /// Looks at the device with which the bytes begin and its own sets: for its speed if it has another one, as far as they say, and
+    /// for that which they prove.
+    #[tactic(auto, unfolding(crate::specs::SetSpeeds::survey_of, crate::specs::SetStart::own_ahead, crate::specs::SetStart::own_side))]
+    fn look_at_own_side(&mut self, running: Option<SetSpeed>, ahead: &[u8])
+        ensures { self.new ≡ record self.old { own_speed = own_ahead running ahead.now; own_side = own_side ahead.now } }
+    {
+        let device = DeviceFacts::of_device(ahead);
+        let spoken = Evidence::of(own_sets(ahead));
+        let background = background_of(running, device, Some(SetSpeed::FullOrHigh));
+        self.own_speed = speed_by(background, spoken);
+        self.own_side = side_speed(device, spoken);
+    }
+
+    /// Looks for a qualifier with which the bytes begin, and then at it and the sets after it.
+    #[tactic(auto, unfolding(crate::specs::SetSpeeds::survey_of))]
+    fn look_at_other_side(&mut self, b: &[u8])
+        ensures { self.new ≡ record self.old { other_speed = speed_after_qualifier b.now; other_side = side_of_qualifier b.now } }
+    {
+        if has_qualifier(b) {
+            let qualifier = DeviceFacts::of_qualifier(b);
+            let spoken = Evidence::of(after(b, 10));
+            let background = background_after(None, qualifier, SetSpeed::FullOrHigh);
+            self.other_speed = Some(speed_by(background, spoken));
+            self.other_side = side_speed(qualifier, spoken);
+        } else {
+            self.other_speed = None;
+            self.other_side = None;
+        }
     }
 
     /// What is known of a set beside its descriptors, by its device, which may have a qualifier before the set.
@@ -98,7 +130,8 @@ fn background_after(running: Option<SetSpeed>, qualifier: DeviceFacts, own: SetS
     background_of(other_speed_of(running), qualifier, Some(own))
 }
 
-fn other_speed_of(running: Option<SetSpeed>) -> Option<SetSpeed>
+/// The other speed of a device that ran at this one.
+pub(crate) fn other_speed_of(running: Option<SetSpeed>) -> Option<SetSpeed>
     ensures { result ≡ option_and_then other_speed running }
 {
     match running {
@@ -107,45 +140,18 @@ fn other_speed_of(running: Option<SetSpeed>) -> Option<SetSpeed>
     }
 }
 
-/// The other speed of the device with which these bytes begin, as far as its qualifier and the descriptors after that say.
-#[tactic(auto, unfolding(crate::specs::SetStart::other_ahead))]
-fn other_ahead(ahead: &[u8]) -> Option<SetSpeed>
-    ensures { result ≡ other_ahead ahead.now }
-{
-    let rest = after_own_sets(ahead);
-    if has_qualifier(rest) {
-        let qualifier = DeviceFacts::of_qualifier(rest);
-        let background = background_after(None, qualifier, SetSpeed::FullOrHigh);
-        Some(speed_together(background, after(rest, 10)))
-    } else {
-        None
-    }
-}
-
-/// The speed of the device with which these bytes begin, if it has another one, as far as it and its own sets say.
-#[tactic(auto, unfolding(crate::specs::SetStart::own_ahead))]
-fn own_ahead(running: Option<SetSpeed>, ahead: &[u8]) -> SetSpeed
-    ensures { result ≡ own_ahead running ahead.now }
-{
-    let device = DeviceFacts::of_device(ahead);
-    let background = background_of(running, device, Some(SetSpeed::FullOrHigh));
-    speed_together(background, own_sets(ahead))
-}
-
-/// The speed that sets have together, by what is known of them and by their bytes.
-#[tactic(auto, unfolding(crate::specs::SetSpeeds::survey_of))]
-fn speed_together(background: Background, sets: &[u8]) -> SetSpeed
-    ensures { result ≡ speed_together background sets.now }
-{
-    speed_by(background, Evidence::of(sets))
-}
-
 /// The bytes of the sets of the device with which these bytes begin.
 fn own_sets(ahead: &[u8]) -> &[u8]
     ensures { result.now ≡ own_sets ahead.now }
 {
-    let sets = after(ahead, 18);
-    prefix(sets, sets.len().saturating_sub(after_own_sets(ahead).len()))
+    sets_ahead(byte_at(ahead, 17), after(ahead, 18))
+}
+
+/// The first so many sets with which bytes begin, as far as they are there.
+pub(crate) fn sets_ahead(sets: u8, b: &[u8]) -> &[u8]
+    ensures { result.now ≡ sets_ahead sets b.now }
+{
+    prefix(b, b.len().saturating_sub(after_sets(sets, b).len()))
 }
 
 /// The bytes after these sets.

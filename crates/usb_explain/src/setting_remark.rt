@@ -1,7 +1,7 @@
 //! What is remarked of an interface by the descriptors of its setting, and of an endpoint by its setting.
 ghost use Rattle.std.specs.Prelude.{◌≡◌};
 ghost use Rattle.std.specs.Option.{option_copied};
-ghost use Rattle.usb_explain.specs.SettingRemarks.{association_place_remark, default_remark, empty_remark, has_functions, has_wanted, in_default_setting, is_bulk_endpoint, is_default, is_interrupt_in, is_wanted, lack_remark, pipe_remark, setting_remark};
+ghost use Rattle.usb_explain.specs.SettingRemarks.{default_remark, empty_remark, has_functions, has_wanted, in_default_setting, is_bulk_endpoint, is_default, is_interrupt_in, is_wanted, lack_remark, pipe_remark, setting_remark};
 ghost use Rattle.usb_explain.specs.Trees.{descriptors};
 
 use crate::owner::{DescriptorOwner, InterfaceSetting};
@@ -49,7 +49,7 @@ fn is_wanted(wanted: Wanted, d: &[u8]) -> bool
         Wanted::InterruptIn => is_interrupt_in(d),
         Wanted::BulkIn => is_bulk_endpoint(d) && byte_at(d, 2) >= 0x80,
         Wanted::BulkOut => is_bulk_endpoint(d) && byte_at(d, 2) < 0x80,
-        Wanted::FunctionalHeader => byte_at(d, 1) == 0x24 && byte_at(d, 2) == 0,
+        Wanted::FunctionalHeader => byte_at(d, 1) == 0x24 && d.len() >= 3 && byte_at(d, 2) == 0,
     }
 }
 
@@ -142,7 +142,8 @@ fn in_default_setting(owner: Option<DescriptorOwner>) -> bool
     }
 }
 
-/// A remark on an isochronous endpoint of alternate setting 0 that has packets (USB 2.0, 5.6.3).
+/// A remark on an endpoint of alternate setting 0: isochronous with packets (USB 2.0, 5.6.3), or interrupt with packets of over 64
+/// bytes at high speed (5.7.3).
 pub(crate) fn default_remark(
     speed: SetSpeed,
     transfer: TransferType,
@@ -155,7 +156,11 @@ pub(crate) fn default_remark(
         (SetSpeed::Super, _) => None,
         (_, TransferType::Isochronous) => remark_if(
             in_default_setting(owner) && size != 0,
-            Remark::DefaultIsochronous,
+            Remark::DefaultIsochronous { found: size },
+        ),
+        (SetSpeed::High, TransferType::Interrupt) => remark_if(
+            in_default_setting(owner) && size > 64,
+            Remark::DefaultInterrupt { found: size },
         ),
         _ => None,
     }
@@ -176,19 +181,5 @@ pub(crate) fn empty_remark(
             size == 0 && in_default_setting(owner) && !follows,
             Remark::EmptyPackets,
         ),
-    }
-}
-
-/// A remark on an association whose first interface is there and doesn't follow (its ECN, 9.X.Y).
-pub(crate) fn association_place_remark(
-    missing: Option<u8>,
-    follows: bool,
-    rest: Option<&[u8]>,
-) -> Option<Remark>
-    ensures { result ≡ association_place_remark missing follows (option_copied rest.entry) }
-{
-    match (missing, rest) {
-        (None, Some(_)) => remark_if(!follows, Remark::LateAssociation),
-        _ => None,
     }
 }

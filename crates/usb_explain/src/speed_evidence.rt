@@ -103,7 +103,7 @@ fn is_high(transfer: TransferType, max_packet: u16) -> bool
 }
 
 /// Whether a microframe has more than one packet of this size (9.6.6, table 9-14).
-fn has_multiple(max_packet: u16) -> bool
+pub(crate) fn has_multiple(max_packet: u16) -> bool
     ensures { result ≡ has_multiple max_packet }
 {
     let size = max_packet % 2048;

@@ -21,18 +21,22 @@ pub(crate) struct Standing {
     pub(crate) device: Option<DeviceFacts>,
     /// The speed of the device's own sets, as far as they and the device descriptor say.
     pub(crate) own_speed: SetSpeed,
+    /// The same by their own descriptors alone, where those prove it.
+    pub(crate) own_side: Option<SetSpeed>,
     /// The device's other speed, where a qualifier comes.
     pub(crate) other_speed: Option<SetSpeed>,
+    /// The same by the qualifier and the sets after it alone.
+    pub(crate) other_side: Option<SetSpeed>,
     /// The qualifier.
     pub(crate) qualifier: Option<DeviceFacts>,
-    /// Class, subclass and protocol of the device, or of the qualifier once it came.
-    pub(crate) codes: Option<ClassCodes>,
     /// The speed of the set, or of the last one before it.
     pub(crate) speed: SetSpeed,
     /// Which association of the whole set binds each interface.
     pub(crate) bindings: Bindings,
     /// The numbers of the interfaces of the whole set.
     pub(crate) interfaces: InterfaceNumbers,
+    /// The numbers of those that came.
+    pub(crate) before: InterfaceNumbers,
 }
 
 impl Standing {
@@ -46,12 +50,14 @@ impl Standing {
             position: Position::start(),
             device: None,
             own_speed: SetSpeed::FullOrHigh,
+            own_side: None,
             other_speed: None,
+            other_side: None,
             qualifier: None,
-            codes: None,
             speed: SetSpeed::FullOrHigh,
             bindings: Bindings::new(),
             interfaces: InterfaceNumbers::new(),
+            before: InterfaceNumbers::new(),
         }
     }
 
@@ -65,19 +71,14 @@ impl Standing {
         self.position.pass(role, d);
     }
 
-    /// Keeps what a device and its qualifier are, and what they say of the speeds of their sets.
+    /// Keeps what a device and its qualifier say of the speeds of their sets, and the number of an interface.
     fn keep(&mut self, role: Role, d: &[u8])
         ensures { self.new ≡ kept role d.now self.old }
     {
         match role {
-            Role::Device => {
-                self.device = Some(DeviceFacts::of_device(d));
-                self.codes = Some(device_codes(d));
-            }
-            Role::Qualifier => {
-                self.qualifier = Some(DeviceFacts::of_qualifier(d));
-                self.codes = Some(device_codes(d));
-            }
+            Role::Device => self.device = Some(DeviceFacts::of_device(d)),
+            Role::Qualifier => self.qualifier = Some(DeviceFacts::of_qualifier(d)),
+            Role::Interface => self.before.mark(byte_at(d, 2)),
             _ => {}
         }
     }

@@ -1,8 +1,7 @@
 -- A host ends, whatever is answered.
-use Rattle.std.proofs.Common.{◌≡◌, ℕ, suc, ◌+◌, ◌-◌, ◌<◌, ◌≤◌, ◌&&◌, nat_lt, Bool, true, false, if◌then◌else◌, List, [], ◌∷◌, length, inl, inr, refl, ap, sym, ◌∙◌, arith, subst}
+use Rattle.std.proofs.Common.{◌≡◌, ℕ, suc, ◌+◌, ◌<◌, ◌≤◌, ◌&&◌, nat_lt, Bool, true, false, if◌then◌else◌, List, [], ◌∷◌, length, inl, inr, refl, ap, sym, ◌∙◌, arith, subst}
 use Rattle.std.specs.Prelude.{Option, Some, None, IsSome}
 use Rattle.std.proofs.lemmas.Bool.Decides.{nat_tests}
-use Rattle.std.proofs.Math.Nat.{min-le_right}
 use Rattle.usb_fields.specs.Packets.{Sent, Reply as Answer, AckReply, NakReply, StallReply, DataReply, NoReply, is_same_toggle}
 use Rattle.usb_fields.specs.declared.packet.Toggle.{Toggle}
 use Rattle.usb_fields.specs.declared.packet.Toggle.TheVariants.{Data0, Data1}
@@ -13,8 +12,7 @@ use Rattle.usb_host.specs.declared.why.Why.TheVariants.{NoAnswer, Busy, Stalled,
 use Rattle.usb_host.specs.declared.transfer.TransferStage.{TransferStage}
 use Rattle.usb_host.specs.declared.transfer.TransferStage.TheVariants.{Setup, DataIn, DataOut, StatusOut, StatusIn, Completed, Failed}
 use Rattle.usb_host.specs.Limits.{LimitView}
-use Rattle.usb_host.specs.Transfer.{acknowledged, TransferView, Goes, Taken, addressed, begun, delayed, due, failed, kept_packet, progress, struck, taken, taken_at, taken_data, taken_status, token_due}
-use Rattle.usb_host.specs.inside.Transfers.{IsTransfer}
+use Rattle.usb_host.specs.Transfer.{IsTransfer, TransferView, Goes, Taken, addressed, begun, delayed, due, failed, kept_packet, progress, struck, taken, taken_at, taken_data, taken_status, token_due}
 use Rattle.usb_host.proofs.BoundLemmas.{left-taken}
 use Rattle.usb_host.specs.Place.{Place, First, Address, Device, Header, Set, Qualifier, Languages, Text, Configure, Reported, Stopped}
 use Rattle.usb_host.specs.Keeping.{Kept}
@@ -66,12 +64,6 @@ status_counts t toggle (byte ∷ bytes) is = failed_counts t TooLong is
 status_counts t Data0 [] is = struck_counts t is
 status_counts t Data1 [] is = progress_counts t Completed is
 
-sent_counts : (t : TransferView) → IsTransfer t → IsTransfer (acknowledged t).transfer
-sent_counts t is =
-    let few = min-le_right t.packet (t.request.length - t.kept) in
-    let within = is.kept in
-    record { packet = is.packet; kept = omega (arith, few, within); strikes = omega arith; nak_count = omega arith }
-
 counts_at : (t : TransferView) (stage : TransferStage) (r : Answer) → IsTransfer t → IsTransfer (taken_at t stage r).transfer
 counts_at t Setup AckReply is = progress_counts t _ is
 counts_at t Setup NoReply is = struck_counts t is
@@ -81,7 +73,7 @@ counts_at t DataIn NakReply is = delayed_counts t is
 counts_at t DataIn StallReply is = failed_counts t Stalled is
 counts_at t DataIn (DataReply toggle bytes) is = data_counts t toggle bytes is
 counts_at t DataIn NoReply is = struck_counts t is
-counts_at t DataOut AckReply is = sent_counts t is
+counts_at t DataOut AckReply is = failed_counts t Unexpected is
 counts_at t DataOut NakReply is = delayed_counts t is
 counts_at t DataOut StallReply is = failed_counts t Stalled is
 counts_at t DataOut (DataReply toggle bytes) is = failed_counts t Unexpected is

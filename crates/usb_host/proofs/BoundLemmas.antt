@@ -13,8 +13,8 @@ use Rattle.usb_host.specs.declared.why.Why.{Why}
 use Rattle.usb_host.specs.declared.why.Why.TheVariants.{NoAnswer, Busy, Stalled, TooLong, Unexpected}
 use Rattle.usb_host.specs.declared.transfer.TransferStage.{TransferStage}
 use Rattle.usb_host.specs.declared.transfer.TransferStage.TheVariants.{Setup, DataIn, DataOut, StatusOut, StatusIn, Completed, Failed}
-use Rattle.usb_host.specs.Transfer.{acknowledged, packet_length, TransferView, begun, addressed, token_due, due, taken, taken_at, taken_data, taken_status, moved, completed, failed, struck, delayed, kept_packet, stage_after_setup, data_stage, left, steps, steps_left, most_transactions}
-use Rattle.usb_host.specs.inside.Transfers.{IsTransfer}
+use Rattle.usb_host.specs.Write.{acknowledged, packet_length}
+use Rattle.usb_host.specs.Transfer.{IsTransfer, TransferView, begun, addressed, token_due, due, taken, taken_at, taken_data, taken_status, moved, completed, failed, struck, delayed, kept_packet, stage_after_setup, data_stage, left, steps, steps_left, most_transactions}
 
 -- while steps of progress are left, transactions are
 some_left : (s n k b : ℕ) → 0 < s → k ≤ 2 → b ≤ n → k + b < s * (n + 3)
@@ -130,7 +130,7 @@ steps-sent_by l c p n false e some is within =
     let step : (l - (c + p)) / p + 1 ≡ (l - c) / p = div-packet l c p some (omega (arith, same, fewer)) in
     rw same (omega (arith, step))
 
-left-sent : (t : TransferView) → IsTransfer t → t.stage ≡ DataOut → left (acknowledged t).transfer < left t
+pub left-sent : (t : TransferView) → IsTransfer t → t.stage ≡ DataOut → left (acknowledged t).transfer < left t
 left-sent t is at =
     let fewer : steps (acknowledged t).transfer < steps t =
     rw at (steps-sent_by t.request.length t.kept t.packet (packet_length t) (t.kept + packet_length t == t.request.length) refl is.packet refl is.kept)
@@ -149,7 +149,7 @@ left-taken_at t DataIn NakReply at is some = left-delayed t is (rw at some)
 left-taken_at t DataIn StallReply at is some = left-failed t Stalled is (rw at some)
 left-taken_at t DataIn (DataReply toggle bytes) at is some = left-taken_data t toggle bytes is at (rw at some)
 left-taken_at t DataIn NoReply at is some = left-struck t is (rw at some)
-left-taken_at t DataOut AckReply at is some = left-sent t is at
+left-taken_at t DataOut AckReply at is some = left-failed t Unexpected is (rw at some)
 left-taken_at t DataOut NakReply at is some = left-delayed t is (rw at some)
 left-taken_at t DataOut StallReply at is some = left-failed t Stalled is (rw at some)
 left-taken_at t DataOut (DataReply toggle bytes) at is some = left-failed t Unexpected is (rw at some)

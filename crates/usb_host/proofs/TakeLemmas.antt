@@ -16,7 +16,7 @@ use Rattle.usb_host.specs.declared.why.Why.TheVariants.{NoAnswer, Busy, Stalled,
 use Rattle.usb_host.specs.declared.transfer.TransferStage.{TransferStage}
 use Rattle.usb_host.specs.declared.transfer.TransferStage.TheVariants.{Setup, DataIn, DataOut, StatusOut, StatusIn, Completed, Failed}
 use Rattle.usb_host.specs.Limits.{LimitView}
-use Rattle.usb_host.specs.Transfer.{TransferView, Hearing, Goes, Brings, Completes, Fails, Taken, taken, taken_at, struck, delayed, completed, failed, kept_packet, data_stage, packet_length}
+use Rattle.usb_host.specs.Transfer.{TransferView, Hearing, Goes, Brings, Completes, Fails, Taken, taken, taken_at, struck, delayed, completed, failed, kept_packet, data_stage}
 use Rattle.usb_host.specs.Place.{Place}
 use Rattle.usb_host.specs.Keeping.{Kept}
 use Rattle.usb_host.specs.Keeping as kept
@@ -102,11 +102,7 @@ heeds_at t DataIn (DataReply toggle bytes) e going =
     (λ new. if_heeds t (nat_lt t.request.length (t.kept + length bytes)) _ _ (λ past. heeds_failed t TooLong) (λ within. heeds_data t bytes within))
     (λ again. heeds_struck t going))
 heeds_at t DataIn NoReply e going = heeds_struck t going
-heeds_at t DataOut AckReply e going = record {
-  stage = if_going (t.kept + packet_length t == t.request.length) StatusIn DataOut tt tt;
-  count = omega arith;
-  request = refl;
-}
+heeds_at t DataOut AckReply e going = heeds_failed t Unexpected
 heeds_at t DataOut NakReply e going = heeds_delayed t going
 heeds_at t DataOut StallReply e going = heeds_failed t Stalled
 heeds_at t DataOut (DataReply toggle bytes) e going = heeds_failed t Unexpected

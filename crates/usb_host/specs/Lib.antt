@@ -9,6 +9,7 @@ pub mod Laws
 pub mod Why
 pub mod Limits
 pub mod Transfer
+pub mod Write
 pub mod Plan
 pub mod Heard
 pub mod inside

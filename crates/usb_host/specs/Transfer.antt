@@ -1,5 +1,5 @@
 -- The host's end of one control transfer, and how many transactions it asks for (USB 2.0, 8.5.3 and 8.6).
-use Rattle.std.specs.Prelude.{◌≡◌, min, take, drop, ℕ, suc, ◌+◌, ◌==◌, ◌||◌, nat_lt, Bool, false, if◌then◌else◌, List, [], ◌∷◌, length, Option, Some, None, ◌-◌, ◌*◌, ◌/◌}
+use Rattle.std.specs.Prelude.{take, drop, ℕ, suc, ◌+◌, ◌==◌, ◌||◌, ◌&&◌, ◌<◌, ◌≤◌, nat_le, nat_lt, Bool, false, if◌then◌else◌, List, [], ◌∷◌, length, Option, Some, None, ◌-◌, ◌*◌, ◌/◌}
 use Rattle.usb_fields.specs.Packets.{flipped, Token, SetupToken, InToken, OutToken, Sent, sent_of, Reply, AckReply, NakReply, StallReply, DataReply, NoReply, is_same_toggle}
 use Rattle.usb_fields.specs.Setup.{direction_of, setup_bytes}
 use Rattle.usb_fields.specs.declared.packet.Toggle.{Toggle}
@@ -10,26 +10,26 @@ use Rattle.usb_fields.specs.declared.setup.Direction.{Direction}
 use Rattle.usb_fields.specs.declared.setup.Direction.TheVariants as directions
 use Rattle.usb_host.specs.declared.why.Why.{Why}
 use Rattle.usb_host.specs.declared.why.Why.TheVariants.{NoAnswer, Busy, Stalled, TooLong, Unexpected}
+use Rattle.usb_host.specs.declared.transfer_fields.TransferFields.{TransferFields}
 use Rattle.usb_host.specs.declared.transfer.TransferStage.{TransferStage}
 use Rattle.usb_host.specs.declared.transfer.TransferStage.TheVariants.{Setup, DataIn, DataOut, StatusOut, StatusIn, Completed, Failed}
 
 -- The host's end of one control transfer (USB 2.0, 8.5.3 and 8.6).
 
--- what callers see of a transfer
-pub record TransferView : Type 0 where
-  -- the device's address, its packet size, the limit of NAKs, and what is asked for
-  pub address : ℕ
-  pub packet : ℕ
-  pub naks : ℕ
-  pub request : SetupPacket
-  -- the stage, the toggle that the next data packet carries, and how many bytes of the data stage were kept, or were
-  -- acknowledged by the device
-  pub stage : TransferStage
-  pub awaited : Toggle
-  pub kept : ℕ
-  -- the strikes and the NAKs since the last progress
-  pub strikes : ℕ
-  pub nak_count : ℕ
+-- what callers see of a transfer: its fields
+abbrev pub TransferView : Type 0
+TransferView = TransferFields
+
+-- the counts stay within their limits
+pub record IsTransfer (t : TransferView) : Type 0 where
+  pub packet : 0 < t.packet
+  pub kept : t.kept ≤ t.request.length
+  pub strikes : t.strikes ≤ 2
+  pub nak_count : t.nak_count ≤ t.naks
+
+-- the same as a test
+abbrev pub is_transfer : TransferView → Bool
+is_transfer t = nat_lt 0 t.packet && (nat_le t.kept t.request.length && (nat_le t.strikes 2 && nat_le t.nak_count t.naks))
 
 -- a new transfer; a data stage begins with DATA1 (8.5.3)
 abbrev pub begun : ℕ → ℕ → ℕ → SetupPacket → TransferView
@@ -51,15 +51,8 @@ abbrev pub is_untried : TransferStage → ℕ → Bool
 is_untried Setup strikes = strikes == 0
 is_untried stage strikes = false
 
--- these are all the data of a request, where it has a data stage to the device (9.3.5)
-abbrev pub HasData : SetupPacket → List ℕ → Type 0
-HasData q bytes = direction_of q.request_type ≡ directions.Out → length bytes ≡ q.length
-
--- how many bytes the next data packet to the device has: a whole packet, or all that is left (8.5.3)
-abbrev pub packet_length : TransferView → ℕ
-packet_length t = min t.packet (t.request.length - t.kept)
-
--- that packet, of these data: it begins with the first byte that was not acknowledged
+-- the next data packet to the device, of these data: a whole packet, or all that is left, from the first byte on that was not
+-- acknowledged (8.5.3)
 abbrev pub packet_due : TransferView → List ℕ → List ℕ
 packet_due t bytes = take t.packet (drop t.kept bytes)
 
@@ -82,7 +75,8 @@ addressed address (Some token) = Some (record { address = address; token = token
 abbrev pub due_of : TransferView → List ℕ → Option Sent
 due_of t bytes = addressed t.address (token_due t bytes t.stage)
 
--- and where no data go to the device
+-- And where there are none, as of each transfer that is no write: a data packet to the device is empty. It is DATA1, since no
+-- ACK moves such a transfer on.
 abbrev pub due : TransferView → Option Sent
 due t = due_of t []
 
@@ -159,26 +153,6 @@ with_packet t n =
       nak_count = 0;
     }
 
--- the stage after the device has acknowledged n bytes of data: the last byte of wLength ends the data stage, and no empty
--- packet follows it (8.5.3)
-abbrev pub stage_after_sent : TransferView → ℕ → TransferStage
-stage_after_sent t n = if t.kept + n == t.request.length then StatusIn else DataOut
-
--- progress by a data packet of n bytes to the device, which it has acknowledged
-abbrev pub with_sent : TransferView → ℕ → TransferView
-with_sent t n =
-    record t {
-      stage = stage_after_sent t n;
-      awaited = flipped t.awaited;
-      kept = t.kept + n;
-      strikes = 0;
-      nak_count = 0;
-    }
-
--- the ACK of the data packet that was due
-abbrev pub acknowledged : TransferView → Taken
-acknowledged t = record { heard = Goes; transfer = with_sent t (packet_length t) }
-
 -- a data packet with the awaited toggle: its bytes are new
 abbrev pub kept_packet : TransferView → List ℕ → Taken
 kept_packet t bytes = record { heard = Brings bytes; transfer = with_packet t (length bytes) }
@@ -209,7 +183,7 @@ taken_at t DataIn NakReply = delayed t
 taken_at t DataIn StallReply = failed t Stalled
 taken_at t DataIn (DataReply toggle bytes) = taken_data t toggle bytes
 taken_at t DataIn NoReply = struck t
-taken_at t DataOut AckReply = acknowledged t
+taken_at t DataOut AckReply = failed t Unexpected
 taken_at t DataOut NakReply = delayed t
 taken_at t DataOut StallReply = failed t Stalled
 taken_at t DataOut (DataReply toggle bytes) = failed t Unexpected

@@ -2,4 +2,3 @@
 pub mod Sound
 pub mod Places
 pub mod Reads
-pub mod Transfers

@@ -1,8 +1,9 @@
 //! One control transfer, driven reply by reply (USB 2.0, 8.5.3).
-ghost use Rattle.std.specs.Prelude.{IsSome, length, ◌≡◌, ◌<◌, ◌≤◌, ◌+◌, ◌^◌};
+ghost use Rattle.std.specs.Prelude.{IsSome, None, Some, if◌then◌else◌, length, true, ◌≡◌, ◌<◌, ◌≤◌, ◌+◌, ◌^◌};
 ghost use Rattle.usb_fields.specs.Packets.{reply_of};
 ghost use Rattle.usb_host.specs.Transfer.{stage_after_setup};
 
+use crate::transfer_fields::TransferFields;
 use crate::why::Why;
 use std::marker::Model;
 use usb_fields::{Answer, Direction, Setup, Stage, Toggle, Transaction};
@@ -46,7 +47,7 @@ const STRIKES: u8 = 2;
 ///
 /// The caller sends what [`Transfer::next`] says, hands what came back to [`Transfer::take`], and goes on until
 /// `next` says `None`. Data packets are kept by their toggle (USB 2.0, 8.6): one that comes again is acknowledged and
-/// discarded. Where data go to the device, its caller keeps them, and calls [`Transfer::next_of`] in place of `next`.
+/// discarded. It has no data for the device: of a request that brings some, [`Write`](crate::Write) is the transfer.
 ///
 /// ```rust
 /// let mut transfer = Transfer::new(0, 64, 16, Setup::from_bytes(&[0x80, 6, 0, 1, 0, 0, 2, 0]));
@@ -58,37 +59,26 @@ const STRIKES: u8 = 2;
 /// ```
 #[derive(Clone, Copy, Debug)]
 pub struct Transfer {
-    address: u8,
-    packet: u8,
-    naks: u16,
-    request: Setup,
-    stage: TransferStage,
-    awaited: Toggle,
-    kept: u16,
-    strikes: u8,
-    nak_count: u16,
+    fields: TransferFields,
 }
 
 impl Model for Transfer {
-    ghost use Rattle.usb_host.specs.Transfer.{TransferView};
+    ghost use Rattle.usb_host.specs.Transfer.{IsTransfer, TransferView};
 
     ghost Value = { TransferView };
 
-    ghost use Rattle.usb_host.specs.inside.Transfers.{view_of, fields_of, IsTransfer};
+    ghost view = { λ t. t.fields };
 
-    ghost view = { view_of };
+    ghost invariant = { λ t. IsTransfer t.fields };
 
-    ghost invariant = { λ t. IsTransfer (view_of t) };
-
-    ghost inverse = { fields_of };
+    ghost inverse = { λ fields. record { fields = fields } };
 }
 
 impl Transfer {
     ghost use Rattle.usb_host.specs.Heard.{heard_of};
-    ghost use Rattle.usb_host.specs.declared.transfer.TransferStage.TheVariants.{DataIn};
-    ghost use Rattle.usb_fields.specs.Setup.{direction_of};
-    ghost use Rattle.usb_fields.specs.declared.setup.Direction.TheVariants.{Out};
-    ghost use Rattle.usb_host.specs.Transfer.{acknowledged, begun, due, due_of, packet_due, packet_length, sent_by, HasData, taken, taken_data, taken_status, moved, completed, failed, struck, delayed, with_packet, is_untried, left, most_transactions};
+    ghost use Rattle.usb_host.specs.declared.transfer.TransferStage.TheVariants.{DataIn, DataOut};
+    ghost use Rattle.usb_host.specs.Transfer.{begun, due, due_of, is_transfer, packet_due, sent_by, taken, taken_data, taken_status, moved, completed, failed, struck, delayed, with_packet, is_untried, left, most_transactions};
+    ghost use Rattle.usb_host.specs.Write.{acknowledged, is_sending};
 
     /// A transfer that begins with this setup packet, with no byte, no strike and no NAK.
     ///
@@ -109,22 +99,53 @@ impl Transfer {
         ensures few { left result < 2 ^ 33 }
     {
         Transfer {
-            address,
-            packet,
-            naks,
-            request: s,
-            stage: TransferStage::Setup,
-            awaited: Toggle::Data1,
-            kept: 0,
-            strikes: 0,
-            nak_count: 0,
+            fields: TransferFields {
+                address,
+                packet,
+                naks,
+                request: s,
+                stage: TransferStage::Setup,
+                awaited: Toggle::Data1,
+                kept: 0,
+                strikes: 0,
+                nak_count: 0,
+            },
         }
+    }
+
+    /// The transfer with these fields, if they are those of one: the packet size is above 0, no more was kept than
+    /// wLength, and the strikes and the NAKs are within their limits.
+    ///
+    /// ```rust
+    /// assert!(rt; Transfer::from_fields(transfer.fields()).is_some());
+    /// assert!(rt; Transfer::from_fields(TransferFields { packet: 0, ..transfer.fields() }).is_none());
+    /// ```
+    pub fn from_fields(fields: TransferFields) -> Option<Transfer>
+        ensures { result ≡ if is_transfer fields then Some fields else None }
+    {
+        if fields.packet > 0
+            && fields.kept <= fields.request.length
+            && fields.strikes <= STRIKES
+            && fields.nak_count <= fields.naks
+        {
+            Some(Transfer { fields })
+        } else {
+            None
+        }
+    }
+
+    /// Its fields.
+    pub fn fields(&self) -> TransferFields
+        ensures value { result ≡ self.now }
+        ensures whole { is_transfer result ≡ true }
+    {
+        self.fields
     }
 
     /// The transaction that is due, by the stage, the address and the request; `None` once the transfer has ended.
     ///
-    /// It has no data for the device: the data packets of a request with such data are empty, which no device takes that
-    /// waits for bytes. [`Transfer::next_of`] is given them.
+    /// In DataOut it is an empty DATA1, since a transfer has no data for the device. No device takes that as a packet of
+    /// them, and its ACK is [`Why::Unexpected`].
     ///
     /// ```rust
     /// while let Some(transaction) = transfer.next() {
@@ -138,44 +159,20 @@ impl Transfer {
         self.with_data(&[])
     }
 
-    /// The transaction that is due, where these are the data to the device, from the first byte on. A data packet has the
-    /// bytes from the first on that was not acknowledged: a whole packet, or all that is left (USB 2.0, 8.5.3).
-    ///
-    /// ```rust
-    /// // SET_LINE_CODING: 7 bytes to the interface.
-    /// let coding = [0x80, 0x25, 0, 0, 0, 0, 8];
-    /// let mut transfer = Transfer::new(5, 64, 16, Setup::from_bytes(&[0x21, 0x20, 0, 0, 0, 0, 7, 0]));
-    /// while let Some(transaction) = transfer.next_of(&coding) {
-    ///     transfer.take(send(&transaction));
-    /// }
-    /// ```
-    ///
-    /// # Requires
-    ///
-    /// Where data go to the device, they are wLength bytes.
+    /// The same where these are the data to the device, from the first byte on.
     #[inline(always)]
-    pub fn next_of<'a>(&self, bytes: &'a [u8]) -> Option<Transaction<'a>>
-        requires { HasData self.now.request bytes.now }
-        ensures due { sent_by result ≡ due_of self.now bytes.now }
-        ensures whole { direction_of self.now.request.request_type ≡ Out → length (packet_due self.now bytes.now) ≡ packet_length self.now }
-    {
-        self.with_data(bytes)
-    }
-
-    /// The same, whatever data there are.
-    #[inline(always)]
-    fn with_data<'a>(&self, bytes: &'a [u8]) -> Option<Transaction<'a>>
+    pub(crate) fn with_data<'a>(&self, bytes: &'a [u8]) -> Option<Transaction<'a>>
         ensures { sent_by result ≡ due_of self.now bytes.now }
     {
-        let stage = match self.stage {
-            TransferStage::Setup => Stage::Setup(self.request.to_bytes()),
+        let stage = match self.fields.stage {
+            TransferStage::Setup => Stage::Setup(self.fields.request.to_bytes()),
             TransferStage::DataIn | TransferStage::StatusIn => Stage::In,
-            TransferStage::DataOut => Stage::Out(self.awaited, self.packet_of(bytes)),
+            TransferStage::DataOut => Stage::Out(self.fields.awaited, self.packet_of(bytes)),
             TransferStage::StatusOut => Stage::Out(Toggle::Data1, &[]),
             TransferStage::Completed | TransferStage::Failed(_) => return None,
         };
         Some(Transaction {
-            address: self.address,
+            address: self.fields.address,
             stage,
         })
     }
@@ -185,9 +182,9 @@ impl Transfer {
     fn packet_of<'a>(&self, bytes: &'a [u8]) -> &'a [u8]
         ensures { result.now ≡ packet_due self.now bytes.now }
     {
-        let start = usize::from(self.kept).min(bytes.len());
+        let start = usize::from(self.fields.kept).min(bytes.len());
         let left = &bytes[start..];
-        &left[..left.len().min(usize::from(self.packet))]
+        &left[..left.len().min(usize::from(self.fields.packet))]
     }
 
     /// The setup packet with which it began.
@@ -199,10 +196,10 @@ impl Transfer {
     pub fn request(&self) -> Setup
         ensures { result ≡ self.now.request }
     {
-        self.request
+        self.fields.request
     }
 
-    /// How many bytes of the data stage were kept so far, or were acknowledged by the device, at most wLength.
+    /// How many bytes of the data stage were kept so far, at most wLength.
     ///
     /// ```rust
     /// assert_eq!(rt; transfer.kept(), 18);
@@ -212,7 +209,7 @@ impl Transfer {
         ensures count { result ≡ self.now.kept }
         ensures most { result ≤ self.now.request.length }
     {
-        self.kept
+        self.fields.kept
     }
 
     /// The strikes since the last progress, at most 2: transactions that brought nothing, or a packet that came before.
@@ -223,7 +220,7 @@ impl Transfer {
     pub fn strikes(&self) -> u8
         ensures { result ≡ self.now.strikes }
     {
-        self.strikes
+        self.fields.strikes
     }
 
     /// The NAKs since the last progress, at most the limit.
@@ -234,7 +231,15 @@ impl Transfer {
     pub fn nak_count(&self) -> u16
         ensures { result ≡ self.now.nak_count }
     {
-        self.nak_count
+        self.fields.nak_count
+    }
+
+    /// Whether a data packet to the device is due.
+    #[inline(always)]
+    pub(crate) fn is_sending(&self) -> bool
+        ensures { result ≡ is_sending self.now.stage }
+    {
+        self.fields.stage == TransferStage::DataOut
     }
 
     /// Whether there was no transaction yet.
@@ -248,7 +253,7 @@ impl Transfer {
     pub fn is_untried(&self) -> bool
         ensures { result ≡ is_untried self.now.stage self.now.strikes }
     {
-        self.stage == TransferStage::Setup && self.strikes == 0
+        self.fields.stage == TransferStage::Setup && self.fields.strikes == 0
     }
 
     /// Takes the reply to the transaction that was due, which moves the transfer as the table of stages says. A transfer
@@ -271,7 +276,7 @@ impl Transfer {
         ensures fewer { IsSome (due self.old) → left self.new < left self.old }
     {
         // For the proof alone: a field that is read brings in what holds of a transfer.
-        let _packet = self.packet;
+        let _packet = self.fields.packet;
         self.take_at(a)
     }
 
@@ -281,10 +286,10 @@ impl Transfer {
         ensures heard { heard_of result ≡ (taken self.old (reply_of a.entry)).heard }
         ensures after { self.new ≡ (taken self.old (reply_of a.entry)).transfer }
     {
-        match self.stage {
+        match self.fields.stage {
             TransferStage::Setup => match a {
                 Answer::Ack => {
-                    let stage = after_setup(self.request);
+                    let stage = after_setup(self.fields.request);
                     self.go_on(stage)
                 }
                 Answer::Silence => self.strike(),
@@ -298,11 +303,10 @@ impl Transfer {
                 Answer::Ack => self.fail(Why::Unexpected),
             },
             TransferStage::DataOut => match a {
-                Answer::Ack => self.count_sent(),
                 Answer::Nak => self.delay(),
                 Answer::Silence => self.strike(),
                 Answer::Stall => self.fail(Why::Stalled),
-                Answer::Data(_, _) => self.fail(Why::Unexpected),
+                Answer::Ack | Answer::Data(_, _) => self.fail(Why::Unexpected),
             },
             TransferStage::StatusOut => match a {
                 Answer::Ack => self.complete(),
@@ -331,13 +335,13 @@ impl Transfer {
         ensures heard { heard_of result ≡ (taken_data self.old toggle bytes.now).heard }
         ensures after { self.new ≡ (taken_data self.old toggle bytes.now).transfer }
     {
-        if bytes.len() > usize::from(self.packet) {
+        if bytes.len() > usize::from(self.fields.packet) {
             return self.fail(Why::TooLong);
         }
-        if toggle != self.awaited {
+        if toggle != self.fields.awaited {
             return self.strike();
         }
-        if usize::from(self.kept) + bytes.len() > usize::from(self.request.length) {
+        if usize::from(self.fields.kept) + bytes.len() > usize::from(self.fields.request.length) {
             return self.fail(Why::TooLong);
         }
         self.keep(bytes.len() as u16);
@@ -365,9 +369,9 @@ impl Transfer {
         ensures heard { heard_of result ≡ (moved self.old stage).heard }
         ensures after { self.new ≡ (moved self.old stage).transfer }
     {
-        self.stage = stage;
-        self.strikes = 0;
-        self.nak_count = 0;
+        self.fields.stage = stage;
+        self.fields.strikes = 0;
+        self.fields.nak_count = 0;
         Heard::Again
     }
 
@@ -377,9 +381,9 @@ impl Transfer {
         ensures heard { heard_of result ≡ (completed self.old).heard }
         ensures after { self.new ≡ (completed self.old).transfer }
     {
-        self.stage = TransferStage::Completed;
-        self.strikes = 0;
-        self.nak_count = 0;
+        self.fields.stage = TransferStage::Completed;
+        self.fields.strikes = 0;
+        self.fields.nak_count = 0;
         Heard::Complete
     }
 
@@ -390,32 +394,35 @@ impl Transfer {
         requires within { self.old.kept + count ≤ self.old.request.length }
         ensures { self.new ≡ with_packet self.old count }
     {
-        let is_short = count < u16::from(self.packet);
-        self.kept += count;
-        if is_short || self.kept == self.request.length {
-            self.stage = TransferStage::StatusOut;
+        let is_short = count < u16::from(self.fields.packet);
+        self.fields.kept += count;
+        if is_short || self.fields.kept == self.fields.request.length {
+            self.fields.stage = TransferStage::StatusOut;
         }
-        self.awaited = self.awaited.flip();
-        self.strikes = 0;
-        self.nak_count = 0;
+        self.fields.awaited = self.fields.awaited.flip();
+        self.fields.strikes = 0;
+        self.fields.nak_count = 0;
     }
 
-    /// Progress by the data packet to the device that was due.
+    /// Progress of a write by the data packet that was due.
     #[inline(always)]
-    fn count_sent(&mut self) -> Heard<'static>
+    pub(crate) fn count_sent(&mut self) -> Heard<'static>
         ensures heard { heard_of result ≡ (acknowledged self.old).heard }
         ensures after { self.new ≡ (acknowledged self.old).transfer }
+        ensures fewer { self.old.stage ≡ DataOut → left self.new < left self.old }
     {
-        let count = u16::from(self.packet).min(self.request.length - self.kept);
-        self.kept += count;
-        self.stage = if self.kept == self.request.length {
+        let count = u16::from(self.fields.packet).min(
+            self.fields.request.length - self.fields.kept,
+        );
+        self.fields.kept += count;
+        self.fields.stage = if self.fields.kept == self.fields.request.length {
             TransferStage::StatusIn
         } else {
             TransferStage::DataOut
         };
-        self.awaited = self.awaited.flip();
-        self.strikes = 0;
-        self.nak_count = 0;
+        self.fields.awaited = self.fields.awaited.flip();
+        self.fields.strikes = 0;
+        self.fields.nak_count = 0;
         Heard::Again
     }
 
@@ -425,7 +432,7 @@ impl Transfer {
         ensures heard { heard_of result ≡ (failed self.old why).heard }
         ensures after { self.new ≡ (failed self.old why).transfer }
     {
-        self.stage = TransferStage::Failed(why);
+        self.fields.stage = TransferStage::Failed(why);
         Heard::Failed(why)
     }
 
@@ -435,8 +442,8 @@ impl Transfer {
         ensures heard { heard_of result ≡ (struck self.old).heard }
         ensures after { self.new ≡ (struck self.old).transfer }
     {
-        if self.strikes < STRIKES {
-            self.strikes += 1;
+        if self.fields.strikes < STRIKES {
+            self.fields.strikes += 1;
             Heard::Again
         } else {
             self.fail(Why::NoAnswer)
@@ -449,8 +456,8 @@ impl Transfer {
         ensures heard { heard_of result ≡ (delayed self.old).heard }
         ensures after { self.new ≡ (delayed self.old).transfer }
     {
-        if self.nak_count < self.naks {
-            self.nak_count += 1;
+        if self.fields.nak_count < self.fields.naks {
+            self.fields.nak_count += 1;
             Heard::Again
         } else {
             self.fail(Why::Busy)

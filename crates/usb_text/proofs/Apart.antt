@@ -5,10 +5,10 @@ use Rattle.std.proofs.lemmas.Bool.{and_parts, eqb-true, leb-true}
 use Rattle.hex.specs.Hex.{hex_digit_value}
 use Rattle.usb_text.specs.declared.hex_text.Form.{Form}
 use Rattle.usb_text.specs.declared.hex_text.Form.TheVariants.{Plain, Words}
-use Rattle.usb_text.specs.HexDigits.{Item, is_gap, joined}
+use Rattle.usb_text.specs.HexDigits.{Item, is_gap, joined, no_byte}
 use Rattle.usb_text.specs.Columns.{after_all, at_start, begins_zeros, column_form, ends_address, has_columns, is_blank, is_offset, is_zero}
 use Rattle.usb_text.specs.HexText.{Reads, begins_byte, begins_directive, bytes_of, digits_in, ends, form_of, goes_on, in_line, item, line_item, mark_or_byte, plain_item}
-use Rattle.usb_text.specs.TwoReadings.{has_two_readings}
+use Rattle.usb_text.specs.TwoReadings.{has_offset_after, has_two_readings}
 use Rattle.usb_text.specs.Hexadecimal.{HexAsIs, IsApart, IsNoDescriptor, is_of_source}
 
 -- nothing is read where no item begins
@@ -57,18 +57,27 @@ no_mark : (m b : Bool) (taken : Item) (v : Option ℕ) (rest : List ℕ)
 no_mark true b taken v rest = no_digits v rest
 no_mark false b taken v rest = no_digits v rest
 
-gap_or_none : (a b : Bool) (taken other : Item) → other ≡ None → (cond a taken (cond b taken other) ≡ taken) ⊎ (cond a taken (cond b taken other) ≡ None)
-gap_or_none true b taken other none = inl refl
-gap_or_none false true taken other none = inl refl
-gap_or_none false false taken other none = inr none
+abbrev none_of : Option (List ℕ)
+none_of = None
+
+-- a line feed is an item where no offset could follow it
+fed : (stops : Bool) (rest : List ℕ) → (option_map no_byte (cond stops none_of (Some rest)) ≡ Some (None, rest)) ⊎ (option_map no_byte (cond stops none_of (Some rest)) ≡ None)
+fed true rest = inr refl
+fed false rest = inl refl
+
+gap_or_none : (a b : Bool) (taken other : Item) (rest : List ℕ) → (taken ≡ Some (None, rest)) ⊎ (taken ≡ None) → other ≡ None
+    → (cond a taken (cond b (Some (None, rest)) other) ≡ Some (None, rest)) ⊎ (cond a taken (cond b (Some (None, rest)) other) ≡ None)
+gap_or_none true b taken other rest is none = is
+gap_or_none false true taken other rest is none = inl refl
+gap_or_none false false taken other rest is none = inr none
 
 before_two : (count c : ℕ) (rest : List ℕ) → (item Plain count (c ∷ 2 ∷ rest) ≡ Some (None, 2 ∷ rest)) ⊎ (item Plain count (c ∷ 2 ∷ rest) ≡ None)
 unfolding line_item plain_item mark_or_byte digits_in
-before_two count c rest = gap_or_none (c == 10) (is_gap c) _ _ (no_mark ((c == 48) || (c == 92)) (begins_byte rest) (Some (None, rest)) (hex_digit_value c) rest)
+before_two count c rest = gap_or_none (c == 10) (is_gap c) _ _ (2 ∷ rest) (fed (has_offset_after count (2 ∷ rest)) (2 ∷ rest)) (no_mark ((c == 48) || (c == 92)) (begins_byte rest) (Some (None, rest)) (hex_digit_value c) rest)
 
 before_seven : (count c : ℕ) (rest : List ℕ) → (item Plain count (c ∷ 7 ∷ rest) ≡ Some (None, 7 ∷ rest)) ⊎ (item Plain count (c ∷ 7 ∷ rest) ≡ None)
 unfolding line_item plain_item mark_or_byte digits_in
-before_seven count c rest = gap_or_none (c == 10) (is_gap c) _ _ (no_mark ((c == 48) || (c == 92)) (begins_byte rest) (Some (None, rest)) (hex_digit_value c) rest)
+before_seven count c rest = gap_or_none (c == 10) (is_gap c) _ _ (7 ∷ rest) (fed (has_offset_after count (7 ∷ rest)) (7 ∷ rest)) (no_mark ((c == 48) || (c == 92)) (begins_byte rest) (Some (None, rest)) (hex_digit_value c) rest)
 
 not_whole : (c : ℕ) (rest : List ℕ) → [] ≡ c ∷ rest → ⊥
 not_whole c rest e = cc
@@ -104,7 +113,7 @@ is_short text e = let le = leb-true (4 + length text) (length text) e in omega (
 is_short_one : (c : ℕ) (text : List ℕ) → nat_le (4 + length text) (length (c ∷ text)) ≡ true → ⊥
 is_short_one c text e = let le = leb-true (4 + length text) (suc (length text)) e in omega (arith, le)
 
-zeros : (text : List ℕ) → is_offset text (after_all is_zero text) ≡ true → (slice_index text 0 ≡ 48) × (slice_index text 1 ≡ 48)
+pub zeros : (text : List ℕ) → is_offset text (after_all is_zero text) ≡ true → (slice_index text 0 ≡ 48) × (slice_index text 1 ≡ 48)
 unfolding after_all
 zeros [] e = absurd (is_short [] e)
 zeros (c ∷ []) e = absurd (by (eqb c 48) e)

@@ -16,3 +16,8 @@ pub mod DigitValues
 pub mod DigitItems
 pub mod Feeds
 pub mod Offsets
+pub mod Found
+pub mod ColumnLines
+pub mod EmptyLines
+pub mod NoItems
+pub mod Runs

@@ -4,10 +4,21 @@
 -- Wireshark have it, or an address before a colon, as a debugger has it. Each other one is the count of the bytes before it.
 use Rattle.std.specs.Prelude.{ℕ, ◌+◌, ◌*◌, ◌==◌, ◌||◌, ◌&&◌, Bool, false, not, zero, suc, nat_le, nat_lt, true, if◌then◌else◌, List, [], ◌∷◌, length, slice_index, Option, Some, None}
 use Rattle.hex.specs.Hex.{hex_digit_value, is_hex_digit}
-use Rattle.usb_text.specs.Comments.{is_before_line, is_fence}
 use Rattle.usb_text.specs.HexDigits.{byte_of, is_gap}
 use Rattle.usb_text.specs.declared.hex_text.Form.{Form}
 use Rattle.usb_text.specs.declared.hex_text.Form.TheVariants.{Plain, Words, Colons, Spaces, Rows, Groups, Addresses, Named, Literal, Source}
+
+-- three back quotes
+abbrev pub is_fence : ℕ → List ℕ → Bool
+is_fence c rest = (c == 96) && (slice_index rest 0 == 96) && (slice_index rest 1 == 96)
+
+-- a byte of UTF-8's byte order mark
+abbrev pub is_order_mark : ℕ → Bool
+is_order_mark c = (c == 239) || (c == 187) || (c == 191)
+
+-- white space in a line, and what may be before a line in a mail
+abbrev pub is_before_line : ℕ → Bool
+is_before_line c = (c == 9) || (c == 32) || (c == 62) || is_order_mark c
 
 abbrev pub is_zero : ℕ → Bool
 is_zero c = c == 48
@@ -218,9 +229,44 @@ abbrev pub begins_gap : List ℕ → Bool
 begins_gap [] = true
 begins_gap (c ∷ rest) = is_gap c
 
--- The line is empty, or no number is at its start, or it numbers the columns.
+-- two digits, and a gap or the end after them
+abbrev pub begins_pair : List ℕ → Bool
+begins_pair text =
+    is_hex_digit (slice_index text 0) && is_hex_digit (slice_index text 1) && begins_gap (after_one (after_one text))
+
+-- the same after `0x` or `\x`
+abbrev pub begins_marked_pair : List ℕ → Bool
+begins_marked_pair text =
+    ((slice_index text 0 == 48) || (slice_index text 0 == 92)) && (slice_index text 1 == 120) && begins_pair (after_one (after_one text))
+
+-- a word that is a byte
+abbrev pub begins_byte_word : List ℕ → Bool
+begins_byte_word text = begins_pair text || begins_marked_pair text
+
+-- what is left of a line from its first word on that is a byte; a word begins after a gap
+unfoldable pub byte_word : Bool → List ℕ → Option (List ℕ)
+byte_word starts [] = None
+byte_word starts (c ∷ rest) =
+    if c == 10 then None
+    else if starts && begins_byte_word (c ∷ rest) then Some (c ∷ rest)
+    else byte_word (is_gap c) rest
+
+abbrev pub is_some : Option (List ℕ) → Bool
+is_some None = false
+is_some (Some rest) = true
+
+abbrev pub has_another : Option (List ℕ) → Bool
+has_another None = false
+has_another (Some text) = not (begins_numbers text) && is_some (byte_word false (after_one text))
+
+-- two words of a line or more are bytes, which don't number columns
+abbrev pub has_bytes : List ℕ → Bool
+has_bytes text = has_another (byte_word true text)
+
+-- The line is empty, or it numbers the columns, or it has no number at its start and no bytes.
 abbrev pub is_heading : List ℕ → Bool
-is_heading text = is_empty_line text || not (begins_gap (after_digits text)) || begins_numbers text
+is_heading text =
+    is_empty_line text || begins_numbers text || not (begins_gap (after_digits text) || has_bytes text)
 
 -- Where the columns of a text begin: at its first line with an offset, where only headings are before it.
 unfoldable pub columns_of : Bool → List ℕ → Option (List ℕ)
@@ -229,10 +275,6 @@ columns_of starts (c ∷ rest) =
     if starts && begins_columns (at_start (c ∷ rest)) then Some (at_start (c ∷ rest))
     else if starts && not (is_heading (at_start (c ∷ rest))) then None
     else columns_of (c == 10) rest
-
-abbrev pub is_some : Option (List ℕ) → Bool
-is_some None = false
-is_some (Some rest) = true
 
 abbrev pub has_columns : List ℕ → Bool
 has_columns text = is_some (columns_of true text)
@@ -271,19 +313,6 @@ at_offset place text =
     else if is_empty_line line then Some line
     else if begins_fence line then Some (after_all is_in_line line)
     else None
-
--- what is left after the start of a later line, before which are so many bytes
-abbrev pub at_line : Form → ℕ → List ℕ → Option (List ℕ)
-at_line Plain count text = Some text
-at_line Words count text = Some text
-at_line Colons count text = at_offset count text
-at_line Spaces count text = at_offset count text
-at_line Rows count text = at_offset count text
-at_line Groups count text = at_offset count text
-at_line (Addresses base) count text = at_offset (base + count) text
-at_line Named count text = Some (after_label text)
-at_line (Literal quote) count text = Some text
-at_line (Source style) count text = Some text
 
 -- After a byte its group goes on for longer than the form has it: `xxd` has two bytes in one, the others one. Of longer
 -- ones nothing says which byte is first; `objdump` writes them in order.

@@ -1,14 +1,32 @@
 -- What is no code in a text, as a program's source and a mail have it.
 --
--- Comments are those of C and Rust, and what follows `# `; a mail quotes with `>` before a line, and a line that begins
+-- Comments are those of C and Rust, and what follows `# `, but for the conditions of C; a mail quotes with `>` before a line, and a line that begins
 -- with three back quotes is a fence of Markdown.
-use Rattle.std.specs.Prelude.{ℕ, ◌==◌, ◌||◌, ◌&&◌, Bool, false, not, true, if◌then◌else◌, List, [], ◌∷◌, slice_index}
+use Rattle.std.specs.Prelude.{ℕ, ◌==◌, ◌||◌, ◌&&◌, Bool, false, not, true, if◌then◌else◌, List, [], ◌∷◌, codes, slice_index}
+use Rattle.usb_text.specs.Columns.{after_all, is_before_line, is_blank, is_fence, is_order_mark}
+use Rattle.usb_text.specs.SourceItems.{begins_line_end, begins_word}
 use Rattle.usb_text.specs.declared.comment.Place.{Place}
 use Rattle.usb_text.specs.declared.comment.Place.TheVariants.{Start, Code, LineComment, Opening, Comment, Closing}
 
--- two slashes, or a number sign and a space
+-- a text begins with a name
+abbrev pub begins_word_of : List ℕ → List ℕ → Bool
+begins_word_of [] text = not (begins_word text)
+begins_word_of (letter ∷ name) [] = false
+begins_word_of (letter ∷ name) (c ∷ rest) = (c == letter) && begins_word_of name rest
+
+-- A directive of C says which lines are code, or takes lines of another file: `if`, `ifdef`, `ifndef`, `elif`, `else`, `endif` or
+-- `include`.
+abbrev pub chooses_lines : List ℕ → Bool
+chooses_lines text =
+    begins_word_of (codes "if") text || begins_word_of (codes "ifdef") text || begins_word_of (codes "ifndef") text
+    || begins_word_of (codes "elif") text || begins_word_of (codes "else") text || begins_word_of (codes "endif") text
+    || begins_word_of (codes "include") text
+
+-- two slashes; or a number sign and a space, and no such directive
 abbrev pub begins_line_comment : ℕ → List ℕ → Bool
-begins_line_comment c rest = ((c == 47) && (slice_index rest 0 == 47)) || ((c == 35) && (slice_index rest 0 == 32))
+begins_line_comment c rest =
+    ((c == 47) && (slice_index rest 0 == 47))
+    || ((c == 35) && (slice_index rest 0 == 32) && not (chooses_lines (after_all is_blank rest)))
 
 -- a slash and a star
 abbrev pub begins_comment : ℕ → List ℕ → Bool
@@ -17,18 +35,6 @@ begins_comment c rest = (c == 47) && (slice_index rest 0 == 42)
 -- a star and a slash
 abbrev pub ends_comment : ℕ → List ℕ → Bool
 ends_comment c rest = (c == 42) && (slice_index rest 0 == 47)
-
--- three back quotes
-abbrev pub is_fence : ℕ → List ℕ → Bool
-is_fence c rest = (c == 96) && (slice_index rest 0 == 96) && (slice_index rest 1 == 96)
-
--- a byte of UTF-8's byte order mark
-abbrev pub is_order_mark : ℕ → Bool
-is_order_mark c = (c == 239) || (c == 187) || (c == 191)
-
--- white space in a line, and what may be before a line in a mail
-abbrev pub is_before_line : ℕ → Bool
-is_before_line c = (c == 9) || (c == 32) || (c == 62) || is_order_mark c
 
 abbrev pub after_code : ℕ → List ℕ → Place
 after_code c rest =
@@ -77,11 +83,20 @@ is_unended Opening rest = is_end rest
 is_unended Comment rest = is_end rest
 is_unended Closing rest = false
 
+-- A comment that ends with its line has a backslash at its end, with which it goes on in the next line in C and not in Rust.
+abbrev pub goes_on_below : Place → ℕ → List ℕ → Bool
+goes_on_below Start c rest = false
+goes_on_below Code c rest = false
+goes_on_below LineComment c rest = (c == 92) && begins_line_end (after_all is_blank rest)
+goes_on_below Opening c rest = false
+goes_on_below Comment c rest = false
+goes_on_below Closing c rest = false
+
 -- A line feed stays one, and else a space is in place of what is no code. A star, which begins no byte, ends a text whose
--- comment doesn't end.
+-- comment doesn't end, and is in place of the backslash with which a comment may go on.
 abbrev pub shown : Place → ℕ → List ℕ → ℕ
 shown place c rest =
-    if is_unended place rest then 42
+    if is_unended place rest || goes_on_below place c rest then 42
     else if (c == 10) || is_code place c rest then c
     else 32
 

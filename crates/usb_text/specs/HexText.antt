@@ -4,12 +4,13 @@
 -- columns each line has an offset, bytes and maybe their characters (`Columns`). Then only the bytes are read.
 use Rattle.std.specs.Prelude.{◌≡◌, ℕ, ◌+◌, ◌%◌, ◌==◌, ◌||◌, ◌&&◌, Bool, false, not, true, if◌then◌else◌, List, [], ◌∷◌, ◌++◌, length, slice_index, Option, Some, None, option_map}
 use Rattle.hex.specs.Hex.{is_hex_digit}
-use Rattle.usb_text.specs.Columns.{after_all, after_label, after_one, after_start, at_line, at_start, begins_zeros, column_form, columns_of, has_columns, has_three_spaces, has_two_spaces, is_blank, is_in_line, is_too_long}
+use Rattle.usb_text.specs.Columns.{after_all, after_label, after_one, after_start, at_offset, at_start, begins_zeros, column_form, columns_of, has_columns, has_three_spaces, has_two_spaces, is_blank, is_in_line, is_too_long}
 use Rattle.usb_text.specs.HexDigits.{Item, digits, is_gap, no_byte}
 use Rattle.usb_text.specs.Literals.{after_opening, literal_item}
 use Rattle.usb_text.specs.SourceItems.{is_decimal, source_item}
-use Rattle.usb_text.specs.TwoReadings.{has_two_readings}
+use Rattle.usb_text.specs.TwoReadings.{has_offset_after, has_two_readings}
 use Rattle.usb_text.specs.declared.hex_text.Form.{Form}
+use Rattle.usb_text.specs.declared.source_item.Style.{Style}
 use Rattle.usb_text.specs.declared.hex_text.Form.TheVariants.{Plain, Words, Colons, Spaces, Rows, Groups, Addresses, Named, Literal, Source}
 
 -- `0x` or `\x`
@@ -40,6 +41,20 @@ form_of text =
     if begins_zeros text then column_form text
     else if has_columns text || has_two_readings text || begins_directive (at_start text) then Words
     else Plain
+
+-- What is left after the start of a later line, before which are so many bytes. Without columns none begins with what could be
+-- an offset.
+abbrev pub at_line : Form → ℕ → List ℕ → Option (List ℕ)
+at_line Plain count text = if has_offset_after count text then None else Some text
+at_line Words count text = Some text
+at_line Colons count text = at_offset count text
+at_line Spaces count text = at_offset count text
+at_line Rows count text = at_offset count text
+at_line Groups count text = at_offset count text
+at_line (Addresses base) count text = at_offset (base + count) text
+at_line Named count text = Some (after_label text)
+at_line (Literal quote) count text = Some text
+at_line (Source style) count text = Some text
 
 abbrev pub gap_or : Form → ℕ → ℕ → List ℕ → Item → Item
 gap_or form count c rest other =
@@ -86,6 +101,11 @@ line_item form count [] = None
 line_item form count (c ∷ rest) =
     if has_characters form count (c ∷ rest) then Some (None, after_all is_in_line rest) else plain_item form count (c ∷ rest)
 
+-- the item of a source, in which no line begins with what could be an offset either
+abbrev pub counted_item : Style → ℕ → List ℕ → Item
+counted_item style count text =
+    if (slice_index text 0 == 10) && has_offset_after count (after_one text) then None else source_item style text
+
 -- the item at the start of a text, after so many bytes
 abbrev pub item : Form → ℕ → List ℕ → Item
 item Plain count text = line_item Plain count text
@@ -97,7 +117,7 @@ item (Addresses base) count text = line_item (Addresses base) count text
 item Named count text = line_item Named count text
 item Words count text = None
 item (Literal quote) count text = literal_item quote text
-item (Source style) count text = source_item style text
+item (Source style) count text = counted_item style count text
 
 -- what is left after the start of the first line with bytes
 abbrev pub in_line : Form → List ℕ → List ℕ

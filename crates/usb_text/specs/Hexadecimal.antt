@@ -2,7 +2,7 @@
 --
 -- A text is read as it is, in its form. One that isn't hexadecimal so is read as the source of a program or another text
 -- that has bytes: without comments, and between brackets where it has some. Either way a text has one reading.
-use Rattle.std.specs.Prelude.{◌≡◌, ℕ, ◌+◌, ◌-◌, ◌<◌, ◌==◌, ◌||◌, ◌&&◌, ◌⊎◌, Bool, true, false, not, nat_le, if◌then◌else◌, List, [], ◌∷◌, length, take, slice_index, Option, Some, None, count_by}
+use Rattle.std.specs.Prelude.{◌≡◌, ℕ, ◌+◌, ◌-◌, ◌<◌, ◌==◌, ◌||◌, ◌&&◌, ◌⊎◌, Bool, true, false, not, nat_le, if◌then◌else◌, List, [], ◌∷◌, length, take, drop, slice_index, Option, Some, None, count_by}
 use Rattle.std.specs.List.{list_all}
 use Rattle.usb_text.specs.Brackets.{bracket_of, first_side, has, within}
 use Rattle.usb_text.specs.Comments.{uncommented}
@@ -13,6 +13,7 @@ use Rattle.usb_text.specs.HexText.{Reads, column_after, form_of, in_line, is_lin
 use Rattle.usb_text.specs.SourceItems.{is_decimal, is_parting}
 use Rattle.usb_text.specs.TwoReadings.{has_two_readings}
 use Rattle.usb_text.specs.declared.bracket.Bracket.{Bracket}
+use Rattle.usb_text.specs.declared.bracket.Bracket.TheVariants.{Curly, Square}
 use Rattle.usb_text.specs.declared.comment.Place.TheVariants as places
 use Rattle.usb_text.specs.declared.label.Part.TheVariants as parts
 use Rattle.usb_text.specs.declared.hex_text.Form.{Form}
@@ -20,7 +21,7 @@ use Rattle.usb_text.specs.declared.hex_text.Form.TheVariants.{Literal, Named, So
 use Rattle.usb_text.specs.declared.hex_text.HexFault.{HexFault}
 use Rattle.usb_text.specs.declared.hex_text.HexFault.TheVariants as faults
 use Rattle.usb_text.specs.declared.source_item.Style.{Style}
-use Rattle.usb_text.specs.declared.source_item.Style.TheVariants.{Escaped, Prefixed, Suffixed, Pairs, Separated, Loose, Decimals}
+use Rattle.usb_text.specs.declared.source_item.Style.TheVariants.{Escaped, Prefixed, Suffixed, Pairs, Separated, Loose, Decimals, Either}
 
 -- ---- a text in one form
 
@@ -37,20 +38,20 @@ abbrev pub first_of : List ℕ → Option ℕ
 first_of [] = None
 first_of (c ∷ rest) = Some c
 
--- the fault at what is left of a text; lines and columns are counted from 1
-abbrev pub fault_at : List ℕ → List ℕ → HexFault
-fault_at text left =
-    let before = take (length text - length left) text in
-    faults.Text (1 + count_by is_line_feed before) (column_after 1 before) (first_of left)
+-- the fault after so many characters of a text; lines and columns are counted from 1
+abbrev pub fault_at : List ℕ → ℕ → HexFault
+fault_at text place =
+    let before = take place text in
+    faults.Text (1 + count_by is_line_feed before) (column_after 1 before) (first_of (drop place text))
 
--- The text is not hexadecimal in a form: it goes on where no item begins, or it has no byte. The fault is there, or at
--- its end.
-pub record FaultyIn (form : Form) (text : List ℕ) (fault : HexFault) : Type 0 where
+-- What is read of a text, which may have spaces in place of what is left out, is not hexadecimal in a form: it goes on where no item
+-- begins, or it has no byte. The fault is there in the text, or at its end.
+pub record FaultyIn (form : Form) (text shown : List ℕ) (fault : HexFault) : Type 0 where
   pub bytes : List ℕ
   pub left : List ℕ
-  pub read : ReadsText form text bytes left
+  pub read : ReadsText form shown bytes left
   pub wrong : (0 < length left) ⊎ (bytes ≡ [])
-  pub place : fault ≡ fault_at text left
+  pub place : fault ≡ fault_at text (length shown - length left)
 
 -- ---- the source of a program, or another text with bytes
 
@@ -77,14 +78,24 @@ has_long_number (c ∷ rest) = (is_decimal c && is_decimal (slice_index rest 0))
 abbrev pub has_suffix : List ℕ → Bool
 has_suffix inner = has 104 inner || has 72 inner
 
--- Numbers without a prefix in an array: decimal where none has a letter and one is over 9. Where none has a letter and
--- all are below 10 nothing says which they are.
-abbrev pub array_style : List ℕ → Style
-array_style inner =
+-- three decimal digits are next to each other
+unfoldable pub has_three_digits : List ℕ → Bool
+has_three_digits [] = false
+has_three_digits (c ∷ rest) =
+    (is_decimal c && is_decimal (slice_index rest 0) && is_decimal (slice_index rest 1)) || has_three_digits rest
+
+-- Numbers without a letter: those of C, in braces, are decimal where one is over 9. In square brackets, as Python and Rust write them,
+-- they are decimal where one has three digits, and may be hexadecimal where one has two; of one digit each reading is the same.
+abbrev pub number_style : Bracket → List ℕ → Style
+number_style Curly inner = if has_long_number inner then Decimals else Pairs
+number_style Square inner = if has_three_digits inner || not (has_long_number inner) then Decimals else Either
+
+-- numbers without a prefix in an array
+abbrev pub array_style : Bracket → List ℕ → Style
+array_style bracket inner =
     if has_suffix inner then Suffixed
     else if not (list_all is_of_decimals inner) then Loose
-    else if has_long_number inner then Decimals
-    else Pairs
+    else number_style bracket inner
 
 abbrev pub has_prefix : List ℕ → Bool
 has_prefix inner = has 120 inner || has 88 inner || has 36 inner
@@ -98,7 +109,7 @@ line_style inner =
 -- numbers without a prefix
 abbrev pub bare_style : Option Bracket → List ℕ → Style
 bare_style None inner = line_style inner
-bare_style (Some bracket) inner = array_style inner
+bare_style (Some bracket) inner = array_style bracket inner
 
 -- how a text has its bytes, by the characters in it
 abbrev pub style_of : Option Bracket → List ℕ → Style
@@ -150,7 +161,7 @@ HexAsIs text bytes = HexIn (form_of text) text bytes
 
 -- the text isn't hexadecimal as it is, and this is wrong
 abbrev pub FaultyAsIs : List ℕ → HexFault → Type 0
-FaultyAsIs text fault = FaultyIn (form_of text) text fault
+FaultyAsIs text fault = FaultyIn (form_of text) text text fault
 
 -- the text is no hexadecimal one as it is, and a source with these bytes
 pub record HexSource (text bytes : List ℕ) : Type 0 where
@@ -168,7 +179,7 @@ pub record FaultySource (text : List ℕ) (fault : HexFault) : Type 0 where
   pub before : HexFault
   pub first : FaultyAsIs text before
   pub characters : is_source text ≡ true
-  pub is : FaultyIn (source_form text) (source_of text) fault
+  pub is : FaultyIn (source_form text) text (source_of text) fault
 
 -- the text isn't hexadecimal: it has characters of no source, or is no such source either
 abbrev pub HexFaulty : List ℕ → HexFault → Type 0

@@ -5,7 +5,7 @@ use Rattle.hex.specs.Hex.{hex_digit_value, is_hex_digit}
 use Rattle.usb_text.specs.Columns.{after_all, is_blank}
 use Rattle.usb_text.specs.HexDigits.{Item, byte_of, digits, is_gap}
 use Rattle.usb_text.specs.declared.source_item.Style.{Style}
-use Rattle.usb_text.specs.declared.source_item.Style.TheVariants.{Escaped, Prefixed, Suffixed, Pairs, Separated, Loose, Decimals}
+use Rattle.usb_text.specs.declared.source_item.Style.TheVariants.{Escaped, Prefixed, Suffixed, Pairs, Separated, Loose, Decimals, Either}
 
 -- white space, a comma or a semicolon
 abbrev pub is_parting : ℕ → Bool
@@ -136,13 +136,20 @@ prefixed_item (c ∷ rest) =
 
 -- Two digits for each byte.
 
+-- a quote, and after it a digit or another one: one that ends no string is between digits of which nothing says how they go on
+abbrev pub begins_quoted : List ℕ → Bool
+begins_quoted text = is_quote (slice_index text 0) && (is_hex_digit (slice_index text 1) || is_quote (slice_index text 1))
+
+abbrev pub pair : ℕ → ℕ → List ℕ → Item
+pair c d rest = if begins_quoted rest then None else digits c d rest
+
 unfoldable pub pair_item : List ℕ → Item
 pair_item [] = None
 pair_item (c ∷ []) = if is_closing c || is_quote c then Some (None, []) else None
 pair_item (c ∷ d ∷ rest) =
     if is_parting c || is_quote c then Some (None, d ∷ rest)
     else if c == 41 then closing_item (d ∷ rest)
-    else digits c d rest
+    else pair c d rest
 
 -- Two digits and `h` for each byte, and maybe a zero before them.
 
@@ -213,6 +220,12 @@ decimal_item (c ∷ rest) =
     else if is_decimal c then decimals (c - 48) rest
     else None
 
+-- Numbers in an array that may be decimal or hexadecimal: no byte is read of them.
+
+abbrev pub parting_item : List ℕ → Item
+parting_item [] = None
+parting_item (c ∷ rest) = if is_parting c then Some (None, rest) else None
+
 -- an item at the start of a text of a style
 abbrev pub source_item : Style → List ℕ → Item
 source_item Escaped text = escaped_item text
@@ -222,3 +235,4 @@ source_item Pairs text = pair_item text
 source_item Separated text = separated_item text
 source_item Loose text = loose_item text
 source_item Decimals text = decimal_item text
+source_item Either text = parting_item text

@@ -10,12 +10,9 @@ begins_group count is text =
     let rest = after_all is text in
     (length text == count + length rest) && begins_gap rest
 
--- Words of which nothing says which byte is first, as `od -An` writes them after a space.
+-- a word of which nothing says which byte is first, as `od -An` writes them after a blank
 abbrev pub begins_words : List ℕ → Bool
-begins_words text =
-    let start = at_start text in
-    is_blank (slice_index text 0)
-    && (begins_group 4 is_hex_digit start || begins_group 8 is_hex_digit start || begins_group 16 is_hex_digit start)
+begins_words start = begins_group 4 is_hex_digit start || begins_group 8 is_hex_digit start || begins_group 16 is_hex_digit start
 
 abbrev pub is_binary : ℕ → Bool
 is_binary c = (c == 48) || (c == 49)
@@ -33,6 +30,18 @@ abbrev pub begins_offset : List ℕ → Bool
 begins_offset text =
     let rest = after_all is_hex_digit text in
     is_offset text rest && is_blank (slice_index rest 0) && are_pairs is_blank (after_all is_blank rest)
+
+-- the number at the start of the line is the count of the bytes before it
+abbrev pub is_count : ℕ → List ℕ → Bool
+is_count count text =
+    begins_gap (after_all is_hex_digit text) && ((offset_value 16 0 text == count) || (offset_value 10 0 text == count))
+
+-- Four digits or more, as an offset has, begin a line after so many bytes of a text without columns: before two bytes alone, or as the
+-- count of the bytes before.
+abbrev pub has_offset_after : ℕ → List ℕ → Bool
+has_offset_after count text =
+    let start = at_start text in
+    is_offset start (after_all is_hex_digit start) && (begins_offset start || is_count count start)
 
 -- how many digits are in a line
 unfoldable pub digits_in_line : List ℕ → ℕ
@@ -60,4 +69,4 @@ counts_bytes text =
 abbrev pub has_two_readings : List ℕ → Bool
 has_two_readings text =
     let start = at_start text in
-    begins_words text || begins_bits start || begins_numbers start || begins_offset start || counts_bytes start
+    (is_blank (slice_index text 0) && begins_words start) || begins_bits start || begins_numbers start || begins_offset start || counts_bytes start

@@ -1,2 +1,4 @@
 pub mod Pages
 pub mod Units
+pub mod NoItems
+pub mod Runs

@@ -1,13 +1,12 @@
 //! The columns of a text that has them.
-ghost use Rattle.std.specs.Prelude.{◌≡◌, ◌&&◌, ◌≤◌, IfSome, MatchOption, None, Some, length, slice_index, true};
+ghost use Rattle.std.specs.Prelude.{◌≡◌, ◌&&◌, ◌==◌, ◌<◌, ◌≤◌, IfSome, MatchOption, None, Some, length, not, slice_index, true};
 ghost use Rattle.hex.specs.Hex.{is_hex_digit};
-ghost use Rattle.usb_text.specs.Columns.{after_all, after_one, at_line, at_offset, at_start, begins_address, begins_columns, begins_fence, begins_gap, begins_numbers, begins_row, begins_zeros, blank_form, column_form, columns_of, has_next_offset, has_text, has_three_spaces, has_two_spaces, is_blank, is_empty_line, is_heading, is_in_line, is_too_long, is_zero, next_line, zeros_form};
-ghost use Rattle.usb_text.specs.Comments.{is_before_line};
+ghost use Rattle.usb_text.specs.inside.Runs.{has_run};
+ghost use Rattle.usb_text.specs.Columns.{after_all, after_one, at_offset, at_start, begins_address, begins_byte_word, begins_columns, begins_fence, begins_gap, begins_marked_pair, begins_numbers, begins_pair, begins_row, begins_zeros, blank_form, byte_word, column_form, columns_of, has_bytes, has_next_offset, has_text, has_three_spaces, has_two_spaces, is_before_line, is_blank, is_empty_line, is_heading, is_in_line, is_too_long, is_zero, next_line, zeros_form};
 
 use crate::comment::{is_before_line, is_fence};
 use crate::hex_text::{Form, is_gap};
 use crate::in_order::colon_form;
-use crate::named::after_label;
 use crate::numbers::digit;
 use crate::offset::{
     after_digits, after_mark, after_name, after_offset_of, ends_address, has_digits, is_offset,
@@ -237,33 +236,150 @@ pub(crate) fn begins_gap(text: &[u8]) -> bool
     }
 }
 
+/// Whether two digits are at the start of a text, and a gap or nothing after them.
+fn begins_pair(text: &[u8]) -> bool
+    ensures { result ≡ begins_pair text.now }
+{
+    match text {
+        [c, d, rest @ ..] => digit(*c).is_some() && digit(*d).is_some() && begins_gap(rest),
+        _ => false,
+    }
+}
+
+/// Whether a word that is a byte is at the start of a text: two digits, maybe after a mark.
+fn begins_byte_word(text: &[u8]) -> bool
+    ensures { result ≡ begins_byte_word text.now }
+{
+    begins_pair(text) || begins_marked_pair(text)
+}
+
+/// Whether a mark and two digits are at the start of a text, and a gap or nothing after them.
+fn begins_marked_pair(text: &[u8]) -> bool
+    ensures { result ≡ begins_marked_pair text.now }
+{
+    match text {
+        [c, d, rest @ ..] => (*c == b'0' || *c == b'\\') && *d == b'x' && begins_pair(rest),
+        _ => false,
+    }
+}
+
+/// What is left of a line from its first word on that is a byte.
+#[tactic(auto, unfolding(crate::specs::Columns::byte_word))]
+fn byte_word(starts: bool, text: &[u8]) -> Option<&[u8]>
+    ensures is { MatchOption result (byte_word starts text.now ≡ None) (λ rest. byte_word starts text.now ≡ Some rest.now) }
+    ensures within { IfSome result (λ rest. length rest.now ≤ length text.now) }
+{
+    let mut starts_word = starts;
+    let mut rest = text;
+    while let [c, tail @ ..] = rest {
+        if *c == b'\n' {
+            return None;
+        }
+        if starts_word && begins_byte_word(rest) {
+            return Some(rest);
+        }
+        starts_word = is_gap(*c);
+        rest = tail;
+    }
+    None
+}
+
+/// Whether two words of a line or more are bytes, and don't number columns.
+pub(crate) fn has_bytes(text: &[u8]) -> bool
+    ensures { result ≡ has_bytes text.now }
+{
+    match byte_word(true, text) {
+        None => false,
+        Some(word) => !begins_numbers(word) && byte_word(false, after_one(word)).is_some(),
+    }
+}
+
 /// Whether a line without an offset may be before the columns.
 fn is_heading(text: &[u8]) -> bool
     ensures { result ≡ is_heading text.now }
 {
-    is_empty_line(text) || !begins_gap(after_digits(text)) || begins_numbers(text)
+    is_empty_line(text)
+        || begins_numbers(text)
+        || !(begins_gap(after_digits(text)) || has_bytes(text))
+}
+
+/// Whether a line is left out before the columns.
+#[inline(always)]
+#[tactic(auto, using(crate::proofs::ColumnLines::empty_is_left_out))]
+fn is_left_out(text: &[u8]) -> bool
+    ensures { result ≡ (not (begins_columns text.now) && is_heading text.now) }
+{
+    is_empty_line(text) || (!begins_columns(text) && is_heading(text))
+}
+
+/// What is left below a line. No search is begun for the end of an empty one.
+#[inline(always)]
+#[tactic(auto, unfolding(crate::specs::Columns::after_all))]
+fn below(text: &[u8]) -> &[u8]
+    ensures is { result.now ≡ after_one (after_all is_in_line text.now) }
+    ensures less { 0 < length text.now → length result.now < length text.now }
+{
+    if begins_feed(text) {
+        return after_one(text);
+    }
+    match after_line(text) {
+        [_, rest @ ..] => rest,
+        [] => &[],
+    }
+}
+
+/// Whether a line feed is at the start of a text.
+pub(crate) fn begins_feed(text: &[u8]) -> bool
+    ensures { result ≡ (slice_index text.now 0 == 10) }
+{
+    matches!(text, [b'\n', ..])
+}
+
+/// Whether four digits are next to each other.
+#[tactic(auto, unfolding(crate::specs::inside::Runs::has_run))]
+fn has_run(text: &[u8]) -> bool
+    ensures { result ≡ has_run text.now }
+{
+    let mut rest = text;
+    while let [c, tail @ ..] = rest {
+        if digit(*c).is_some() && begins_three_digits(tail) {
+            return true;
+        }
+        rest = tail;
+    }
+    false
 }
 
 /// The text from its first offset on, where only headings are before that.
-#[tactic(auto, unfolding(crate::specs::Columns::columns_of))]
+#[tactic(auto, using(crate::proofs::Runs::no_columns))]
 pub(crate) fn columns_of(text: &[u8]) -> Option<&[u8]>
     ensures is { MatchOption result (columns_of true text.now ≡ None) (λ line. columns_of true text.now ≡ Some line.now) }
     ensures within { IfSome result (λ line. length line.now ≤ length text.now) }
 {
-    let mut starts = true;
+    if has_run(text) {
+        columns_in(text)
+    } else {
+        None
+    }
+}
+
+/// The same, line by line.
+#[tactic(auto, using(crate::proofs::ColumnLines::begins_below, crate::proofs::ColumnLines::begins_here), unfolding(crate::specs::Columns::columns_of))]
+fn columns_in(text: &[u8]) -> Option<&[u8]>
+    ensures is { MatchOption result (columns_of true text.now ≡ None) (λ line. columns_of true text.now ≡ Some line.now) }
+    ensures within { IfSome result (λ line. length line.now ≤ length text.now) }
+{
     let mut rest = text;
-    while let [c, tail @ ..] = rest {
-        if starts {
-            let line = at_start(rest);
-            if begins_columns(line) {
-                return Some(line);
-            }
-            if !is_heading(line) {
-                return None;
-            }
+    while !rest.is_empty() {
+        let line = at_start(rest);
+        if !is_left_out(line) {
+            return if begins_columns(line) {
+                Some(line)
+            } else {
+                None
+            };
         }
-        starts = *c == b'\n';
-        rest = tail;
+        rest = below(rest);
     }
     None
 }
@@ -279,7 +395,7 @@ fn begins_fence(text: &[u8]) -> bool
 }
 
 /// What is left after the offset of a line, where it is that of this place.
-fn at_offset(place: u128, text: &[u8]) -> Option<&[u8]>
+pub(crate) fn at_offset(place: u128, text: &[u8]) -> Option<&[u8]>
     ensures is { MatchOption result (at_offset place text.now ≡ None) (λ rest. at_offset place text.now ≡ Some rest.now) }
     ensures within { IfSome result (λ rest. length rest.now ≤ length text.now) }
 {
@@ -295,20 +411,6 @@ fn at_offset(place: u128, text: &[u8]) -> Option<&[u8]>
                 None
             }
         }
-    }
-}
-
-/// What is left after the start of a line that isn't the first, after so many bytes.
-#[inline(always)]
-pub(crate) fn at_line(form: Form, count: usize, text: &[u8]) -> Option<&[u8]>
-    ensures is { MatchOption result (at_line form count text.now ≡ None) (λ rest. at_line form count text.now ≡ Some rest.now) }
-    ensures within { IfSome result (λ rest. length rest.now ≤ length text.now) }
-{
-    match form {
-        Form::Plain | Form::Words | Form::Literal(_) | Form::Source(_) => Some(text),
-        Form::Named => Some(after_label(text)),
-        Form::Colons | Form::Spaces | Form::Rows | Form::Groups => at_offset(count as u128, text),
-        Form::Addresses(base) => at_offset(u128::from(base) + count as u128, text),
     }
 }
 

@@ -1,11 +1,14 @@
 //! Texts without what is no code: comments, marks of quoted mail, fences and byte order marks.
 ghost use Rattle.std.specs.Prelude.{◌≡◌};
-ghost use Rattle.usb_text.specs.Comments.{after, after_code, after_start, begins_comment, begins_line_comment, ends_comment, is_before_line, is_code, is_code_here, is_fence, is_order_mark, is_unended, shown};
+ghost use Rattle.usb_text.specs.Comments.{after, after_code, after_start, begins_comment, begins_line_comment, begins_word_of, chooses_lines, ends_comment, goes_on_below, is_code, is_code_here, is_unended, shown};
+ghost use Rattle.usb_text.specs.Columns.{is_before_line, is_fence, is_order_mark};
 ghost use Rattle.std.specs.Prelude.{IfErr, IfOk};
 ghost use Rattle.usb_text.specs.Comments.{uncommented};
 
+use crate::column::after_blanks;
 use crate::hex_text::HexFault;
 use crate::reading::keep;
+use crate::symbol::{begins_line_end, begins_word};
 use std::alloc::Global;
 
 /// What a character of a text is in.
@@ -52,11 +55,21 @@ fn is_unended(place: Place, rest: &[u8]) -> bool
     }
 }
 
-/// The character, a space for one that is no code, or a star at the end of a text whose comment doesn't end.
+/// Whether a comment may go on in the next line: it ends with a backslash.
+fn goes_on_below(place: Place, c: u8, rest: &[u8]) -> bool
+    ensures { result ≡ goes_on_below place c rest.now }
+{
+    match place {
+        Place::LineComment => c == b'\\' && begins_line_end(after_blanks(rest)),
+        Place::Start | Place::Code | Place::Opening | Place::Comment | Place::Closing => false,
+    }
+}
+
+/// The character, a space for one that is no code, or a star where a comment doesn't end with the text or its line.
 fn shown(place: Place, c: u8, rest: &[u8]) -> u8
     ensures { result ≡ shown place c rest.now }
 {
-    if is_unended(place, rest) {
+    if is_unended(place, rest) || goes_on_below(place, c, rest) {
         b'*'
     } else if c == b'\n' || is_code(place, c, rest) {
         c
@@ -137,11 +150,38 @@ fn after_code(c: u8, rest: &[u8]) -> Place
     }
 }
 
-/// Whether two slashes are here, or a number sign and a space.
+/// Whether two slashes are here, or a number sign and a space that begin no directive.
 fn begins_line_comment(c: u8, rest: &[u8]) -> bool
     ensures { result ≡ begins_line_comment c rest.now }
 {
-    (c == b'/' && matches!(rest, [b'/', ..])) || (c == b'#' && matches!(rest, [b' ', ..]))
+    (c == b'/' && matches!(rest, [b'/', ..]))
+        || (c == b'#' && matches!(rest, [b' ', ..]) && !chooses_lines(after_blanks(rest)))
+}
+
+/// Whether a directive of C that says which lines are code is at the start of a text.
+fn chooses_lines(text: &[u8]) -> bool
+    ensures { result ≡ chooses_lines text.now }
+{
+    begins_word_of(b"if", text)
+        || begins_word_of(b"ifdef", text)
+        || begins_word_of(b"ifndef", text)
+        || begins_word_of(b"elif", text)
+        || begins_word_of(b"else", text)
+        || begins_word_of(b"endif", text)
+        || begins_word_of(b"include", text)
+}
+
+/// Whether a text begins with a name.
+fn begins_word_of(name: &[u8], text: &[u8]) -> bool
+    ensures { result ≡ begins_word_of name.now text.now }
+{
+    match name {
+        [] => !begins_word(text),
+        [letter, name @ ..] => match text {
+            [c, rest @ ..] => *c == *letter && begins_word_of(name, rest),
+            [] => false,
+        },
+    }
 }
 
 /// Whether a slash and a star are here.

@@ -1,24 +1,26 @@
 //! Hexadecimal texts, read: their forms and items, and why a text is none.
-ghost use Rattle.std.specs.Prelude.{◌≡◌, ◌+◌, ◌≤◌, count_by, length};
+ghost use Rattle.std.specs.Prelude.{◌≡◌, ◌+◌, count_by, drop, length, take};
 ghost use Rattle.usb_text.specs.HexText.{column_after, is_line_feed};
 ghost use Rattle.usb_text.specs.Hexadecimal.{fault_at, first_of};
 ghost use Rattle.std.specs.Prelude.{◌≡◌};
 ghost use Rattle.hex.specs.Hex.{is_hex_digit};
-ghost use Rattle.usb_text.specs.Columns.{after_all};
+ghost use Rattle.usb_text.specs.Columns.{after_all, after_one};
+ghost use Rattle.usb_text.specs.TwoReadings.{has_offset_after};
 ghost use Rattle.usb_text.specs.HexText.{begins_directive, begins_mark, form_of, is_digit_letter};
-ghost use Rattle.std.specs.Prelude.{◌≡◌, ◌<◌, IfSome, MatchOption, None, Some, length, slice_index, ◌&&◌, ◌==◌};
+ghost use Rattle.std.specs.Prelude.{◌≡◌, ◌<◌, ◌≤◌, IfSome, MatchOption, None, Some, length, slice_index, ◌&&◌, ◌==◌};
 ghost use Rattle.usb_text.specs.HexDigits.{is_gap};
-ghost use Rattle.usb_text.specs.HexText.{begins_byte, has_characters, has_no_item, is_mark, item, line_item, mark_or_byte, plain_item};
+ghost use Rattle.usb_text.specs.HexText.{at_line, begins_byte, counted_item, has_characters, has_no_item, is_mark, item, line_item, mark_or_byte, plain_item};
 
 use crate::column::{
-    after_blanks, after_line, after_one, at_line, at_start, begins_blank, begins_digit,
+    after_blanks, after_line, after_one, at_offset, at_start, begins_blank, begins_digit,
     begins_zeros, column_form, columns_of, has_three_spaces, has_two_spaces, is_too_long,
 };
 use crate::literal::literal_item;
+use crate::named::after_label;
 use crate::numbers::{byte_of, digit};
 use crate::source_item::{Style, source_item};
 use crate::symbol::is_decimal;
-use crate::two_readings::has_two_readings;
+use crate::two_readings::{has_offset_after, has_two_readings};
 
 /// Why a text has no bytes.
 #[derive(Clone, Copy, Debug, PartialEq, Eq, Hash)]
@@ -35,16 +37,39 @@ pub enum HexFault {
     Memory,
 }
 
-/// The fault at what is left of a text.
-pub(crate) fn fault_at(text: &[u8], left: &[u8]) -> HexFault
-    requires { length left.now ≤ length text.now }
-    ensures { result ≡ fault_at text.now left.now }
+/// The fault after so many characters of a text.
+pub(crate) fn fault_at(text: &[u8], place: usize) -> HexFault
+    ensures { result ≡ fault_at text.now place }
 {
-    let before = &text[..text.len() - left.len()];
+    let before = front(text, place);
     HexFault::Text {
         line: line_after(before),
         column: column_after(before),
-        found: first_of(left),
+        found: first_of(after(text, place)),
+    }
+}
+
+/// So many characters of a text, or all.
+#[tactic(auto, using(std::proofs::lemmas::List::take_all))]
+fn front(text: &[u8], count: usize) -> &[u8]
+    ensures { result.now ≡ take count text.now }
+{
+    if count < text.len() {
+        &text[..count]
+    } else {
+        text
+    }
+}
+
+/// What is after so many characters of a text.
+#[tactic(auto, using(std::proofs::lemmas::List::drop_all))]
+fn after(text: &[u8], count: usize) -> &[u8]
+    ensures { result.now ≡ drop count text.now }
+{
+    if count < text.len() {
+        &text[count..]
+    } else {
+        &[]
     }
 }
 
@@ -178,10 +203,34 @@ pub(crate) fn item(form: Form, count: usize, text: &[u8]) -> Option<(Option<u8>,
     ensures less { IfSome result (λ p. length p.1.now < length text.now) }
 {
     match form {
-        Form::Source(style) => source_item(style, text),
+        Form::Source(style) => counted_item(style, count, text),
         Form::Literal(quote) => literal_item(quote, text),
         Form::Words => None,
         _ => line_item(form, count, text),
+    }
+}
+
+/// The item of a source, in which no line begins with what could be an offset.
+#[inline(always)]
+fn counted_item(style: Style, count: usize, text: &[u8]) -> Option<(Option<u8>, &[u8])>
+    ensures is { MatchOption result (counted_item style count text.now ≡ None) (λ p. counted_item style count text.now ≡ Some (p.0, p.1.now)) }
+    ensures less { IfSome result (λ p. length p.1.now < length text.now) }
+{
+    if has_offset_below(count, text) {
+        None
+    } else {
+        source_item(style, text)
+    }
+}
+
+/// Whether a line feed is here, and what could be an offset after it.
+#[inline(always)]
+fn has_offset_below(count: usize, text: &[u8]) -> bool
+    ensures { result ≡ ((slice_index text.now 0 == 10) && has_offset_after count (after_one text.now)) }
+{
+    match text {
+        [b'\n', rest @ ..] => has_offset_after(count, rest),
+        _ => false,
     }
 }
 
@@ -231,6 +280,21 @@ fn mark_or_byte(form: Form, c: u8, text: &[u8]) -> Option<(Option<u8>, &[u8])>
     }
 }
 
+/// What is left after the start of a line that isn't the first, after so many bytes.
+#[inline(always)]
+fn at_line(form: Form, count: usize, text: &[u8]) -> Option<&[u8]>
+    ensures is { MatchOption result (at_line form count text.now ≡ None) (λ rest. at_line form count text.now ≡ Some rest.now) }
+    ensures within { IfSome result (λ rest. length rest.now ≤ length text.now) }
+{
+    match form {
+        Form::Plain if has_offset_after(count, text) => None,
+        Form::Plain | Form::Words | Form::Literal(_) | Form::Source(_) => Some(text),
+        Form::Named => Some(after_label(text)),
+        Form::Colons | Form::Spaces | Form::Rows | Form::Groups => at_offset(count as u128, text),
+        Form::Addresses(base) => at_offset(u128::from(base) + count as u128, text),
+    }
+}
+
 /// Whether the characters of a line's bytes begin here.
 #[inline(always)]
 fn has_characters(form: Form, count: usize, text: &[u8]) -> bool
@@ -263,7 +327,7 @@ fn has_no_item(count: usize, text: &[u8]) -> bool
 pub(crate) fn is_gap(c: u8) -> bool
     ensures { result ≡ is_gap c }
 {
-    matches!(c, b'\t' | b'\n' | b'\r' | b' ' | b',')
+    c <= b',' && matches!(c, b'\t' | b'\n' | b'\r' | b' ' | b',')
 }
 
 /// Whether the characters are a mark, and a byte is after them.

@@ -1,8 +1,11 @@
 //! Hexadecimal texts in the forms in which people have bytes.
-ghost use Rattle.std.specs.Prelude.{◌≡◌, slice_index};
+ghost use Rattle.std.specs.Prelude.{◌≡◌, ◌&&◌, slice_index, true};
+ghost use Rattle.usb_text.specs.Columns.{after_all};
+ghost use Rattle.usb_text.specs.HexDigits.{is_gap};
+ghost use Rattle.usb_text.specs.inside.NoItems.{begins_no_item};
 ghost use Rattle.usb_text.specs.SourceItems.{is_decimal};
 ghost use Rattle.std.specs.List.{list_all};
-ghost use Rattle.usb_text.specs.Hexadecimal.{array_style, bare_style, has_long_number, has_prefix, has_suffix, is_of_decimals, is_of_source, is_source, line_style, style_of};
+ghost use Rattle.usb_text.specs.Hexadecimal.{array_style, bare_style, has_long_number, has_prefix, has_suffix, has_three_digits, is_of_decimals, is_of_source, is_source, line_style, number_style, style_of};
 ghost use Rattle.std.specs.Prelude.{IfErr, IfOk, ◌⊎◌};
 ghost use Rattle.usb_text.specs.Literals.{literal_of};
 ghost use Rattle.usb_text.specs.Hexadecimal.{FaultyIn, HexIn, HexRefused, HexText, inner_of, layout_of, named_form, source_form, source_of};
@@ -10,10 +13,11 @@ ghost use Rattle.usb_text.specs.Hexadecimal.{FaultyIn, HexIn, HexRefused, HexTex
 use crate::bracket::{Bracket, bracket_of, has, within};
 use crate::column::{at_start, column_form, columns_of};
 use crate::comment::uncommented;
-use crate::hex_text::{Form, HexFault, form_of};
+use crate::hex_text::{Form, HexFault, form_of, is_gap};
 use crate::label::unlabelled;
 use crate::literal::literal_of;
 use crate::named::is_named;
+use crate::numbers::digit;
 use crate::reading::read_in;
 use crate::source_item::{Style, is_parting};
 use crate::symbol::is_decimal;
@@ -33,7 +37,7 @@ use std::alloc::Global;
 /// assert_eq!(rt; parse(alloc, b"0x09, 0x02\n2200")?.as_slice(), [9, 2, 0x22, 0]);
 /// assert_eq!(rt; parse(alloc, b"00000000: 0902 2200  ..\".\n")?.as_slice(), [9, 2, 0x22, 0]);
 /// assert_eq!(rt; parse(alloc, b"x[] = { 0x9, /* 1 */ 0x02u };")?.as_slice(), [9, 2]);
-/// assert_eq!(rt; parse(alloc, b"[9, 2, 34, 0]")?.as_slice(), [9, 2, 34, 0]);
+/// assert_eq!(rt; parse(alloc, b"[9, 2, 134, 0]")?.as_slice(), [9, 2, 134, 0]);
 /// ```
 ///
 /// # Errors
@@ -45,7 +49,10 @@ pub fn parse(alloc: Global, text: &[u8]) -> Result<Vec<u8>, HexFault>
     ensures ok { IfOk result (λ bytes. HexText text.now bytes.items) }
     ensures err { IfErr result (HexRefused text.now) }
 {
-    match read_in(alloc, form_of(text), text) {
+    if begins_no_item(text) && is_source(text) {
+        return read_at_once(alloc, text);
+    }
+    match read_in(alloc, form_of(text), text, text) {
         Ok(bytes) => Ok(bytes),
         Err(HexFault::Memory) => Err(HexFault::Memory),
         Err(fault) => {
@@ -58,13 +65,52 @@ pub fn parse(alloc: Global, text: &[u8]) -> Result<Vec<u8>, HexFault>
     }
 }
 
+/// The bytes of a source that no item begins, without a look at it as it is.
+#[tactic(auto, using(crate::proofs::NoItems::read_at_once, crate::proofs::NoItems::refused_at_once))]
+fn read_at_once(alloc: Global, text: &[u8]) -> Result<Vec<u8>, HexFault>
+    requires item { begins_no_item text.now ≡ true }
+    requires source { is_source text.now ≡ true }
+    ensures ok { IfOk result (λ bytes. HexText text.now bytes.items) }
+    ensures err { IfErr result (HexRefused text.now) }
+{
+    match read_source(alloc, text) {
+        Ok(bytes) => Ok(bytes),
+        Err(fault) => Err(fault),
+    }
+}
+
+/// Whether a text begins with no item: neither a digit nor a backslash is after all gaps.
+fn begins_no_item(text: &[u8]) -> bool
+    ensures { result ≡ begins_no_item text.now }
+{
+    match after_gaps(text) {
+        [c, ..] => !(digit(*c).is_some() || *c == b'\\'),
+        [] => true,
+    }
+}
+
+/// What is left after all leading gaps.
+#[tactic(auto, unfolding(crate::specs::Columns::after_all))]
+fn after_gaps(text: &[u8]) -> &[u8]
+    ensures { result.now ≡ after_all is_gap text.now }
+{
+    let mut rest = text;
+    while let [c, tail @ ..] = rest {
+        if !is_gap(*c) {
+            break;
+        }
+        rest = tail;
+    }
+    rest
+}
+
 /// The bytes of a source.
 fn read_source(alloc: Global, text: &[u8]) -> Result<Vec<u8>, HexFault>
     ensures ok { IfOk result (λ bytes. HexIn (source_form text.now) (source_of text.now) bytes.items) }
-    ensures err { IfErr result (λ fault. (fault ≡ HexFault.Memory) ⊎ FaultyIn (source_form text.now) (source_of text.now) fault) }
+    ensures err { IfErr result (λ fault. (fault ≡ HexFault.Memory) ⊎ FaultyIn (source_form text.now) text.now (source_of text.now) fault) }
 {
     match layout_of(text) {
-        Some(form) => read_in(alloc, form, text),
+        Some(form) => read_in(alloc, form, text, text),
         None => {
             let code = uncommented(alloc, text)?;
             let code = unlabelled(alloc, &code)?;
@@ -75,13 +121,13 @@ fn read_source(alloc: Global, text: &[u8]) -> Result<Vec<u8>, HexFault>
             } else {
                 Form::Source(style_of(bracket, &inner))
             };
-            read_in(alloc, form, &inner)
+            read_in(alloc, form, text, &inner)
         }
     }
 }
 
 /// The form of a text with columns, a literal or a name, in which it is read as it is.
-pub(crate) fn layout_of(text: &[u8]) -> Option<Form>
+fn layout_of(text: &[u8]) -> Option<Form>
     ensures { result ≡ layout_of text.now }
 {
     match columns_of(text) {
@@ -91,7 +137,7 @@ pub(crate) fn layout_of(text: &[u8]) -> Option<Form>
 }
 
 /// The form of a text with a literal or a name.
-fn named_form(text: &[u8]) -> Option<Form>
+pub(crate) fn named_form(text: &[u8]) -> Option<Form>
     ensures { result ≡ named_form text.now (literal_of text.now) }
 {
     match literal_of(text) {
@@ -174,7 +220,7 @@ fn bare_style(bracket: Option<Bracket>, inner: &[u8]) -> Style
 {
     match bracket {
         None => line_style(inner),
-        Some(_) => array_style(inner),
+        Some(bracket) => array_style(bracket, inner),
     }
 }
 
@@ -192,17 +238,28 @@ fn line_style(inner: &[u8]) -> Style
 }
 
 /// The same of one with brackets.
-fn array_style(inner: &[u8]) -> Style
-    ensures { result ≡ array_style inner.now }
+fn array_style(bracket: Bracket, inner: &[u8]) -> Style
+    ensures { result ≡ array_style bracket inner.now }
 {
     if has_suffix(inner) {
         Style::Suffixed
-    } else if !has_only_decimals(inner) {
-        Style::Loose
-    } else if has_long_number(inner) {
-        Style::Decimals
+    } else if has_only_decimals(inner) {
+        number_style(bracket, inner)
     } else {
-        Style::Pairs
+        Style::Loose
+    }
+}
+
+/// How an array has numbers without a letter.
+fn number_style(bracket: Bracket, inner: &[u8]) -> Style
+    ensures { result ≡ number_style bracket inner.now }
+{
+    let is_long = has_long_number(inner);
+    match bracket {
+        Bracket::Curly if is_long => Style::Decimals,
+        Bracket::Curly => Style::Pairs,
+        Bracket::Square if is_long && !has_three_digits(inner) => Style::Either,
+        Bracket::Square => Style::Decimals,
     }
 }
 
@@ -233,6 +290,31 @@ fn has_long_number(text: &[u8]) -> bool
         rest = tail;
     }
     false
+}
+
+/// Whether three decimal digits are next to each other.
+#[tactic(auto, unfolding(crate::specs::Hexadecimal::has_three_digits))]
+fn has_three_digits(text: &[u8]) -> bool
+    ensures { result ≡ has_three_digits text.now }
+{
+    let mut rest = text;
+    while let [c, tail @ ..] = rest {
+        if is_decimal(*c) && begins_two_decimals(tail) {
+            return true;
+        }
+        rest = tail;
+    }
+    false
+}
+
+/// Whether two decimal digits are at the start of a text.
+fn begins_two_decimals(text: &[u8]) -> bool
+    ensures { result ≡ (is_decimal (slice_index text.now 0) && is_decimal (slice_index text.now 1)) }
+{
+    match text {
+        [c, d, ..] => is_decimal(*c) && is_decimal(*d),
+        _ => false,
+    }
 }
 
 /// Whether a decimal digit is at the start of a text.

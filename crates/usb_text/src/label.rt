@@ -5,7 +5,9 @@ ghost use Rattle.usb_text.specs.SourceItems.{is_decimal, is_quote};
 ghost use Rattle.usb_text.specs.Labels.{after_dot, are_pairs, begins_declaration, begins_hexadecimal, begins_name, begins_pairs, begins_two_digits, declares, ends_declaration, is_beyond_digits, is_comma, is_declaration, goes_on_below, is_directive, is_either_case, is_in_directive, is_label, is_of_radix, is_radix_letter, names_bytes, next_part, part_at, part_of_line, shown_part, unlabelled};
 ghost use Rattle.usb_text.specs.Columns.{is_blank};
 
-use crate::column::{after_blanks, after_hex_digits, after_one, begins_blank, is_blank};
+use crate::column::{
+    after_blanks, after_hex_digits, after_one, begins_blank, begins_feed, is_blank,
+};
 use crate::hex_text::HexFault;
 use crate::numbers::digit;
 use crate::reading::keep;
@@ -105,7 +107,7 @@ fn are_listed(text: &[u8]) -> bool
 }
 
 /// Whether two digits are at the start of a text.
-fn begins_two_digits(text: &[u8]) -> bool
+pub(crate) fn begins_two_digits(text: &[u8]) -> bool
     ensures { result ≡ begins_two_digits text.now }
 {
     match text {
@@ -270,11 +272,14 @@ pub(crate) fn ends_declaration(c: u8) -> bool
     c == b'\\' || c == b',' || c == b'{'
 }
 
-/// What the first character of a line is in.
+/// What the first character of a line is in. Nothing begins in one of blanks.
+#[tactic(auto, using(crate::proofs::EmptyLines::no_label))]
 fn part_of_line(text: &[u8]) -> Part
     ensures { result ≡ part_of_line text.now }
 {
-    if is_label(text) {
+    if begins_feed(after_blanks(text)) {
+        Part::Bytes
+    } else if is_label(text) {
         Part::Label
     } else if is_directive(text) {
         Part::Directive

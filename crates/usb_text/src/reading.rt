@@ -28,36 +28,41 @@ fn in_line(form: Form, text: &[u8]) -> &[u8]
     }
 }
 
-/// The bytes of a text in a form, one at least. Reading is compiled apart for the forms that most texts have.
-pub(crate) fn read_in(alloc: Global, form: Form, text: &[u8]) -> Result<Vec<u8>, HexFault>
-    ensures ok { IfOk result (λ bytes. HexIn form text.now bytes.items) }
-    ensures err { IfErr result (λ fault. (fault ≡ HexFault.Memory) ⊎ FaultyIn form text.now fault) }
+/// The bytes of what is read of a text in a form, one at least. Reading is compiled apart for the forms that most texts have.
+pub(crate) fn read_in(
+    alloc: Global,
+    form: Form,
+    text: &[u8],
+    shown: &[u8],
+) -> Result<Vec<u8>, HexFault>
+    ensures ok { IfOk result (λ bytes. HexIn form shown.now bytes.items) }
+    ensures err { IfErr result (λ fault. (fault ≡ HexFault.Memory) ⊎ FaultyIn form text.now shown.now fault) }
 {
     match form {
-        Form::Plain => read_items(alloc, Form::Plain, text),
-        Form::Colons => read_items(alloc, Form::Colons, text),
-        Form::Spaces => read_items(alloc, Form::Spaces, text),
-        Form::Source(style) => read_items(alloc, Form::Source(style), text),
-        _ => read_items(alloc, form, text),
+        Form::Plain => read_items(alloc, Form::Plain, text, shown),
+        Form::Colons => read_items(alloc, Form::Colons, text, shown),
+        Form::Spaces => read_items(alloc, Form::Spaces, text, shown),
+        Form::Source(style) => read_items(alloc, Form::Source(style), text, shown),
+        _ => read_items(alloc, form, text, shown),
     }
 }
 
 /// The bytes of a text in a form, item by item.
 #[inline(always)]
 #[tactic(auto, using(crate::proofs::Items::leads_from, crate::proofs::Items::leads_on, crate::proofs::Items::leads_to))]
-fn read_items(alloc: Global, form: Form, text: &[u8]) -> Result<Vec<u8>, HexFault>
-    ensures ok { IfOk result (λ bytes. HexIn form text.now bytes.items) }
-    ensures err { IfErr result (λ fault. (fault ≡ HexFault.Memory) ⊎ FaultyIn form text.now fault) }
+fn read_items(alloc: Global, form: Form, text: &[u8], shown: &[u8]) -> Result<Vec<u8>, HexFault>
+    ensures ok { IfOk result (λ bytes. HexIn form shown.now bytes.items) }
+    ensures err { IfErr result (λ fault. (fault ≡ HexFault.Memory) ⊎ FaultyIn form text.now shown.now fault) }
 {
     let mut bytes = Vec::new(alloc);
-    let mut rest = in_line(form, text);
+    let mut rest = in_line(form, shown);
     'items: loop {
         match item(form, bytes.len(), rest) {
             Some((byte, tail)) => {
                 keep(&mut bytes, byte)?;
                 rest = tail;
             }
-            None => return ended(form, text, rest, bytes),
+            None => return ended(form, text, shown, rest, bytes),
         }
     }
 }
@@ -77,17 +82,21 @@ pub(crate) fn keep(bytes: &mut Vec<u8>, byte: Option<u8>) -> Result<(), HexFault
 }
 
 /// What is answered where no item is left: the bytes, if nothing else is left and there are some.
-fn ended(form: Form, text: &[u8], rest: &[u8], bytes: Vec<u8>) -> Result<Vec<u8>, HexFault>
-    requires read { ReadsText form text.now bytes.items rest.now }
-    requires within { length rest.now ≤ length text.now }
-    ensures ok { IfOk result (λ bytes. HexIn form text.now bytes.items) }
-    ensures err { IfErr result (FaultyIn form text.now) }
+fn ended(
+    form: Form,
+    text: &[u8],
+    shown: &[u8],
+    rest: &[u8],
+    bytes: Vec<u8>,
+) -> Result<Vec<u8>, HexFault>
+    requires read { ReadsText form shown.now bytes.items rest.now }
+    requires within { length rest.now ≤ length shown.now }
+    ensures ok { IfOk result (λ bytes. HexIn form shown.now bytes.items) }
+    ensures err { IfErr result (FaultyIn form text.now shown.now) }
 {
-    if bytes.is_empty() {
-        return Err(fault_at(text, rest));
-    }
-    match rest {
-        [] => Ok(bytes),
-        _ => Err(fault_at(text, rest)),
+    if rest.is_empty() && !bytes.is_empty() {
+        Ok(bytes)
+    } else {
+        Err(fault_at(text, shown.len() - rest.len()))
     }
 }

@@ -1,8 +1,8 @@
 //! The items of a text that has bytes as the source of a program or another text has them.
 ghost use Rattle.std.specs.Prelude.{◌≡◌, ◌<◌, ◌≤◌, IfSome, MatchOption, None, Some, length};
 ghost use Rattle.std.specs.List.{list_all};
-ghost use Rattle.usb_text.specs.SourceItems.{after_backslash, begins_prefix, decimal_item, decimals, ended_number, escape, escaped_item, loose_item, number, one_digit, pair_item, precedes_number, prefixed_item, separated_item, short_number, source_item, suffixed_item};
-ghost use Rattle.usb_text.specs.SourceItems.{after_prefix, after_separator, after_suffix, after_width, begins_escape, closing_item, ends_suffix, goes_on, is_closing, is_parting};
+ghost use Rattle.usb_text.specs.SourceItems.{after_backslash, begins_prefix, decimal_item, decimals, ended_number, escape, escaped_item, loose_item, number, one_digit, pair_item, parting_item, precedes_number, prefixed_item, separated_item, short_number, source_item, suffixed_item};
+ghost use Rattle.usb_text.specs.SourceItems.{after_prefix, after_separator, begins_quoted, after_suffix, after_width, begins_escape, closing_item, ends_suffix, goes_on, is_closing, is_parting};
 
 use crate::column::{after_blanks, begins_blank, begins_digit};
 use crate::hex_text::is_gap;
@@ -26,6 +26,8 @@ pub(crate) enum Style {
     Loose,
     /// In an array, each as a decimal number.
     Decimals,
+    /// In an array, as numbers that may be decimal or hexadecimal. No byte is read.
+    Either,
 }
 
 /// The item at the start of a text of a style.
@@ -42,6 +44,7 @@ pub(crate) fn source_item(style: Style, text: &[u8]) -> Option<(Option<u8>, &[u8
         Style::Separated => separated_item(text),
         Style::Loose => loose_item(text),
         Style::Decimals => decimal_item(text),
+        Style::Either => parting_item(text),
     }
 }
 
@@ -213,8 +216,19 @@ fn pair_item(text: &[u8]) -> Option<(Option<u8>, &[u8])>
     match text {
         [c, rest @ ..] if is_parting(*c) || is_quote(*c) => Some((None, rest)),
         [b')', rest @ ..] => closing_item(rest),
+        [_, _, rest @ ..] if begins_quoted(rest) => None,
         [c, d, rest @ ..] => Some((Some(byte_of(*c, *d)?), rest)),
         _ => None,
+    }
+}
+
+/// Whether a quote that ends no string is at the start of a text.
+fn begins_quoted(text: &[u8]) -> bool
+    ensures { result ≡ begins_quoted text.now }
+{
+    match text {
+        [c, d, ..] => is_quote(*c) && (digit(*d).is_some() || is_quote(*d)),
+        _ => false,
     }
 }
 
@@ -301,6 +315,17 @@ fn decimal_item(text: &[u8]) -> Option<(Option<u8>, &[u8])>
     match text {
         [c, rest @ ..] if is_parting(*c) => Some((None, rest)),
         [c, rest @ ..] if is_decimal(*c) => decimals(*c - b'0', rest),
+        _ => None,
+    }
+}
+
+/// The item among numbers that may be decimal or hexadecimal.
+fn parting_item(text: &[u8]) -> Option<(Option<u8>, &[u8])>
+    ensures is { MatchOption result (parting_item text.now ≡ None) (λ p. parting_item text.now ≡ Some (p.0, p.1.now)) }
+    ensures less { IfSome result (λ p. length p.1.now < length text.now) }
+{
+    match text {
+        [c, rest @ ..] if is_parting(*c) => Some((None, rest)),
         _ => None,
     }
 }

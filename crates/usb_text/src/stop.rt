@@ -3,8 +3,9 @@ ghost use Rattle.std.specs.Prelude.{◌≡◌, ◌++◌, OnOk, codes};
 ghost use Rattle.usb_text.specs.Numbers.{byte_code};
 ghost use Rattle.usb_text.specs.Stops.{character_words, found_words, is_ambiguous, is_some_source, is_utf16, line_words, place_line, place_words, refused_words, stop_line, text_line};
 
+use crate::column::{column_form, columns_of};
 use crate::hex_text::{Form, HexFault};
-use crate::hexadecimal::{is_source, layout_of};
+use crate::hexadecimal::{is_source, named_form};
 use crate::numbers::put_byte_code;
 use crate::text::Text;
 use crate::two_readings::has_two_readings;
@@ -145,9 +146,9 @@ fn put_code(text: &mut Text, c: u8) -> Result<(), AllocError>
 fn is_ambiguous(text: &[u8]) -> bool
     ensures { result ≡ is_ambiguous text.now }
 {
-    match layout_of(text) {
-        None => has_two_readings(text),
-        Some(form) => matches!(form, Form::Words),
+    match columns_of(text) {
+        Some(line) => matches!(column_form(line), Form::Words),
+        None => has_two_readings(text) && named_form(text).is_none(),
     }
 }
 

@@ -2,10 +2,11 @@
 ghost use Rattle.std.specs.Prelude.{◌≡◌, ◌≤◌, length};
 ghost use Rattle.hex.specs.Hex.{is_hex_digit};
 ghost use Rattle.usb_text.specs.Columns.{after_all};
-ghost use Rattle.usb_text.specs.TwoReadings.{after_radix, begins_bits, begins_group, begins_offset, begins_words, counts_bytes, digits_in_line, has_two_readings, is_binary, is_counted};
+ghost use Rattle.usb_text.specs.TwoReadings.{after_radix, begins_bits, begins_group, begins_offset, begins_words, counts_bytes, digits_in_line, has_offset_after, has_two_readings, is_binary, is_count, is_counted};
 
 use crate::column::{
-    after_blanks, after_hex_digits, at_start, begins_blank, begins_gap, begins_numbers, next_line,
+    after_blanks, after_hex_digits, at_start, begins_blank, begins_feed, begins_gap,
+    begins_numbers, next_line,
 };
 use crate::label::are_pairs;
 use crate::numbers::digit;
@@ -16,20 +17,18 @@ pub(crate) fn has_two_readings(text: &[u8]) -> bool
     ensures { result ≡ has_two_readings text.now }
 {
     let start = at_start(text);
-    begins_words(text)
+    (begins_blank(text) && begins_words(start))
         || begins_bits(start)
         || begins_numbers(start)
         || begins_offset(start)
         || counts_bytes(start)
 }
 
-/// Whether a text begins with words of which nothing says which byte is first.
+/// Whether a word of which nothing says which byte is first is at the start of a text.
 fn begins_words(text: &[u8]) -> bool
     ensures { result ≡ begins_words text.now }
 {
-    let start = at_start(text);
-    begins_blank(text)
-        && (begins_digits(4, start) || begins_digits(8, start) || begins_digits(16, start))
+    begins_digits(4, text) || begins_digits(8, text) || begins_digits(16, text)
 }
 
 /// Whether a group of so many digits is at the start of a text.
@@ -99,6 +98,26 @@ fn is_counted(radix: u8, text: &[u8]) -> bool
     count > 0
         && u128::from(offset_value(radix, next_line(rest)))
             == u128::from(offset_value(radix, text)) + count as u128
+}
+
+/// Whether what could be an offset begins a line after so many bytes of a text without columns.
+#[tactic(auto, using(crate::proofs::ColumnLines::empty_has_no_offset))]
+pub(crate) fn has_offset_after(count: usize, text: &[u8]) -> bool
+    ensures { result ≡ has_offset_after count text.now }
+{
+    if begins_feed(text) {
+        return false;
+    }
+    let start = at_start(text);
+    is_offset(start, after_hex_digits(start)) && (begins_offset(start) || is_count(count, start))
+}
+
+/// Whether the number at the start of a line is the count of the bytes before it.
+fn is_count(count: usize, text: &[u8]) -> bool
+    ensures { result ≡ is_count count text.now }
+{
+    begins_gap(after_hex_digits(text))
+        && (offset_value(16, text) == count as u64 || offset_value(10, text) == count as u64)
 }
 
 /// How many digits are in a line.

@@ -6,14 +6,16 @@ use Rattle.usb_text.specs.Output.{AppendsLess, Held}
 use Rattle.usb_text.specs.Shown.{Shown, ends}
 use Rattle.usb_text.specs.Written.{WritesLess, WritesLines}
 use Rattle.usb_text.specs.declared.output.OutFault.{OutFault}
+use Rattle.usb_text.specs.declared.output.OutFault.TheVariants as outs
 use Rattle.usb_text.proofs.Pages.{appends_kept, appends_more, front_longer, front_whole}
 use Rattle.usb_text.proofs.WrittenLines.{less_completed, some_lines}
 use Rattle.usb_explain.specs.declared.manner.Manner.{Manner}
 use Rattle.usb_explain.specs.Fragments.{fragment_lines}
 use Rattle.usb_explain.specs.Subjects.{Reading}
-use Rattle.usb_tool.specs.Explains.{Explains, ExplainsFault, ExplainsFaultAs, RefusesAs, RefusesToExplain, ReportsFragment, WritesAfter, WritesExplained}
+use Rattle.usb_tool.specs.Explains.{Explains, ExplainsFault, ExplainsFaultAs, RefusesAs, RefusesToExplain, ReportsFragment, WithoutMemory, WritesAfter, WritesExplained}
 use Rattle.usb_tool.specs.Faults.{fault_of_input, fault_of_output}
-use Rattle.usb_tool.specs.inside.Telling.{CutsAfter, CutsExplained}
+use Rattle.usb_tool.specs.Endings.{Extent}
+use Rattle.usb_tool.specs.inside.Telling.{CutsAfter, CutsExplained, CutsFragment}
 use Rattle.usb_tool.specs.declared.fault.ToolFault.{ToolFault}
 use Rattle.usb_tool.specs.declared.fault.ToolFault.TheVariants as faults
 use Rattle.usb_file_data.specs.Inputs.{InputFaulty, InputRefused, IsInput}
@@ -59,21 +61,33 @@ module _ (utf8 : Bool) (shown : List Shown) (heading : List ℕ) where
   flushed (Err fault) x y z w kept = tt
 
   -- or the flush failed
-  pub not_flushed : {T : Type 0} (r : Result T ToolFault) (x y z : Held) → WritesAfter Appends utf8 shown heading x y → Keeps y z
-      → IfErr r (λ fault. fault ≡ faults.Write) → IfErr r (CutsAfter utf8 shown heading x z)
-  not_flushed (Ok v) x y z w kept why = tt
-  not_flushed (Err fault) x y z w kept why =
-      subst (λ (f : ToolFault). CutsAfter utf8 shown heading x z f) (sym why) (record { text = w.text; explains = w.explains; cut = front_whole x y z w.text w.written kept })
+  pub not_flushed : {T : Type 0} (extent : Extent) (r : Result T ToolFault) (x y z : Held) → WritesAfter Appends utf8 shown heading x y → Keeps y z
+      → IfErr r (λ fault. fault ≡ faults.Write) → IfErr r (CutsAfter extent utf8 shown heading x z)
+  not_flushed extent (Ok v) x y z w kept why = tt
+  not_flushed extent (Err fault) x y z w kept why =
+      subst (λ (f : ToolFault). CutsAfter extent utf8 shown heading x z f) (sym why) (record { text = w.text; explains = w.explains; cut = front_whole x y z w.text w.written kept })
 
   -- or not all of it was written
-  pub cut_explained : (o : OutFault) (x z : Held) → WritesAfter AppendsLess utf8 shown heading x z → CutsAfter utf8 shown heading x z (fault_of_output o)
+  pub cut_explained : (o : OutFault) (x z : Held) → WritesAfter AppendsLess utf8 shown heading x z → CutsAfter AppendsLess utf8 shown heading x z (fault_of_output o)
   cut_explained o x z w = record { text = w.text; explains = w.explains; cut = cut_by o w.text x z w.written }
 
+  -- or out of memory the heading alone
+  pub cut_headed : (o : OutFault) (x z : Held) → WritesAfter AppendsLess utf8 shown heading x z → (o ≡ outs.Memory → Appends x z heading)
+      → CutsAfter (WithoutMemory true heading) utf8 shown heading x z (fault_of_output o)
+  cut_headed outs.Write x z w headed = record { text = w.text; explains = w.explains; cut = cut_by outs.Write w.text x z w.written }
+  cut_headed outs.Memory x z w headed = record { text = w.text; explains = w.explains; cut = inr (headed refl) }
+
+-- out of memory nothing was written after a heading
+pub only_headed : {T : Type 0} (r : Result T OutFault) (heading : List ℕ) (x y z : Held) → Appends x y heading → IfErr r (λ fault. fault ≡ outs.Memory → Keeps y z)
+    → IfErr r (λ fault. fault ≡ outs.Memory → Appends x z heading)
+only_headed (Ok v) heading x y z headed kept = tt
+only_headed (Err fault) heading x y z headed kept = λ memory. appends_kept x y z heading headed (kept memory)
+
 -- the explanation of a fragment was left unfinished
-pub cut_fragment : (m : Manner) (heading b : List ℕ) (x z : Held) (fault : ToolFault) → CutsAfter m.look.utf8 (fragment_lines m b) heading x z fault
+pub cut_fragment : (m : Manner) (heading b : List ℕ) (x z : Held) (fault : ToolFault) → CutsFragment m heading b x z fault
     → RefusesAs true m heading b x z fault
 cut_fragment m heading b x z fault cut =
-    cut_short AppendsLess (ReportsFragment m heading) (ExplainsFaultAs true m heading) b cut.text 0 x z fault (record { explains = cut.explains; ended = refl }) cut.cut
+    cut_short (WithoutMemory true heading) (ReportsFragment m heading) (ExplainsFaultAs true m heading) b cut.text 0 x z fault (record { explains = cut.explains; ended = refl }) cut.cut
 
 -- ---- bytes of which this was read
 

@@ -57,7 +57,7 @@ check_app = command_with (codes "check")
     (flag_rule (codes "any") ∷ flag_rule (codes "hex") ∷ flag_rule (codes "remarks") ∷ speed_rule ∷ [])
 
 abbrev pub build_app : App
-build_app = command_with (codes "build") (flag_rule (codes "comments") ∷ flag_rule (codes "force") ∷ flag_rule (codes "hex") ∷ [])
+build_app = command_with (codes "build") (flag_rule (codes "comments") ∷ flag_rule (codes "hex") ∷ [])
 
 abbrev pub explain_app : App
 explain_app = command_with (codes "explain")
@@ -142,24 +142,23 @@ no_flags = record { log = false; brief = false; with_strings = false }
 abbrev pub Finds : Text → (List Row → Type 0) → Option (Text × List Row) → Type 0
 Finds name has found = IsNamed name found × IfSome found (λ p. has p.1)
 
--- bytes are written, to a terminal too or not
-abbrev pub WritesBy : Bool → List Row → Type 0
-WritesBy force rows = (gives (codes "hex") rows ≡ false) × (gives (codes "force") rows ≡ force)
+-- hexadecimal text is written or not, of a listing with comments or not
+abbrev pub WritesBy : Bool → Bool → List Row → Type 0
+WritesBy hex comments rows = (gives (codes "hex") rows ≡ hex) × (gives (codes "comments") rows ≡ comments)
 
 -- the line is what the subcommand that was found asks for
 abbrev pub Asks : Line → Option (Text × List Row) → Type 0
 Asks lines.Show = Finds (codes "show") (ReadsBy false false)
 Asks lines.Check = Finds (codes "check") (λ rows. (finds_alone rows ≡ true) × ReadsBy false false rows)
-Asks lines.Build = Finds (codes "build") (λ rows. WritesBy false rows × (gives (codes "comments") rows ≡ false))
+Asks lines.Build = Finds (codes "build") (WritesBy false false)
 Asks (lines.Enumerate o) = Finds (codes "enumerate") (λ rows. HasTexts o rows × (flags_of rows ≡ no_flags))
 Asks lines.ShowAny = Finds (codes "show") (ReadsBy false true)
 Asks lines.CheckAny = Finds (codes "check") (λ rows. (finds_alone rows ≡ true) × ReadsBy false true rows)
 Asks (lines.ShowHex any) = Finds (codes "show") (ReadsBy true any)
 Asks (lines.CheckHex any) = Finds (codes "check") (λ rows. (finds_alone rows ≡ true) × ReadsBy true any rows)
 Asks (lines.CheckRemarks o) = Finds (codes "check") (λ rows. (finds_alone rows ≡ false) × IsChecking o rows)
-Asks lines.BuildCommented = Finds (codes "build") (λ rows. WritesBy false rows × (gives (codes "comments") rows ≡ true))
-Asks (lines.BuildHex comments) = Finds (codes "build") (λ rows. (gives (codes "hex") rows ≡ true) × (comments ≡ gives (codes "comments") rows))
-Asks (lines.BuildForced comments) = Finds (codes "build") (λ rows. WritesBy true rows × (comments ≡ gives (codes "comments") rows))
+Asks lines.BuildCommented = Finds (codes "build") (WritesBy false true)
+Asks (lines.BuildHex comments) = Finds (codes "build") (WritesBy true comments)
 Asks (lines.Explain o) = Finds (codes "explain") (HasFlags o)
 Asks (lines.EnumerateWith o flags) = Finds (codes "enumerate") (λ rows. HasTexts o rows × (flags ≡ flags_of rows) × (flags ≢ no_flags))
 

@@ -130,9 +130,14 @@ abbrev pub ExplainsFaultAs : Bool → Manner → List ℕ → Refusal
 ExplainsFaultAs true = λ m heading b held holds fault. ⊥
 ExplainsFaultAs false = ExplainsFault
 
+-- how much of a text is written where memory is wanting then: of a fragment the heading alone, and else not all
+abbrev pub WithoutMemory : Bool → List ℕ → Extent
+WithoutMemory true heading = λ held holds text. Appends held holds heading
+WithoutMemory false heading = AppendsLess
+
 -- how bytes are not explained so
 abbrev pub RefusesAs : Bool → Manner → List ℕ → Refusal
-RefusesAs loose m heading = Refuses AppendsLess (ExplainsAs loose m heading) (ExplainsFaultAs loose m heading)
+RefusesAs loose m heading = Refuses (WithoutMemory loose heading) (ExplainsAs loose m heading) (ExplainsFaultAs loose m heading)
 
 -- bytes that were decoded are explained in the same manner, but not called text
 abbrev pub decoded_manner : Manner → Manner

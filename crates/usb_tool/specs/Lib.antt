@@ -12,5 +12,6 @@ pub mod CommandLine
 pub mod OptionValues
 pub mod Settings
 pub mod OptionFaults
+pub mod Numbers
 pub mod Runs
 pub mod inside

@@ -5,7 +5,6 @@ use Rattle.usb_tool.specs.declared.settings.FatesFault.{FatesFault}
 use Rattle.usb_tool.specs.contracts.settings.FatesFault.{the_type as fates_faults}
 use Rattle.usb_tool.specs.declared.settings.FatesFault.TheVariants as letters
 use Rattle.usb_tool.specs.declared.settings.SettingsFault.{SettingsFault}
-use Rattle.usb_tool.specs.contracts.settings.SettingsFault.{the_type as settings_faults}
 use Rattle.usb_tool.specs.declared.settings.SettingsFault.TheVariants as faults
 
 -- the number of a fault of letters
@@ -17,9 +16,14 @@ abbrev pub fates_fault_message : FatesFault → List ℕ
 fates_fault_message letters.Letter = codes "a letter that names no fate"
 fates_fault_message letters.Memory = codes "out of memory"
 
--- the number of a fault of options
+-- the number of a fault of options; 6 is the number of none
 abbrev pub settings_fault_number : SettingsFault → ℕ
-settings_fault_number fault = number_in settings_faults fault
+settings_fault_number faults.Number = 1
+settings_fault_number faults.Speed = 2
+settings_fault_number faults.Fates = 3
+settings_fault_number faults.Memory = 4
+settings_fault_number faults.SpeedAlone = 5
+settings_fault_number faults.BriefAlone = 7
 
 -- its line on standard error, without its line feed
 abbrev pub settings_line : SettingsFault → List ℕ
@@ -28,7 +32,6 @@ settings_line faults.Speed = codes "usbdesc: bad speed"
 settings_line faults.Fates = codes "usbdesc: bad fates"
 settings_line faults.Memory = codes "usbdesc: out of memory"
 settings_line faults.SpeedAlone = codes "usbdesc: --speed without --remarks"
-settings_line faults.ToTerminal = codes "usbdesc: bytes not written to a terminal"
 settings_line faults.BriefAlone = codes "usbdesc: --brief without --log"
 
 -- what it means, for people
@@ -38,7 +41,6 @@ settings_meaning faults.Speed = codes "a speed is low, full or high, of explain 
 settings_meaning faults.Fates = codes "a letter that names no fate: they are . n d u a"
 settings_meaning faults.Memory = codes "there was not enough memory"
 settings_meaning faults.SpeedAlone = codes "a speed is for remarks: check --remarks --speed full"
-settings_meaning faults.ToTerminal = codes "usbdesc build < LISTING > FILE, or --force"
 settings_meaning faults.BriefAlone = codes "a log is brief: enumerate --log --brief"
 
 -- the exit status: 2 as for a line that is no command, and 3 where it is out of memory

@@ -36,8 +36,7 @@ use Rattle.usb_tool.specs.declared.settings.EnumerateFlags.{EnumerateFlags}
 use Rattle.usb_tool.specs.declared.settings.Options.{Options}
 use Rattle.usb_tool.specs.declared.settings.Settings.{Settings}
 use Rattle.usb_tool.specs.declared.settings.SettingsFault.{SettingsFault}
-use Rattle.usb_tool.specs.declared.settings.SettingsFault.TheVariants.{Speed, ToTerminal}
-use Rattle.usb_tool.specs.declared.terminals.Terminals.{Terminals}
+use Rattle.usb_tool.specs.declared.settings.SettingsFault.TheVariants.{Speed}
 
 -- the exit status of a line that is no command: 0 where it asks for help or the version, else 2
 abbrev pub line_status : ErrorKind → ℕ
@@ -97,10 +96,6 @@ pub record OptionsAreRefused (person : Bool) (refuses : SettingsFault → Type 0
   pub output : Keeps held holds
   pub line : ReportsLines person (settings_line fault) (settings_meaning fault) errors told
   pub ended : status ≡ settings_status fault
-
--- neither stream is a terminal
-abbrev pub no_terminals : Terminals
-no_terminals = record { output = false; errors = false }
 
 -- how `explain` ends with these options: the one that is refused is a speed
 abbrev pub EndsExplanation : Bool → Explaining → Course
@@ -173,38 +168,27 @@ EndsEnumeration person o flags from to held holds errors told status =
 abbrev pub build_hint : Bool → Hint
 build_hint comments = if comments then hints.Nothing else hints.Comments
 
--- how `build` ends, which drops comments or doesn't
-abbrev pub EndsBuild : Bool → Bool → Course
-EndsBuild person false = Ends person (build_hint false) Built BuildFails
-EndsBuild person true = Ends person (build_hint true) BuiltCommented BuildCommentedFails
-
--- bytes are not written to a terminal, unless that is asked for
-abbrev pub EndsOffTerminal : Bool → Bool → Course → Course
-EndsOffTerminal false person ends = ends
-EndsOffTerminal true person ends = OptionsAreRefused person (λ fault. fault ≡ ToTerminal)
-
--- how ends what a line asks for, where these streams are terminals
-abbrev pub EndsLine : Terminals → Line → Course
-EndsLine at lines.Show = Ends at.errors hints.Any Shown ShowFails
-EndsLine at lines.Check = Ends at.errors hints.Any Checked CheckFails
-EndsLine at lines.Build = EndsOffTerminal at.output at.errors (EndsBuild at.errors false)
-EndsLine at (lines.Enumerate options) = EndsEnumeration at.errors options no_flags
-EndsLine at lines.ShowAny = Ends at.errors hints.Explain ShownAny ShowAnyFails
-EndsLine at lines.CheckAny = Ends at.errors hints.Explain CheckedAny CheckAnyFails
-EndsLine at (lines.ShowHex any) = EndsHex at.errors any (commands.Show any)
-EndsLine at (lines.CheckHex any) = EndsHex at.errors any (commands.Check any)
-EndsLine at (lines.CheckRemarks options) = EndsChecking at.errors options
-EndsLine at lines.BuildCommented = EndsOffTerminal at.output at.errors (EndsBuild at.errors true)
-EndsLine at (lines.BuildHex comments) = Ends at.errors (build_hint comments) (BuiltHex comments) (BuildHexFails comments)
-EndsLine at (lines.BuildForced comments) = EndsBuild at.errors comments
-EndsLine at (lines.Explain options) = EndsExplanation at.errors options
-EndsLine at (lines.EnumerateWith options flags) = EndsEnumeration at.errors options flags
+-- how ends what a line asks for, for a person or not
+abbrev pub EndsLine : Bool → Line → Course
+EndsLine person lines.Show = Ends person hints.Any Shown ShowFails
+EndsLine person lines.Check = Ends person hints.Any Checked CheckFails
+EndsLine person lines.Build = Ends person hints.Comments Built BuildFails
+EndsLine person (lines.Enumerate options) = EndsEnumeration person options no_flags
+EndsLine person lines.ShowAny = Ends person hints.Explain ShownAny ShowAnyFails
+EndsLine person lines.CheckAny = Ends person hints.Explain CheckedAny CheckAnyFails
+EndsLine person (lines.ShowHex any) = EndsHex person any (commands.Show any)
+EndsLine person (lines.CheckHex any) = EndsHex person any (commands.Check any)
+EndsLine person (lines.CheckRemarks options) = EndsChecking person options
+EndsLine person lines.BuildCommented = Ends person hints.Nothing BuiltCommented BuildCommentedFails
+EndsLine person (lines.BuildHex comments) = Ends person (build_hint comments) (BuiltHex comments) (BuildHexFails comments)
+EndsLine person (lines.Explain options) = EndsExplanation person options
+EndsLine person (lines.EnumerateWith options flags) = EndsEnumeration person options flags
 
 -- the words are a line, and what it asks for was done
-pub record LineIsTaken (at : Terminals) (words : List (String Global)) (from to : Left) (held holds errors told : Held) (status : ℕ) : Type 0 where
+pub record LineIsTaken (person : Bool) (words : List (String Global)) (from to : Left) (held holds errors told : Held) (status : ℕ) : Type 0 where
   pub line : Line
   pub asked : Asks line (subcommand_of usbdesc_app (word_texts words))
-  pub ended : EndsLine at line from to held holds errors told status
+  pub ended : EndsLine person line from to held holds errors told status
 
 -- the words are no command, for one of the reasons that clap has, or memory is wanting; nothing is read, and a text is
 -- written, which clap leaves open
@@ -216,7 +200,7 @@ pub record LineIsRefused (words : List (String Global)) (from to : Left) (held h
   pub answered : Answers kind text held holds errors told
   pub ended : status ≡ line_status kind
 
--- what a run has done, where these streams are terminals, and its exit status
-abbrev pub Runs : Terminals → List (String Global) → Course
-Runs at words from to held holds errors told status =
-    LineIsTaken at words from to held holds errors told status ⊎ LineIsRefused words from to held holds errors told status
+-- what a run has done, for a person at a terminal that is standard error or not, and its exit status
+abbrev pub Runs : Bool → List (String Global) → Course
+Runs person words from to held holds errors told status =
+    LineIsTaken person words from to held holds errors told status ⊎ LineIsRefused words from to held holds errors told status

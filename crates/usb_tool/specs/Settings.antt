@@ -77,7 +77,6 @@ RefusesOptions o faults.Speed = IsSome (limits_said o) × (speed_said o ≡ None
 RefusesOptions o faults.Fates = IsSome (limits_said o) × (IsSome (speed_said o) × IsSomeAnd o.fates (λ text. RefusesFates text.now letters.Letter))
 RefusesOptions o faults.Memory = IsSome (limits_said o) × (IsSome (speed_said o) × IsSomeAnd o.fates (λ text. RefusesFates text.now letters.Memory))
 RefusesOptions o faults.SpeedAlone = ⊥
-RefusesOptions o faults.ToTerminal = ⊥
 RefusesOptions o faults.BriefAlone = ⊥
 
 -- lines of a log are left out, and none is asked for

@@ -35,8 +35,6 @@ pub enum Line<'a> {
     CheckRemarks(Checking<'a>),
     /// `build --comments`: the bytes of the file whose listing, with comments, is the input.
     BuildCommented,
-    /// `build --force`: the same bytes, where standard output is a terminal too; of a listing with comments where this says so.
-    BuildForced(bool),
     /// `build --hex`: the same bytes as hexadecimal text; of a listing with comments where this says so.
     BuildHex(bool),
     /// What the descriptors of the input mean, in words.
@@ -138,8 +136,6 @@ fn build_of<'a>(matches: &ArgMatches<'a>) -> Line<'a>
     let comments = has_flag(matches, "comments");
     if has_flag(matches, "hex") {
         Line::BuildHex(comments)
-    } else if has_flag(matches, "force") {
-        Line::BuildForced(comments)
     } else if comments {
         Line::BuildCommented
     } else {

@@ -7,7 +7,7 @@ ghost use Rattle.usb_text.specs.Stops.{stop_line};
 ghost use Rattle.usb_explain.specs.Fragments.{fragment_lines};
 ghost use Rattle.usb_tool.specs.Endings.{Writes};
 ghost use Rattle.usb_tool.specs.Explains.{ExplainFails, Explained, NoInputIsHexadecimal, RefusesAs, RefusesText, RefusesToExplain, ReportsAs, ReportsExplanation, ReportsFragment, ReportsText, WritesAfter, WritesExplained, decoded_manner, hexadecimal_words};
-ghost use Rattle.usb_tool.specs.inside.Telling.{CutsAfter, CutsExplained};
+ghost use Rattle.usb_tool.specs.inside.Telling.{CutsExplained, CutsFragment};
 
 use crate::fault::ToolFault;
 use crate::input::read_all;
@@ -70,7 +70,8 @@ pub fn run_explain<R: Read, W: Write>(
 ///
 /// # Errors
 ///
-/// `Read`, `TooLarge`, `Hex`, `Write` and `Memory` as [`run_explain`] has them.
+/// `Read`, `TooLarge`, `Hex`, `Write` and `Memory` as [`run_explain`] has them. Out of memory nothing of the explanation is written,
+/// but maybe what is before it.
 pub fn run_explain_loose<R: Read, W: Write>(
     alloc: Global,
     r: &mut R,
@@ -229,14 +230,14 @@ fn flush_fragment<W: Write>(
     manner: Manner,
 ) -> Result<(), ToolFault>
     ensures explained { OnOk result (WritesAfter Appends manner.look.utf8 (fragment_lines manner bytes.now) heading.now (W.contents w.old) (W.contents w.new)) }
-    ensures err { IfErr result (CutsAfter manner.look.utf8 (fragment_lines manner bytes.now) heading.now (W.contents w.old) (W.contents w.new)) }
+    ensures err { IfErr result (CutsFragment manner heading.now bytes.now (W.contents w.old) (W.contents w.new)) }
 {
     write_fragment(alloc, heading, bytes, w, manner)?;
     finish(w)
 }
 
 /// Writes a heading and the explanation of a fragment.
-#[tactic(auto, using(crate::proofs::Explained::explained, crate::proofs::Explained::explained_less, crate::proofs::Explained::headed_less))]
+#[tactic(auto, using(crate::proofs::Explained::explained, crate::proofs::Explained::explained_less, crate::proofs::Explained::headed_less, crate::proofs::Explained::only_headed))]
 fn write_fragment<W: Write>(
     alloc: Global,
     heading: &[u8],
@@ -246,6 +247,7 @@ fn write_fragment<W: Write>(
 ) -> Result<(), OutFault>
     ensures ok { OnOk result (WritesAfter Appends manner.look.utf8 (fragment_lines manner bytes.now) heading.now (W.contents w.old) (W.contents w.new)) }
     ensures err { OnErr result (WritesAfter AppendsLess manner.look.utf8 (fragment_lines manner bytes.now) heading.now (W.contents w.old) (W.contents w.new)) }
+    ensures memory { IfErr result (λ fault. fault ≡ OutFault.Memory → Appends (W.contents w.old) (W.contents w.new) heading.now) }
 {
     write_all(w, heading)?;
     explain_fragment(alloc, bytes, manner, w)

@@ -4,7 +4,7 @@
 pub(crate) const ABOUT: &str = "Lists, checks, builds, explains and enumerates USB 2.0 descriptors";
 
 /// The version of the program.
-pub(crate) const VERSION: &str = "0.1.0";
+pub(crate) const VERSION: &str = "0.2.0-dev";
 
 /// The usage line of `show`.
 pub(crate) const SHOW_USAGE: &str = "usbdesc show [OPTIONS] < INPUT";
@@ -140,12 +140,9 @@ Exit status:
 pub(crate) const COMMENTS_HELP: &str =
     "Drops comments, empty lines, and carriage returns at the ends of lines";
 
-/// What `--force` says.
-pub(crate) const FORCE_HELP: &str = "Writes the bytes also where standard output is a terminal";
-
 /// What `--hex` of `build` says.
 pub(crate) const HEX_OUTPUT_HELP: &str =
-    "Writes hexadecimal text in place of bytes, 16 bytes a line, also to a terminal";
+    "Writes hexadecimal text in place of bytes, 16 bytes a line";
 
 /// The usage line of `explain`.
 pub(crate) const EXPLAIN_USAGE: &str = "usbdesc explain [OPTIONS] < INPUT";

@@ -51,12 +51,12 @@ mod input;
 mod intake;
 mod manner;
 mod meaning;
+mod numbers;
 mod output;
 mod program;
 mod result_line;
 mod settings;
 mod show;
-mod terminals;
 
 pub use build::{run_build, run_build_commented};
 pub use check::{run_check, run_check_any};
@@ -71,13 +71,13 @@ pub use hex_input::{HexCommand, run_hex};
 pub use hex_output::run_build_hex;
 pub use manner::{Explaining, manner_of, read_running_speed};
 pub use meaning::Hint;
+pub use numbers::numbers_are_those_of_the_tables;
 pub use program::{refuse_words, run, run_for};
 pub use settings::{
     EnumerateFlags, FatesFault, Options, Settings, SettingsFault, read_fates, read_speed,
     settings_of, settings_with,
 };
 pub use show::{run_show, run_show_any};
-pub use terminals::Terminals;
 pub use usb_bus::{Fate, Reply, Run, Talk, converse, enumerate, laws};
 pub use usb_explain::{Look, Manner, SetSpeed};
 pub use usb_listing::LISTING_LIMIT;

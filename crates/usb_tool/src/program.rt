@@ -1,10 +1,10 @@
 //! What the program does, from the words of its command line to its exit status.
-ghost use Rattle.std.specs.Prelude.{◌≡◌, true};
+ghost use Rattle.std.specs.Prelude.{◌≡◌, true, false};
 ghost use Rattle.std.specs.IoError.{error_kind};
 ghost use Rattle.usb_tool.specs.Faults.{words_line, words_status};
 ghost use Rattle.usb_tool.specs.CommandLine.{no_flags};
 ghost use Rattle.usb_tool.specs.Faults.{fault_line, meaning_line, status_of};
-ghost use Rattle.usb_tool.specs.Runs.{Answers, EndsBuild, EndsChecking, EndsEnumeration, EndsExplanation, EndsHex, EndsLine, EndsOffTerminal, EndsRemarks, Runs, ReportsLines, ReportsEnd, ReportsEnded, ReportsOutcome, any_hint, build_hint, ended_status, enumerate_hint, line_status, no_terminals};
+ghost use Rattle.usb_tool.specs.Runs.{Answers, EndsChecking, EndsEnumeration, EndsExplanation, EndsHex, EndsLine, EndsRemarks, Runs, ReportsLines, ReportsEnd, ReportsEnded, ReportsOutcome, any_hint, build_hint, ended_status, enumerate_hint, line_status};
 ghost use Rattle.usb_tool.specs.OptionFaults.{settings_line, settings_meaning, settings_status};
 
 use crate::build::{run_build, run_build_commented};
@@ -22,7 +22,6 @@ use crate::manner::{Explaining, manner_of};
 use crate::meaning::{Hint, MeaningLine, fault_meaning};
 use crate::settings::{EnumerateFlags, Options, SettingsFault, settings_with};
 use crate::show::{run_show, run_show_any};
-use crate::terminals::Terminals;
 use clap::error::ErrorKind;
 use std::alloc::Global;
 use std::io;
@@ -78,25 +77,20 @@ pub fn run<R: Read, W: Write, E: Write>(
     w: &mut W,
     e: &mut E,
 ) -> u8
-    ensures { Runs no_terminals words.now (R.remaining r.old) (R.remaining r.new) (W.contents w.old) (W.contents w.new) (E.contents e.old) (E.contents e.new) result }
+    ensures { Runs false words.now (R.remaining r.old) (R.remaining r.new) (W.contents w.old) (W.contents w.new) (E.contents e.old) (E.contents e.new) result }
 {
-    let at = Terminals {
-        output: false,
-        errors: false,
-    };
-    run_for(alloc, words, at, r, w, e)
+    run_for(alloc, words, false, r, w, e)
 }
 
-/// Does what [`run`] does, where these streams are terminals. Where standard error is one, the line of a fault is followed by one
-/// that says what the fault means, and where the input is at fault which option or command to try; after an enumeration without
-/// success it has a line that says the same of that. Where standard output is one, `build` is refused as a bad option is, unless it is forced.
+/// Does what [`run`] does, for a person at a terminal that is standard error, or not. For a person the line of a fault is followed
+/// by one that says what the fault means, and where the input is at fault which option or command to try; after an enumeration
+/// without success standard error has a line that says the same of that.
 ///
 /// ```rust
 /// let words = vec![in alloc; String::from_str(alloc, "usbdesc")?, String::from_str(alloc, "build")?]?;
 /// let mut listing: &[u8] = b"usb\n";
-/// let at = Terminals { output: false, errors: true };
 /// let (mut output, mut errors) = (Vec::new(alloc), Vec::new(alloc));
-/// assert_eq!(rt; run_for(alloc, &words, at, &mut listing, &mut output, &mut errors), 3);
+/// assert_eq!(rt; run_for(alloc, &words, true, &mut listing, &mut output, &mut errors), 3);
 /// assert_eq!(rt; errors.as_slice(), b"usbdesc: listing fault 2 line 1
 /// no known word; --comments drops comments and empty lines
 /// ");
@@ -104,15 +98,15 @@ pub fn run<R: Read, W: Write, E: Write>(
 pub fn run_for<R: Read, W: Write, E: Write>(
     alloc: Global,
     words: &[String],
-    at: Terminals,
+    person: bool,
     r: &mut R,
     w: &mut W,
     e: &mut E,
 ) -> u8
-    ensures { Runs at words.now (R.remaining r.old) (R.remaining r.new) (W.contents w.old) (W.contents w.new) (E.contents e.old) (E.contents e.new) result }
+    ensures { Runs person words.now (R.remaining r.old) (R.remaining r.new) (W.contents w.old) (W.contents w.new) (E.contents e.old) (E.contents e.new) result }
 {
     match read_line(alloc, words) {
-        Ok(line) => carry_out(alloc, &line, at, r, w, e),
+        Ok(line) => carry_out(alloc, &line, person, r, w, e),
         Err(error) => match error.to_string(alloc) {
             Ok(text) => tell_refusal(error.kind(), text.as_str(), w, e),
             Err(_) => tell_refusal(ErrorKind::OutOfMemory, NO_MEMORY, w, e),
@@ -125,18 +119,17 @@ pub fn run_for<R: Read, W: Write, E: Write>(
 fn carry_out<R: Read, W: Write, E: Write>(
     alloc: Global,
     line: &Line<'_>,
-    at: Terminals,
+    person: bool,
     r: &mut R,
     w: &mut W,
     e: &mut E,
 ) -> u8
-    ensures { EndsLine at line.now (R.remaining r.old) (R.remaining r.new) (W.contents w.old) (W.contents w.new) (E.contents e.old) (E.contents e.new) result }
+    ensures { EndsLine person line.now (R.remaining r.old) (R.remaining r.new) (W.contents w.old) (W.contents w.new) (E.contents e.old) (E.contents e.new) result }
 {
-    let person = at.errors;
     match line {
         Line::Show => report(&run_show(alloc, r, w), person, Hint::Any, e),
         Line::Check => report(&run_check(alloc, r, w), person, Hint::Any, e),
-        Line::Build => build_off_terminal(alloc, false, at.output, person, r, w, e),
+        Line::Build => report(&run_build(alloc, r, w), person, Hint::Comments, e),
         Line::Enumerate(options) => enumerate_plainly(alloc, options, person, r, w, e),
         Line::ShowAny => report(&run_show_any(alloc, r, w), person, Hint::Explain, e),
         Line::CheckAny => report(&run_check_any(alloc, r, w), person, Hint::Explain, e),
@@ -159,8 +152,7 @@ fn carry_out<R: Read, W: Write, E: Write>(
             e,
         ),
         Line::CheckRemarks(options) => check_with(alloc, options, person, r, w, e),
-        Line::BuildCommented => build_off_terminal(alloc, true, at.output, person, r, w, e),
-        Line::BuildForced(comments) => build_with(alloc, *comments, person, r, w, e),
+        Line::BuildCommented => report(&run_build_commented(alloc, r, w), person, Hint::Nothing, e),
         Line::BuildHex(comments) => report(
             &run_build_hex(alloc, r, w, *comments),
             person,
@@ -171,47 +163,6 @@ fn carry_out<R: Read, W: Write, E: Write>(
         Line::EnumerateWith(options, flags) => enumerate_with(
             alloc, options, *flags, person, r, w, e,
         ),
-    }
-}
-
-/// Builds, but not to a terminal, which is reported before anything is read.
-fn build_off_terminal<R: Read, W: Write, E: Write>(
-    alloc: Global,
-    comments: bool,
-    is_terminal: bool,
-    person: bool,
-    r: &mut R,
-    w: &mut W,
-    e: &mut E,
-) -> u8
-    ensures { EndsOffTerminal is_terminal person (EndsBuild person comments) (R.remaining r.old) (R.remaining r.new) (W.contents w.old) (W.contents w.new) (E.contents e.old) (E.contents e.new) result }
-{
-    match is_terminal {
-        true => refuse(SettingsFault::ToTerminal, person, e),
-        false => build_with(alloc, comments, person, r, w, e),
-    }
-}
-
-/// Builds, and drops comments or doesn't.
-#[tactic(auto, using(crate::proofs::Running::command_ends))]
-fn build_with<R: Read, W: Write, E: Write>(
-    alloc: Global,
-    comments: bool,
-    person: bool,
-    r: &mut R,
-    w: &mut W,
-    e: &mut E,
-) -> u8
-    ensures { EndsBuild person comments (R.remaining r.old) (R.remaining r.new) (W.contents w.old) (W.contents w.new) (E.contents e.old) (E.contents e.new) result }
-{
-    match comments {
-        true => report(
-            &run_build_commented(alloc, r, w),
-            person,
-            build_hint(true),
-            e,
-        ),
-        false => report(&run_build(alloc, r, w), person, build_hint(false), e),
     }
 }
 

@@ -284,14 +284,12 @@ pub enum SettingsFault {
     Memory,
     /// A speed is named, and no remarks are asked for.
     SpeedAlone,
-    /// Standard output is a terminal, and bytes would be written there.
-    ToTerminal,
     /// Lines of a log are left out, and no log is asked for.
     BriefAlone,
 }
 
 impl SettingsFault {
-    /// The fault's number, 1 to 7: of the first three a lower one is tested first.
+    /// The fault's number, 1 to 7 without 6: of the first three a lower one is tested first.
     ///
     /// ```rust
     /// assert_eq!(rt; SettingsFault::Speed.number(), 2);
@@ -299,7 +297,14 @@ impl SettingsFault {
     pub fn number(self) -> u8
         ensures { result ≡ settings_fault_number self }
     {
-        self as u8 + 1
+        match self {
+            SettingsFault::Number => 1,
+            SettingsFault::Speed => 2,
+            SettingsFault::Fates => 3,
+            SettingsFault::Memory => 4,
+            SettingsFault::SpeedAlone => 5,
+            SettingsFault::BriefAlone => 7,
+        }
     }
 
     /// The exit status of the program: 2 as for a line that is no command, and 3 out of memory.
@@ -330,7 +335,6 @@ impl SettingsFault {
             SettingsFault::Fates => "a letter that names no fate: they are . n d u a",
             SettingsFault::Memory => "there was not enough memory",
             SettingsFault::SpeedAlone => "a speed is for remarks: check --remarks --speed full",
-            SettingsFault::ToTerminal => "usbdesc build < LISTING > FILE, or --force",
             SettingsFault::BriefAlone => "a log is brief: enumerate --log --brief",
         }
     }
@@ -347,7 +351,6 @@ impl fmt::Display for SettingsFault {
             SettingsFault::Fates => f.write_str("usbdesc: bad fates"),
             SettingsFault::Memory => f.write_str("usbdesc: out of memory"),
             SettingsFault::SpeedAlone => f.write_str("usbdesc: --speed without --remarks"),
-            SettingsFault::ToTerminal => f.write_str("usbdesc: bytes not written to a terminal"),
             SettingsFault::BriefAlone => f.write_str("usbdesc: --brief without --log"),
         }
     }

@@ -1,8 +1,8 @@
 //! Lists, checks, builds, explains and enumerates USB 2.0 descriptors.
 //!
 //! What it reads is standard input, what it writes standard output; a fault goes to standard error. What it
-//! does is `usb_tool::run_for`, by which streams are terminals; here it gets the words of its command line and the three
-//! streams.
+//! does is `usb_tool::run_for`, for a person where standard error is a terminal; here it gets the words of its command line
+//! and the three streams.
 #![tactic(auto)]
 
 use clap::error::ErrorKind;
@@ -11,21 +11,18 @@ use std::io::IsTerminal;
 use std::process::ExitCode;
 use std::rt::Env;
 use std::{env, io};
-use usb_tool::{Terminals, read_line, refuse_words, run_for};
+use usb_tool::{read_line, refuse_words, run_for};
 
 fn main(rt: HostRuntime) -> ExitCode {
     let alloc = rt.alloc();
     let status = match words(&rt) {
         Ok(words) => {
-            let at = Terminals {
-                output: rt.stdout().is_terminal(),
-                errors: rt.stderr().is_terminal(),
-            };
-            if at.errors && lacks_input(alloc, &words, rt.stdin().is_terminal()) {
+            let person = rt.stderr().is_terminal();
+            if person && lacks_input(alloc, &words, rt.stdin().is_terminal()) {
                 let _ = rt.eprintln("usbdesc reads standard input: usbdesc COMMAND < FILE");
             }
             let (mut r, mut w) = (rt.reader(), io::writer(&rt));
-            run_for(alloc, &words, at, &mut r, &mut w, &mut rt.stderr())
+            run_for(alloc, &words, person, &mut r, &mut w, &mut rt.stderr())
         }
         Err(error) => {
             let (line, status) = refuse_words(&error);

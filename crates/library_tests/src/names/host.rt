@@ -1,8 +1,8 @@
 //! The names of usb_host.
 use anyhow::Result as Outcome;
-use usb_fields::{Answer, Setup, Speed, Stage, Toggle, Transaction};
+use usb_fields::{Answer, Direction, Setup, Speed, Stage, Toggle, Transaction};
 use usb_file::DescriptorFile;
-use usb_host::{Action, Heard, Host, LimitFault, Limits, Step, Transfer, Trouble, Why};
+use usb_host::{Action, Heard, Host, LimitFault, Limits, Step, Transfer, Trouble, Why, Write};
 
 fn limit_fault_number(fault: LimitFault) -> u8 {
     match fault {
@@ -94,6 +94,35 @@ fn a_transfer(rt: HostRuntime) {
     assert_eq!(rt; heard_number(heard), (2, 8));
     assert_eq!(rt; heard_number(transfer.take(Answer::Stall)), (3, 0));
     assert_eq!(rt; transfer.next(), None);
+}
+
+#[test]
+fn a_write(rt: HostRuntime) {
+    let setup = Setup::from_bytes(&[0x21, 9, 0, 2, 0, 0, 1, 0]);
+    if setup.length == 0 || setup.direction() == Direction::In {
+        return;
+    }
+    let mut write: Write = Write::new(5u8, 8u8, 16u16, setup);
+    let data: [u8; 1] = [1];
+    let heard: Heard<'_> = write.take(Answer::Ack);
+    assert_eq!(rt; heard_number(heard), (1, 0));
+    let packet = Transaction {
+        address: 5,
+        stage: Stage::Out(Toggle::Data1, &data),
+    };
+    if data.len() == usize::from(write.request().length) {
+        let next: Option<Transaction<'_>> = write.next(&data);
+        assert_eq!(rt; next, Some(packet));
+    }
+    write.take(Answer::Ack);
+    let acknowledged: u16 = write.acknowledged();
+    assert_eq!(rt; acknowledged, 1);
+    assert_eq!(rt;
+        (write.strikes(), write.nak_count(), write.is_untried()),
+        (0, 0, false)
+    );
+    let heard = write.take(Answer::Data(Toggle::Data1, &[]));
+    assert_eq!(rt; heard_number(heard), (3, 0));
 }
 
 /// A device that answers nothing.

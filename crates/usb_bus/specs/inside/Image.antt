@@ -80,6 +80,6 @@ module _ (set_of : List ℕ → Option Configuration) (limits : LimitView) (spee
       IsImage replies (Running h) (Reading place t k) → TakesHeard limits speed place k (taken t answer) new →
       ((result : Result Progress SetFault) × (LacksMemory (taken t answer).heard k result ⊎ Grows (taken t answer).heard place)
       × (new ≡ Ended (stopped place Memory)))
-      ⊎ (let e = hears h answer in
+      ⊎ (let e = hears false h answer in
       let x = advance plan_of limits.naks no_data replies e e.transfer.stage d in
       IsImage x.replies x.phase new)

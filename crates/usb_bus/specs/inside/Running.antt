@@ -1,5 +1,5 @@
 -- What the loops of a talk keep.
-use Rattle.std.specs.Prelude.{◌≡◌, ℕ, List, [], ◌∷◌, Some, ◌<◌, ◌≤◌, ◌*◌, length, None, zero, suc, ◌+◌, Option, Result, Ok, Err, ◌==◌, if◌then◌else◌}
+use Rattle.std.specs.Prelude.{◌≡◌, ℕ, List, [], ◌∷◌, Some, ◌<◌, ◌≤◌, ◌*◌, length, None, zero, suc, ◌+◌, Option, Result, Ok, Err, Bool, true, false, ◌==◌, if◌then◌else◌}
 use Rattle.usb_fields.specs.declared.packet.Speed.{Speed}
 use Rattle.usb_file_data.specs.declared.file.DescriptorFile.{DescriptorFile}
 use Rattle.usb_host.specs.Limits.{LimitView}
@@ -23,6 +23,9 @@ use Rattle.usb_device.specs.Step.{DeviceView}
 use Rattle.usb_host.specs.declared.reply.Reply.{Reply}
 use Rattle.usb_host.specs.declared.reply.Reply.TheVariants as replied
 use Rattle.usb_bus.specs.Bus.{HostEnd}
+use Rattle.usb_host.specs.Transfer.{TransferView}
+use Rattle.usb_bus.specs.declared.sender.Sender.{Sender}
+use Rattle.usb_bus.specs.declared.sender.Sender.TheVariants as senders
 use Rattle.usb_host.specs.Plan.{Plan}
 use Rattle.usb_bus.specs.Attempt.{Attempt, Running, attempt_step, advance}
 use Rattle.usb_bus.specs.Run.{fate_at, due_in}
@@ -95,6 +98,15 @@ abbrev pub IsConversation : Inside → Type 0
 IsConversation c =
     (c.packet ≡ c.device.description.file.device.packet) × (0 < c.packet)
     × (c.talk.stopped ≡ None → c.talk.transactions ≤ length c.talk.replies * 8589934592)
+
+-- the transfer that the host's end of a request is, and whether it is a write
+abbrev pub transfer_of : Sender → TransferView
+transfer_of (senders.Transfer t) = t
+transfer_of (senders.Write t) = t
+
+abbrev pub is_write : Sender → Bool
+is_write (senders.Transfer t) = false
+is_write (senders.Write t) = true
 
 -- why a transfer has failed, if it has
 abbrev pub failure_of : TransferStage → Option Why

@@ -1,5 +1,5 @@
 -- What is kept of a set, so that requests can name it.
-use Rattle.std.specs.Prelude.{◌≡◌, ℕ, ◌==◌, ◌&&◌, Bool, List, map, slice_index, if◌then◌else◌}
+use Rattle.std.specs.Prelude.{◌≡◌, ℕ, ◌==◌, ◌%◌, ◌&&◌, not, Bool, List, map, slice_index, if◌then◌else◌}
 use Rattle.std.specs.List.{flat_map}
 use Rattle.usb_set.specs.declared.tree.Configuration.{Configuration}
 use Rattle.usb_set.specs.declared.tree.Endpoint.{Endpoint}
@@ -15,7 +15,7 @@ alternate_of t = record { number = t.number; alternate = t.alternate }
 
 -- of its endpoints
 abbrev pub endpoint_in : Alternate → Endpoint → EndpointIn
-endpoint_in a e = record { setting = a; address = e.address }
+endpoint_in a e = record { setting = a; address = e.address; isochronous = e.attributes % 4 == 1 }
 
 abbrev pub endpoints_in : Setting → List EndpointIn
 endpoints_in t = map (endpoint_in (alternate_of t)) t.endpoints
@@ -26,6 +26,15 @@ is_numbered number a = a.number == number
 
 abbrev pub is_named : ℕ → ℕ → Alternate → Bool
 is_named number alternate a = (a.number == number) && (a.alternate == alternate)
+
+-- whether it is another one of the interface
+abbrev pub is_other_named : ℕ → ℕ → Alternate → Bool
+is_other_named number alternate a = (a.number == number) && not (a.alternate == alternate)
+
+-- whether the endpoint has this address and is isochronous, and its setting is chosen
+abbrev pub is_chosen_isochronous : List ℕ → ℕ → EndpointIn → Bool
+is_chosen_isochronous alternates address e =
+    (slice_index alternates e.setting.number == e.setting.alternate) && ((e.address == address) && e.isochronous)
 
 -- whether the endpoint has this address, and its setting is chosen
 abbrev pub is_chosen : List ℕ → ℕ → EndpointIn → Bool

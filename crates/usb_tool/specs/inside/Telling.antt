@@ -8,10 +8,11 @@ use Rattle.usb_bus.specs.declared.enumeration.Run.{Run}
 use Rattle.usb_bus.specs.Log.{WritesLogLess}
 use Rattle.usb_explain.specs.declared.manner.Manner.{Manner}
 use Rattle.usb_explain.specs.Explanations.{explanation}
+use Rattle.usb_explain.specs.Fragments.{fragment_lines}
 use Rattle.usb_explain.specs.Subjects.{Reading}
 use Rattle.usb_text.specs.Shown.{Shown}
 use Rattle.usb_tool.specs.Endings.{Extent}
-use Rattle.usb_tool.specs.Explains.{ShowsAfter}
+use Rattle.usb_tool.specs.Explains.{ShowsAfter, WithoutMemory}
 use Rattle.usb_tool.specs.Enumerations.{Conditions, IsRun}
 use Rattle.usb_tool.specs.declared.fault.ToolFault.{ToolFault}
 use Rattle.usb_tool.specs.declared.fault.ToolFault.TheVariants as faults
@@ -30,15 +31,19 @@ IsCut extent text held holds fault = ⊥
 abbrev pub IsCutShort : List ℕ → Held → Held → ToolFault → Type 0
 IsCutShort = IsCut AppendsLess
 
--- a heading and the lines that show this were left unfinished
-pub record CutsAfter (utf8 : Bool) (shown : List Shown) (heading : List ℕ) (held holds : Held) (fault : ToolFault) : Type 0 where
+-- a heading and the lines that show this were left unfinished, and out of memory so much of them was written
+pub record CutsAfter (extent : Extent) (utf8 : Bool) (shown : List Shown) (heading : List ℕ) (held holds : Held) (fault : ToolFault) : Type 0 where
   pub text : List ℕ
   pub explains : ShowsAfter utf8 shown heading text
-  pub cut : IsCutShort text held holds fault
+  pub cut : IsCut extent text held holds fault
 
 -- an explanation after a heading was left unfinished
 abbrev pub CutsExplained : Manner → Reading → List ℕ → List ℕ → Held → Held → ToolFault → Type 0
-CutsExplained m read heading b = CutsAfter m.look.utf8 (explanation m read b) heading
+CutsExplained m read heading b = CutsAfter AppendsLess m.look.utf8 (explanation m read b) heading
+
+-- and that of a fragment
+abbrev pub CutsFragment : Manner → List ℕ → List ℕ → Held → Held → ToolFault → Type 0
+CutsFragment m heading b = CutsAfter (WithoutMemory true heading) m.look.utf8 (fragment_lines m b) heading
 
 -- a device with these descriptors was enumerated, and its log was written where one is asked for
 pub record MakesRun (c : Conditions) (f : DescriptorFile) (held holds : Held) (run : Run) : Type 0 where

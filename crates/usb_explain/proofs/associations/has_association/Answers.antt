@@ -1,6 +1,6 @@
 use Rattle.std.proofs.Common.{◌≡◌, ◌∙◌, true, false, sym}
 use Rattle.usb_explain.specs.Roles.{is_association}
-use Rattle.usb_explain.proofs.Lacking.{found_later, found_there, none_there}
+use Rattle.usb_explain.proofs.AssociationSteps.{found_later, found_there, none_there}
 use Rattle.usb_explain.proofs.associations.has_association.Goals as goal
 
 pub loop-d-preserved : goal.loop-d-preserved

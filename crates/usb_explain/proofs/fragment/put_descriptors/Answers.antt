@@ -17,7 +17,7 @@ loop-length-preserved g c =
     let left : length (drop n rest) ≡ length rest - n = length-drop n rest in
     let long : length (take n rest) ≡ n = length-take-le n rest c.in-Some.ensures.most in
     let put : g.P.Page.seen c.put_descriptor.new.page ≡ showing_all g.P.Page.showing (lines_of c.args.subject.now (described_alone c.args.speed p (take n rest))) (g.P.Page.seen c.loop-length.page) =
-    c.in_ok-put_descriptor.ensures
+    c.in_ok-put_descriptor.ensures.lines
     ∙ ap (λ (d : Described). showing_all g.P.Page.showing (lines_of c.args.subject.now d) (g.P.Page.seen c.loop-length.page))
     (c.describe.ensures ∙ ap (described_alone c.args.speed p) c.prefix-d.ensures) in
     let past : c.past-position.result ≡ position_past p (take n rest) = c.past-position.ensures ∙ ap (position_past p) c.prefix-d.ensures in

@@ -1,6 +1,5 @@
 use Rattle.std.proofs.Common.{◌≡◌, ◌≤◌, length}
-use Rattle.usb_text.specs.Comments.{is_before_line}
-use Rattle.usb_text.specs.Columns.{after_all}
+use Rattle.usb_text.specs.Columns.{after_all, is_before_line}
 use Rattle.usb_text.proofs.column.at_start.Given as goal
 
 abbrev pub invariant-loop-rest : goal.invariant-loop-rest

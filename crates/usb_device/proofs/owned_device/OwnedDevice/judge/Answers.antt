@@ -1,6 +1,6 @@
-use Rattle.std.proofs.Common.{rules, ◌≡◌, subst}
-use Rattle.usb_fields.specs.Packets.{reply_of, sent_of, token_of}
-use Rattle.usb_device.specs.Conformance.{is_ready, is_refusing, IsJudged}
+use Rattle.std.proofs.Common.{rules, ◌≡◌, subst, ℕ, Bool}
+use Rattle.usb_fields.specs.Packets.{Reply, reply_of, sent_of, token_of}
+use Rattle.usb_device.specs.Conformance.{is_free, is_ready, IsJudged}
 use Rattle.usb_device.specs.Transactions.{packet_of}
 use Rattle.usb_device.specs.View.{View, device_of, served_by}
 use Rattle.usb_device.proofs.Replies.{reply_has_room}
@@ -24,8 +24,11 @@ returns-clause-judged c =
     let v = c.args.self.now in
     let token = token_of c.args.t.now.stage in
     let came = reply_of c.args.came in
-    let refused : c.refuses-refused.result ≡ is_refusing v.device.stage = search rules in
+    let free : c.is_free-free.result ≡ is_free v.description.file v.device c.args.request = search rules in
+    let size : c.packet-size.result ≡ v.description.file.device.packet = search rules in
     let has = subst (λ (v : View). reply_of c.serve-has.result ≡ (served_by v.description.file v.device (sent_of c.args.t.now) (is_ready came)).reply)
     c.self.view_is (rw c.is_ready.ensures at c.serve-has.ensures.answer) in
-    subst (λ r. IsJudged c.args.request (is_refusing v.device.stage) token came r c.judge.result) has
-    (subst (λ b. IsJudged c.args.request b token came (reply_of c.serve-has.result) c.judge.result) refused c.judge.ensures)
+    let judged : Bool → ℕ → Reply → Type 0 = λ b n r. IsJudged b c.args.request n c.args.transfer.now token came r c.judge.new.transfer c.judge.result in
+    subst (λ r. judged (is_free v.description.file v.device c.args.request) v.description.file.device.packet r) has
+    (subst (λ n. judged (is_free v.description.file v.device c.args.request) n (reply_of c.serve-has.result)) size
+    (subst (λ b. judged b c.packet-size.result (reply_of c.serve-has.result)) free c.judge.ensures))

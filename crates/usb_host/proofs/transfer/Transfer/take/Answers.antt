@@ -1,7 +1,7 @@
 use Rattle.usb_fields.specs.Packets.{reply_of}
 use Rattle.usb_host.proofs.BoundLemmas.{left-taken}
 use Rattle.usb_host.proofs.RequestLemmas.{request-taken}
-use Rattle.usb_host.specs.inside.Transfers.{IsTransfer}
+use Rattle.usb_host.specs.Transfer.{IsTransfer}
 use Rattle.usb_host.proofs.transfer.Transfer.take.Goals as goal
 
 pub returns-clause-fewer : goal.returns-clause-fewer

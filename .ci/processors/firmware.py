@@ -1,0 +1,51 @@
+"""The firmware of examples/firmware in QEMU: the bench plays hosts to it, and its reports move a pointer."""
+
+import os
+import re
+import subprocess
+import sys
+
+import targets
+from playing.built import LLD, ROOT, run
+from processors import machines, sizes
+
+PLACE = f"{ROOT}/examples/firmware"
+SOURCES = (f"{PLACE}/main.c", f"{PLACE}/semihosting.c", f"{PLACE}/start.c", f"{ROOT}/callers/targets/runtime.c", f"{targets.HERE}/lowered_memory.c")
+# Sixteen reports to the right, then down.
+REPORTS = "reports:" + 16 * " 000400" + " 000004"
+
+
+def built(target, made, room):
+    """The firmware, with nothing of the library but what it calls."""
+    objects = [targets.compiled(it, target, f"{room}/{os.path.basename(it)}.o", "-fno-builtin", "-I", f"{ROOT}/callers/c") for it in SOURCES]
+    run(LLD, "-T", f"{PLACE}/mps2.ld", "--gc-sections", *objects, made, "-o", f"{room}/mouse.elf")
+    return f"{room}/mouse.elf"
+
+
+def file_of():
+    """The descriptor file that is in the firmware's source."""
+    with open(f"{PLACE}/main.c", encoding="utf-8") as it:
+        text = it.read()
+    report = len(re.search(r"REPORT_DESCRIPTOR\[\] = \{(.*?)\}", text, re.S)[1].split(","))
+    names = {"REPORT": 0x22, "sizeof REPORT_DESCRIPTOR": report}
+    items = re.search(r" FILE\[\] = \{(.*?)\};", text, re.S)[1].split(",")
+    return bytes(names.get(it.strip()) or (ord(it.strip()[1]) if "'" in it else int(it, 0)) for it in items)
+
+
+def play(target, made, room, library, losses, said):
+    """Whether the firmware is as the proved device under each loss."""
+    firmware, file = built(target, made, room), f"{room}/mouse.file"
+    with open(file, "wb") as it:
+        it.write(file_of())
+    said(f"firmware: {target}: {sizes.in_flash(firmware):,} bytes of flash, all of the program")
+    environment = {**os.environ, "FIRMWARE": firmware, "PYTHONPATH": f"{PLACE}:{ROOT}/python", "PYTHONDONTWRITEBYTECODE": "1",
+                   "NOZZLEGORSE_LIBRARY": f"{os.path.abspath(library)}/libnozzlegorse.so"}
+    moved = subprocess.run([sys.executable, f"{PLACE}/in_qemu.py"], env=environment, capture_output=True, text=True, check=False).stdout
+    said(f"firmware: {target}: {moved.splitlines()[0] if moved else 'not enumerated'}")
+    if REPORTS not in moved:
+        said(f"firmware: {target}: the pointer does not go to the right and down: {moved}")
+        return False
+    words = ["-m", "nozzlegorse.bench", "in_qemu:Firmware", file, "--losses", str(losses), "--within", "40"]
+    ended = subprocess.run([sys.executable, *words], env=environment, capture_output=True, text=True, check=False)
+    said(f"firmware: {target}: {(ended.stdout or ended.stderr).splitlines()[0 if ended.stdout else -1]}")
+    return ended.returncode == 0

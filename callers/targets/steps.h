@@ -1,0 +1,31 @@
+/* What the parts of `steps` have in common: numbers drawn anew for each file, and what is said of an answer. */
+#ifndef STEPS_H
+#define STEPS_H
+#include "platform.h"
+
+#define ROOM 300000
+extern uint8_t file[66000], room[ROOM];
+
+void draw_from(uint32_t seed);
+uint32_t any(uint32_t below);
+bool one_in(uint32_t number);
+void fill(uint8_t *to, uint32_t length);
+/* A request of chapter 9, of a class or a vendor, and sometimes any bytes. */
+void any_setup(uint8_t *setup);
+
+void say_answer(const char *what, struct nzg_answer answer);
+/* An answer and the bytes that it wrote into the room. */
+void say_text(const char *what, struct nzg_answer answer);
+void say_list(const char *what, uint64_t number);
+
+void device_steps(uint32_t length, uint8_t speed, uint32_t steps);
+void host_steps(uint32_t length, uint8_t speed, uint32_t trouble_in);
+void transfer_steps(void);
+void write_steps(void);
+void facts(uint32_t length);
+void mutated_facts(uint32_t length, uint32_t times);
+void pieces(uint32_t length);
+void enumerations(uint32_t length);
+void refusals(uint32_t length);
+void stacks(uint32_t length);
+#endif

@@ -1,0 +1,13 @@
+pub mod Linear
+pub mod Orbit
+pub mod Parity
+pub mod Burst
+pub mod Idle
+pub mod Fields
+pub mod Bytes
+pub mod Bodies
+pub mod Buffers
+pub mod Pids
+pub mod Found
+pub mod RoundTrip
+pub mod Mirror

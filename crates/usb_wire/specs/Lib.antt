@@ -1,0 +1,5 @@
+pub mod Crc
+pub mod Standard
+pub mod Packets
+pub mod Damages
+pub mod Changes

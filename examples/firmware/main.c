@@ -1,0 +1,61 @@
+/* A mouse. The library is its end of endpoint zero; what belongs to HID 1.11 is here: a report descriptor, SET_IDLE, SET_PROTOCOL,
+ * and reports that move the pointer. */
+#include "hardware.h"
+
+enum { GET_DESCRIPTOR = 6, SET_IDLE = 10, SET_PROTOCOL = 11, REPORT = 0x22 };
+enum { OF_INTERFACE_IN = 0x81, OF_CLASS_OUT = 0x21 };
+
+/* HID 1.11, E.10: three buttons, X and Y. */
+static const uint8_t REPORT_DESCRIPTOR[] = {
+    0x05, 1, 0x09, 2, 0xa1, 1, 0x09, 1, 0xa1, 0, 0x05, 9, 0x19, 1, 0x29, 3, 0x15, 0, 0x25, 1, 0x95, 3, 0x75, 1, 0x81, 2, 0x95, 1, 0x75, 5,
+    0x81, 1, 0x05, 1, 0x09, 0x30, 0x09, 0x31, 0x15, 0x81, 0x25, 0x7f, 0x75, 8, 0x95, 2, 0x81, 6, 0xc0, 0xc0};
+
+/* The device, its configuration set, the list of languages and a string. */
+static const uint8_t FILE[] = {
+    18, 1, 0x10, 1, 0, 0, 0, 64, 0x34, 0x12, 0x78, 0x56, 0, 1, 0, 1, 0, 1,
+    9, 2, 34, 0, 1, 1, 0, 0xa0, 50, 9, 4, 0, 0, 1, 3, 1, 2, 0, 9, 0x21, 0x11, 1, 0, 1, REPORT, sizeof REPORT_DESCRIPTOR, 0, 7, 5, 0x81, 3, 4, 0, 10,
+    4, 3, 9, 4, 12, 3, 'm', 0, 'o', 0, 'u', 0, 's', 0, 'e', 0};
+
+static struct nzg_device device;
+
+/* A request that chapter 9 leaves to the class. The library has refused it, and takes this answer in place of that. */
+static void answer_class(void) {
+    struct nzg_setup refused;
+    if (!nzg_device_refused(&device, &refused)) return;
+    const uint8_t *setup = refused.bytes;
+    if (setup[0] == OF_INTERFACE_IN && setup[1] == GET_DESCRIPTOR && setup[3] == REPORT && !setup[4])
+        nzg_device_answer_with(&device, REPORT_DESCRIPTOR, sizeof REPORT_DESCRIPTOR);
+    if (setup[0] == OF_CLASS_OUT && (setup[1] == SET_IDLE || setup[1] == SET_PROTOCOL) && !setup[4])
+        nzg_device_accept(&device);
+}
+
+static void serve(const struct hardware_event *event) {
+    struct nzg_packet packet;
+    if (!nzg_device_serve(&device, &event->transaction, event->data, event->length, true, &packet)) packet.reply = NZG_SILENCE;
+    if (event->transaction.stage == NZG_SETUP) answer_class();
+    hardware_answer(&packet);
+}
+
+/* The pointer goes round a square. */
+static void move(void) {
+    static uint8_t step;
+    static const int8_t WAYS[4][2] = {{4, 0}, {0, 4}, {-4, 0}, {0, -4}};
+    const int8_t *way = WAYS[step / 16 % 4];
+    if (hardware_report((const uint8_t[]){0, (uint8_t)way[0], (uint8_t)way[1]}, 3)) step++;
+}
+
+int main(void) {
+    struct hardware_event event;
+    if (nzg_device_open(&device, FILE, sizeof FILE, NZG_FULL).status != NZG_DONE) return 1;
+    hardware_start();
+    for (;;) {
+        struct nzg_state state;
+        hardware_wait(&event);
+        if (event.kind == HARDWARE_RESET) nzg_device_reset(&device);
+        if (event.kind == HARDWARE_ACKED) nzg_device_acked(&device);
+        if (event.kind == HARDWARE_TRANSACTION) serve(&event);
+        nzg_device_state(&device, &state);
+        hardware_address(state.address);
+        if (state.selected) move();
+    }
+}

@@ -1,0 +1,15 @@
+/* 64 kB of flash and 20 kB of RAM, as a small microcontroller has, at the places of QEMU's mps2-an386. */
+ENTRY(start)
+MEMORY {
+    flash (rx) : ORIGIN = 0, LENGTH = 64K
+    ram (rwx) : ORIGIN = 0x20000000, LENGTH = 20K
+}
+stack_top = ORIGIN(ram) + LENGTH(ram);
+SECTIONS {
+    .text : { KEEP(*(.vectors)) *(.text*) *(.rodata*) *(.data.rel.ro*) . = ALIGN(4); } >flash
+    .data : { data_begin = .; *(.data*) . = ALIGN(4); data_end = .; } >ram AT >flash
+    data_from = LOADADDR(.data);
+    .bss : { bss_begin = .; *(.bss*) *(COMMON) . = ALIGN(4); bss_end = .; } >ram
+    ASSERT(stack_top - bss_end >= 8K, "nzg_device_open has 6 kB of stack at most, and main its own")
+    /DISCARD/ : { *(.ARM.exidx*) *(.ARM.extab*) *(.comment*) *(.note*) }
+}

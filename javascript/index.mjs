@@ -1,0 +1,83 @@
+// Nozzlegorse: descriptors of USB 2.0, and both ends of the control pipe. `load` gives the library; what is refused is a Fault.
+//
+//     import { load } from 'nozzlegorse';
+//     const usb = await load();
+//     console.log(usb.explain(bytes).text);
+import { callsOver } from './calls.mjs';
+import { enumerations } from './declared.mjs';
+
+export { enumerations };
+
+const utf8 = new TextDecoder();
+const SPEEDS = ['', 'low', 'full', 'high', 'super'];
+const KINDS = Object.fromEntries(Object.entries(enumerations.status).map(([name, number]) => [number, name.slice(4).toLowerCase()]));
+
+// What is wrong: its kind is that of enum nzg_status, as 'set_fault'; number and place are those of `usbdesc`.
+export class Fault extends Error {
+    constructor({ status, number, place }) {
+        super(`${KINDS[status].replaceAll('_', ' ')} ${number} at ${place}`);
+        Object.assign(this, { name: 'Fault', kind: KINDS[status], number, place });
+    }
+}
+
+function done(answer) {
+    if (answer.status) throw new Fault(answer);
+    return answer;
+}
+
+function speedOf(name) {
+    const number = SPEEDS.indexOf(name);
+    if (number < 0) throw new TypeError(`no speed ${name}`);
+    return number;
+}
+
+async function moduleOf(source) {
+    if (source instanceof Uint8Array || source instanceof ArrayBuffer) return source;
+    if (typeof Response !== 'undefined' && source instanceof Response) return source.arrayBuffer();
+    if (source.protocol === 'file:' && typeof process !== 'undefined') return (await import('node:fs/promises')).readFile(source);
+    return (await fetch(source)).arrayBuffer();
+}
+
+function texts(calls) {
+    const text = (bytes) => utf8.decode(bytes);
+    return {
+        // The text goes as far as the bytes do: then `fault` says where they end.
+        explain(bytes, { brief = false, places = true, utf8 = false, formats = false, speed = '' } = {}) {
+            const options = brief | places << 1 | utf8 << 2 | formats << 3;
+            const answer = calls.nzg_explain(bytes, options, speedOf(speed));
+            return { text: text(answer.text), fault: answer.status ? new Fault(answer) : null };
+        },
+        show: (bytes, { any = true } = {}) => text(done(calls.nzg_show(bytes, any)).text),
+        // the lines of `usbdesc check`
+        report: (bytes, { any = true } = {}) => text(done(calls.nzg_check(bytes, any)).text),
+        build: (listing, { comments = false } = {}) => done(calls.nzg_build(new TextEncoder().encode(listing), comments)).bytes,
+        withStrings: dump => done(calls.nzg_with_strings(dump)).file,
+        rule: number => text(done(calls.nzg_rule(number)).text),
+    };
+}
+
+function facts(calls) {
+    const fieldsOf = function* (bytes, descriptor) {
+        for (let i = 0, field = {}; calls.nzg_field(bytes, descriptor, i, field); i++, field = {})
+            yield { name: utf8.decode(field.name.subarray(0, field.name_length)), place: field.place, width: field.width, value: field.value };
+    };
+    return {
+        // 'set', 'file' or 'dump'
+        judge: bytes => ['', 'set', 'file', 'dump'][done(calls.nzg_judge(bytes)).number],
+        check: bytes => done(calls.nzg_findings(bytes)).found,
+        remarks: (bytes, { speed = '' } = {}) => done(calls.nzg_remarks(bytes, speedOf(speed))).remarks,
+        // Each descriptor where it stands, with its bytes and fields, as far as the bytes can be read.
+        * walk(bytes) {
+            const cursor = {};
+            while (calls.nzg_next(bytes, cursor))
+                yield { ...cursor, bytes: bytes.subarray(cursor.place, cursor.place + cursor.length), fields: [...fieldsOf(bytes, cursor)] };
+        },
+        string: (bytes, descriptor) => utf8.decode(done(calls.nzg_text(bytes, descriptor)).text),
+    };
+}
+
+export async function load(source = new URL('nozzlegorse.wasm', import.meta.url)) {
+    const { instance } = await WebAssembly.instantiate(await moduleOf(source), {});
+    const calls = callsOver(instance.exports);
+    return { ...texts(calls), ...facts(calls), calls, pages: () => instance.exports.memory.buffer.byteLength >> 16 };
+}

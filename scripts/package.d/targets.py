@@ -1,0 +1,118 @@
+"""The library for processors of 32 bits: its module, lowered and compiled by the kit's LLVM, with the functions for memory."""
+
+import json
+import os
+
+import archives
+import declared
+import lowered
+import unproved
+from playing.built import AR, CLANG, LLD, ROOT, build, run
+
+HERE = os.path.dirname(os.path.abspath(__file__))
+# How C is compiled for each. Of thumbv7em there are two, for the two ways of calling with floats, of which the library has none.
+OPTIONS = {
+    "thumbv7em": ["--target=thumbv7em-none-eabi", "-mcpu=cortex-m4", "-mfloat-abi=soft"],
+    "thumbv7emhf": ["--target=thumbv7em-none-eabihf", "-mcpu=cortex-m4", "-mfloat-abi=hard"],
+    "thumbv6m": ["--target=thumbv6m-none-eabi", "-mcpu=cortex-m0"],
+    "riscv32imac": ["--target=riscv32-unknown-none-elf", "-march=rv32imac", "-mabi=ilp32"],
+    "i386": ["--target=i386-unknown-none-elf", "-march=i586"],
+    "wasm32": ["--target=wasm32-unknown-unknown", "-mcpu=lime1"],
+}
+# Small where flash is, and fast where a page waits.
+SIZES = dict.fromkeys(OPTIONS, "s") | {"wasm32": ""}
+SECTIONS = ["-ffunction-sections", "-fdata-sections"]
+HEADERS = ["-I", f"{ROOT}/callers/c/plain", "-I", f"{ROOT}/include"]
+# The compiler for rattle: what it is given is kept.
+KEEPING = """#!/bin/sh
+[ ! -f module.bc ] || cp module.bc "{module}"
+exec "{clang}" "$@"
+"""
+
+
+def module(is_unproved, room):
+    """The text of the module that the kit made of usb_c, proved or of the sources as they are."""
+    if is_unproved:
+        root = unproved.copied(room)
+        return unproved.exported(unproved.readable(unproved.lowered(root, "usb_c", room)), root)
+    kept, tools = f"{room}/module.bc", f"{room}/tools"
+    unproved.toolchain(tools, KEEPING.format(module=kept, clang=CLANG), ("ld.lld", "llvm-ar", "rattle-x64"))
+    build("usb_c", f"{room}/usb_c.a", toolchain=tools)
+    return unproved.readable(kept)
+
+
+def compiled(source, target, out, *more):
+    """An object of a source of C."""
+    run(CLANG, "--no-default-config", *OPTIONS[target], "-ffreestanding", "-Os", *SECTIONS, "-Wall", "-Wextra", "-Werror", *HEADERS, *more, "-c", source, "-o", out)
+    return out
+
+
+def object_of(text, target, room, guard=False, size=None):
+    """An object of the module's exports."""
+    size = SIZES[target] if size is None else size
+    code, made = f"{room}/{target}.ll", f"{room}/{target}.o"
+    unproved.write(code, lowered.Lowering(target, guard, size).module(text))
+    run(CLANG, "--no-default-config", *OPTIONS[target], *SECTIONS, f"-O{size or 2}", "-Wno-override-module", "-c", "-x", "ir", code, "-o", made)
+    os.remove(code)
+    return made
+
+
+def library(made, target, room):
+    """The archive: the exports, what is between them and the functions for memory, and these over malloc. The last two are
+    linked by who needs them alone."""
+    parts = [made, *(compiled(f"{HERE}/{name}.c", target, f"{room}/{name}.o") for name in ("lowered_memory", "memory"))]
+    archive = f"{room}/libnozzlegorse.a"
+    if os.path.exists(archive):
+        os.remove(archive)
+    run(AR, "rcsD", archive, *parts)
+    return archive
+
+
+def linker(room, name):
+    """The kit's linker under the name by which it links for a format."""
+    tool = f"{room}/{name}"
+    if not os.path.islink(tool):
+        os.symlink(LLD, tool)
+    return tool
+
+
+
+# --- packages -----------------------------------------------------------------------------------------------------------------
+
+
+def plain_package(made, target, version, room, epoch):
+    """Header and archive, as a folder for a cross compiler."""
+    top = f"nozzlegorse-{version}-{target}"
+    files = {"include/nozzlegorse.h": f"{room}/nozzlegorse.h", "lib/libnozzlegorse.a": library(made, target, room), "share/doc/copyright": f"{ROOT}/LICENSE"}
+    return f"{top}.tar.gz", archives.packed({f"{top}/{path}": (archives.read(it), 0o644) for path, it in files.items()}, epoch)
+
+
+def wasm(made, room):
+    """The module with every export and the two for memory. The stack lies first, so that one too deep is a trap."""
+    parts = [made, *(compiled(f"{HERE}/{name}.c", "wasm32", f"{room}/{name}.o") for name in ("lowered_memory", "wasm_memory", "wasm_multiply"))]
+    names = [*declared.calls(declared.text_of_header()), "nzg_lowered_alloc", "rattle_dealloc"]
+    run(linker(room, "wasm-ld"), "--no-entry", "--gc-sections", "--stack-first", "-z", "stack-size=1048576", "-O2", "--strip-all",
+        *(f"--export={it}" for it in names), *parts, "-o", f"{room}/nozzlegorse.wasm")
+    return f"{room}/nozzlegorse.wasm"
+
+
+def javascript(made, version, room):
+    """The files of the package for npm, by their names."""
+    header = declared.text_of_header()
+    files = {name: archives.read(f"{ROOT}/javascript/{name}") for name in ("index.mjs", "index.d.ts", "calls.mjs")}
+    about = json.loads(archives.read(f"{ROOT}/javascript/package.json")) | {"version": version}
+    return files | {
+        "package.json": json.dumps(about, indent=4).encode() + b"\n",
+        "declared.mjs": declared.javascript(header).encode(),
+        "declared.d.mts": declared.types(header).encode(),
+        "nozzlegorse.wasm": archives.read(wasm(made, room)),
+        "LICENSE": archives.read(f"{ROOT}/LICENSE"),
+    }
+
+
+def package(made, target, version, room, epoch):
+    """The name and the bytes of a target's package."""
+    if target != "wasm32":
+        return plain_package(made, target, version, room, epoch)
+    files = javascript(made, version, room)
+    return f"nozzlegorse-{version}.tgz", archives.packed({f"package/{path}": (data, 0o644) for path, data in files.items()}, epoch)
