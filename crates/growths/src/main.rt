@@ -1,5 +1,5 @@
-//! Calls that take memory, each of which answers what it must or that memory is wanting: those of the libraries, and
-//! the program `usbdesc` itself. `.ci/growths` has each request for memory refused in turn.
+//! Fails each allocation in turn: each call of the libraries, and the program `usbdesc`, must succeed or report out of memory.
+//! `.ci/growths` plays it.
 //!
 //! The first line of the input is the name of a group of calls and the place of the refused request among those that the
 //! group makes, as `sets 12`. [`begin`] makes as many requests first as are wanted so that this one is the [`REFUSED`]th
