@@ -142,9 +142,6 @@ pub data Reads (form : Form) : ℕ → List ℕ → List ℕ → List ℕ → Ty
   goes_on : {count : ℕ} {text rest bytes left : List ℕ} {byte : Option ℕ} → item form count text ≡ Some (byte, rest)
       → Reads form (count + length (bytes_of byte)) rest bytes left → Reads form count text (bytes_of byte ++ bytes) left
 
-abbrev pub is_line_feed : ℕ → Bool
-is_line_feed c = c == 10
-
 -- the column after a text that begins in this one
 unfoldable pub column_after : ℕ → List ℕ → ℕ
 column_after column [] = column

@@ -9,7 +9,8 @@ use Rattle.usb_text.specs.Comments.{uncommented}
 use Rattle.usb_text.specs.Columns.{at_start, column_form, columns_of, is_named}
 use Rattle.usb_text.specs.Labels.{unlabelled}
 use Rattle.usb_text.specs.Literals.{literal_of}
-use Rattle.usb_text.specs.HexText.{Reads, column_after, form_of, in_line, is_line_feed}
+use Rattle.usb_text.specs.HexText.{Reads, column_after, form_of, in_line}
+use Rattle.usb_text.specs.Lines.{is_line_feed}
 use Rattle.usb_text.specs.SourceItems.{is_decimal, is_parting}
 use Rattle.usb_text.specs.TwoReadings.{has_two_readings}
 use Rattle.usb_text.specs.declared.bracket.Bracket.{Bracket}

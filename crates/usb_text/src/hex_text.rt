@@ -1,6 +1,7 @@
 //! Hexadecimal texts, read: their forms and items, and why a text is none.
 ghost use Rattle.std.specs.Prelude.{◌≡◌, ◌+◌, count_by, drop, length, take};
-ghost use Rattle.usb_text.specs.HexText.{column_after, is_line_feed};
+ghost use Rattle.usb_text.specs.HexText.{column_after};
+ghost use Rattle.usb_text.specs.Lines.{is_line_feed};
 ghost use Rattle.usb_text.specs.Hexadecimal.{fault_at, first_of};
 ghost use Rattle.std.specs.Prelude.{◌≡◌};
 ghost use Rattle.hex.specs.Hex.{is_hex_digit};

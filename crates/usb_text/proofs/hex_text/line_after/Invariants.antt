@@ -1,5 +1,5 @@
 use Rattle.std.proofs.Common.{◌≡◌, ◌+◌, ◌≤◌, count_by, take}
-use Rattle.usb_text.specs.HexText.{is_line_feed}
+use Rattle.usb_text.specs.Lines.{is_line_feed}
 use Rattle.usb_text.proofs.hex_text.line_after.Given as goal
 
 abbrev pub invariant-loop-c : goal.invariant-loop-c
