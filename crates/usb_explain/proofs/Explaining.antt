@@ -4,7 +4,7 @@ use Rattle.std.proofs.lemmas.Grind.{flat_map-append}
 use Rattle.std.proofs.Math.Seq.{take-append_seam}
 use Rattle.std.specs.Io.KnownBytes.{Appends, Keeps}
 use Rattle.std.specs.Prelude.{IfErr, IsErrAnd}
-use Rattle.usb_text.specs.HexText.{is_line_feed}
+use Rattle.usb_text.specs.Lines.{is_line_feed}
 use Rattle.usb_text.specs.Output.{Held}
 use Rattle.usb_text.specs.Shown.{Shown, Number, Bytes, Units, Name, Indent, End, ends, showing_all, with_shown}
 use Rattle.usb_text.specs.Written.{LineBytes, PutsLines, WritesLess, WritesLines, Written, is_whole, more_lines, no_lines, written}

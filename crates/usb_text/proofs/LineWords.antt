@@ -8,8 +8,7 @@ use Rattle.std.proofs.lemmas.Bool.Decides.{nat_tests}
 use Rattle.std.proofs.lemmas.List.Folds.{list_all-append}
 use Rattle.std.proofs.lemmas.List.Sums.{sum_by-append, sum_by-cons}
 use Rattle.usb_fields.specs.Bytes.{big_endian}
-use Rattle.usb_text.specs.HexText.{is_line_feed}
-use Rattle.usb_text.specs.Lines.{column, filling, is_printable}
+use Rattle.usb_text.specs.Lines.{column, filling, is_line_feed, is_printable}
 use Rattle.usb_text.specs.Numbers.{byte_code, count, release, short_byte, word_code}
 use Rattle.usb_text.specs.Written.{is_of_line, is_of_lines, is_words}
 use Rattle.usb_text.proofs.Printables.{digits_printable, encoded_printable, high_digit, joined, low_digit, two_fit}

@@ -8,7 +8,7 @@ use Rattle.std.proofs.lemmas.Bool.Decides.{nat_tests}
 use Rattle.std.proofs.lemmas.List.Folds.{list_all-append}
 use Rattle.usb_fields.specs.Bytes.{AreBytes}
 use Rattle.usb_text.specs.Characters.{character_words, has_code, hidden, is_shown, one_words, pair_words, shown_words, units_in, units_words, written_unit}
-use Rattle.usb_text.specs.HexText.{is_line_feed}
+use Rattle.usb_text.specs.Lines.{is_line_feed}
 use Rattle.usb_text.specs.Written.{is_of_line, is_of_lines, is_words}
 use Rattle.usb_text.specs.inside.Units.{AreUnits}
 use Rattle.usb_text.proofs.LineWords.{put_counts, put_fits, words_of_line}

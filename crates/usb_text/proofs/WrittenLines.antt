@@ -5,7 +5,7 @@ use Rattle.std.specs.List.{list_all}
 use Rattle.std.proofs.lemmas.Bool.{and_parts}
 use Rattle.std.proofs.lemmas.List.Folds.{list_all-append}
 use Rattle.std.proofs.lemmas.List.Sums.{sum_by-append, sum_by-cons}
-use Rattle.usb_text.specs.HexText.{is_line_feed}
+use Rattle.usb_text.specs.Lines.{is_line_feed}
 use Rattle.usb_text.specs.Output.{AppendsFront, AppendsLess, Held}
 use Rattle.usb_text.specs.Written.{AreLines, PutsLines, WritesLess, WritesLines, Written, is_of_lines, is_whole, more_lines, no_lines, written}
 use Rattle.usb_text.specs.inside.Pages.{EndedLines}

@@ -3,16 +3,6 @@ pub mod Lines
 pub mod Output
 pub mod Characters
 pub mod HexDigits
-pub mod SourceItems
-pub mod Columns
-pub mod HexText
-pub mod Literals
-pub mod TwoReadings
-pub mod Hexadecimal
-pub mod Stops
-pub mod Comments
-pub mod Brackets
-pub mod Labels
 pub mod Written
 pub mod Shown
 pub mod inside

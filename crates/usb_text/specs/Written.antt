@@ -2,8 +2,7 @@
 use Rattle.std.specs.Prelude.{◌≡◌, ℕ, ◌+◌, ◌<◌, Bool, true, ◌||◌, ◌&&◌, nat_le, List, [], ◌∷◌, ◌++◌, count_by}
 use Rattle.std.specs.List.{list_all}
 use Rattle.std.specs.Io.KnownBytes.{Appends}
-use Rattle.usb_text.specs.HexText.{is_line_feed}
-use Rattle.usb_text.specs.Lines.{is_printable}
+use Rattle.usb_text.specs.Lines.{is_line_feed, is_printable}
 use Rattle.usb_text.specs.Output.{Held}
 
 -- words: printable characters of ASCII

@@ -1,4 +1,2 @@
 pub mod Pages
 pub mod Units
-pub mod NoItems
-pub mod Runs

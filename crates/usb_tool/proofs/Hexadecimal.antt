@@ -2,12 +2,12 @@
 use Rattle.std.proofs.Common.{◌≡◌, ℕ, Bool, true, false, List, [], length, Option, Result, Ok, Err, refl, inl, inr}
 use Rattle.std.specs.Prelude.{IfErr, IfOk}
 use Rattle.std.specs.Io.KnownBytes.{Appends}
-use Rattle.usb_text.specs.Hexadecimal.{HexFaulty, HexRefused, HexText}
-use Rattle.usb_text.specs.declared.hex_text.HexFault.{HexFault}
-use Rattle.usb_text.specs.declared.hex_text.HexFault.TheVariants as hexes
+use Rattle.usb_hex.specs.Hexadecimal.{HexFaulty, HexRefused, HexText}
+use Rattle.usb_hex.specs.declared.hex_text.HexFault.{HexFault}
+use Rattle.usb_hex.specs.declared.hex_text.HexFault.TheVariants as hexes
 use Rattle.usb_explain.specs.declared.manner.Manner.{Manner}
 use Rattle.usb_text.specs.Output.{Held}
-use Rattle.usb_text.specs.Stops.{stop_line}
+use Rattle.usb_hex.specs.Stops.{stop_line}
 use Rattle.usb_text.proofs.Pages.{keeps_refl}
 use Rattle.usb_tool.specs.Endings.{Writes}
 use Rattle.usb_tool.specs.Explains.{RefusesAs, RefusesText, ReportsAs, ReportsText, decoded_manner, hexadecimal_words}

@@ -14,12 +14,12 @@ use Rattle.usb_file_data.specs.Inputs.{InputFaulty, IsInput}
 use Rattle.usb_file_data.specs.declared.file.Input.{Input}
 use Rattle.usb_file_data.specs.declared.fault.InputFault.{InputFault}
 use Rattle.usb_file_data.specs.declared.laws.TheConstants.{FILE_LIMIT}
-use Rattle.usb_text.specs.Hexadecimal.{HexFaulty, HexText}
-use Rattle.usb_text.specs.declared.hex_text.HexFault.{HexFault}
-use Rattle.usb_text.specs.declared.hex_text.HexFault.TheVariants as hexes
+use Rattle.usb_hex.specs.Hexadecimal.{HexFaulty, HexText}
+use Rattle.usb_hex.specs.declared.hex_text.HexFault.{HexFault}
+use Rattle.usb_hex.specs.declared.hex_text.HexFault.TheVariants as hexes
 use Rattle.usb_text.specs.Output.{AppendsLess, Held}
 use Rattle.usb_text.specs.Shown.{Shown, ends}
-use Rattle.usb_text.specs.Stops.{stop_line}
+use Rattle.usb_hex.specs.Stops.{stop_line}
 use Rattle.usb_text.specs.Written.{AreLines}
 use Rattle.usb_tool.specs.Endings.{Extent, Fails, Refusal, Refuses, Telling, Told, Left}
 use Rattle.usb_tool.specs.Inputs.{OfInput}

@@ -3,7 +3,7 @@ ghost use Rattle.std.specs.Prelude.{◌≡◌, ◌++◌, IfErr, IfOk, OnErr, OnO
 ghost use Rattle.std.specs.Io.KnownBytes.{Appends};
 ghost use Rattle.usb_file_data.specs.Inputs.{InputRefused, IsInput};
 ghost use Rattle.usb_text.specs.Output.{AppendsLess};
-ghost use Rattle.usb_text.specs.Stops.{stop_line};
+ghost use Rattle.usb_hex.specs.Stops.{stop_line};
 ghost use Rattle.usb_explain.specs.Fragments.{fragment_lines};
 ghost use Rattle.usb_tool.specs.Endings.{Writes};
 ghost use Rattle.usb_tool.specs.Explains.{ExplainFails, Explained, NoInputIsHexadecimal, RefusesAs, RefusesText, RefusesToExplain, ReportsAs, ReportsExplanation, ReportsFragment, ReportsText, WritesAfter, WritesExplained, decoded_manner, hexadecimal_words};
@@ -17,7 +17,8 @@ use std::io::{Read, Write};
 use usb_explain::{Manner, explain, explain_fragment};
 use usb_file::{FILE_LIMIT, Input, read_input};
 use usb_file_data::InputFault;
-use usb_text::{HexFault, OutFault, Text, parse, put_count, put_stop, write_all};
+use usb_hex::{HexFault, parse, put_stop};
+use usb_text::{OutFault, Text, put_count, write_all};
 
 /// Reads the input to its end, and writes what its descriptors mean, in words. The input is one configuration set, a
 /// descriptor file or a dump, as that of [`run_show`](crate::run_show) is, or the hexadecimal text of one, which the first

@@ -11,7 +11,7 @@ use std::alloc::Global;
 use std::io::{Read, Write};
 use usb_explain::SetSpeed;
 use usb_file::FILE_LIMIT;
-use usb_text::{HexFault, parse};
+use usb_hex::{HexFault, parse};
 
 /// What is done with the bytes of a hexadecimal text.
 #[derive(Clone, Copy, Debug, PartialEq, Eq, Hash)]

@@ -1,7 +1,7 @@
 -- A text on its way to a writer, by a page that is passed on where it is full.
 use Rattle.std.specs.Prelude.{◌≡◌, ℕ, List, ◌++◌, true, count_by}
 use Rattle.std.specs.Io.KnownBytes.{Appends}
-use Rattle.usb_text.specs.HexText.{is_line_feed}
+use Rattle.usb_text.specs.Lines.{is_line_feed}
 use Rattle.usb_text.specs.Output.{Held}
 use Rattle.usb_text.specs.Written.{is_whole}
 

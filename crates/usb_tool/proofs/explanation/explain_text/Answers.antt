@@ -1,6 +1,6 @@
 use Rattle.std.proofs.Common.{subst}
-use Rattle.usb_text.specs.Hexadecimal.{HexRefused}
-use Rattle.usb_text.specs.declared.hex_text.HexFault.{HexFault}
+use Rattle.usb_hex.specs.Hexadecimal.{HexRefused}
+use Rattle.usb_hex.specs.declared.hex_text.HexFault.{HexFault}
 use Rattle.usb_tool.proofs.Hexadecimal.{no_text, text_refused}
 use Rattle.usb_tool.proofs.explanation.explain_text.Goals as goal
 

@@ -3,8 +3,8 @@ use Rattle.usb_set.specs.declared.tree.SetKind.{SetKind}
 use Rattle.usb_set.specs.declared.tree.SetKind.TheVariants as kinds
 use Rattle.usb_set.specs.Descriptors.{type_number}
 use Rattle.usb_file_data.specs.declared.file.Input.TheVariants as inputs
-use Rattle.usb_text.specs.Hexadecimal.{IsApart}
-use Rattle.usb_text.proofs.Apart.{apart}
+use Rattle.usb_hex.specs.Hexadecimal.{IsApart}
+use Rattle.usb_hex.proofs.Apart.{apart}
 use Rattle.usb_tool.specs.Explains.{NoInputIsHexadecimal}
 use Rattle.usb_tool.proofs.explanation.no_input_is_hexadecimal_text.Goals as goal
 

@@ -1,0 +1,13 @@
+pub mod Items
+pub mod Apart
+pub mod OneReading
+pub mod InOrder
+pub mod DigitValues
+pub mod DigitItems
+pub mod Feeds
+pub mod Offsets
+pub mod Found
+pub mod ColumnLines
+pub mod EmptyLines
+pub mod NoItems
+pub mod Runs

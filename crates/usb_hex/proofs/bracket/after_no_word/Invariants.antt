@@ -1,0 +1,10 @@
+use Rattle.std.proofs.Common.{◌≡◌, ◌≤◌, length}
+use Rattle.usb_hex.specs.Brackets.{is_between_words}
+use Rattle.usb_hex.specs.Columns.{after_all}
+use Rattle.usb_hex.proofs.bracket.after_no_word.Given as goal
+
+abbrev pub invariant-loop-rest : goal.invariant-loop-rest
+invariant-loop-rest l = (after_all is_between_words l.rest ≡ after_all is_between_words l.text) × (length l.rest ≤ length l.text)
+
+abbrev pub decreases-loop-rest : goal.decreases-loop-rest
+decreases-loop-rest l = length l.rest

@@ -1,0 +1,12 @@
+pub mod HexItems
+pub mod SourceItems
+pub mod Columns
+pub mod HexText
+pub mod Literals
+pub mod TwoReadings
+pub mod Hexadecimal
+pub mod Stops
+pub mod Comments
+pub mod Brackets
+pub mod Labels
+pub mod inside

@@ -1,0 +1,2 @@
+pub mod NoItems
+pub mod Runs

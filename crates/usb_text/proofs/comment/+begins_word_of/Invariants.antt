@@ -1,5 +1,0 @@
-use Rattle.std.proofs.Common.{length}
-use Rattle.usb_text.proofs.comment.+begins_word_of.Given as goal
-
-abbrev pub decreases-begins_word_of : goal.decreases-begins_word_of
-decreases-begins_word_of l = length l.name.now

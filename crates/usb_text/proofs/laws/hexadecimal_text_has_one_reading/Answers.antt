@@ -1,5 +1,0 @@
-use Rattle.usb_text.proofs.OneReading.{one_reading}
-use Rattle.usb_text.proofs.laws.hexadecimal_text_has_one_reading.Goals as goal
-
-pub returns : goal.returns
-returns c = one_reading

@@ -1,5 +1,0 @@
-use Rattle.usb_text.proofs.Apart.{apart}
-use Rattle.usb_text.proofs.laws.hexadecimal_text_is_no_descriptor.Goals as goal
-
-pub returns : goal.returns
-returns c = apart

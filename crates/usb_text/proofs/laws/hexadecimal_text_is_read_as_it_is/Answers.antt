@@ -1,5 +1,0 @@
-use Rattle.std.proofs.Common.{inl}
-use Rattle.usb_text.proofs.laws.hexadecimal_text_is_read_as_it_is.Goals as goal
-
-pub returns : goal.returns
-returns c = λ text bytes hex. inl hex

@@ -1,5 +1,0 @@
-use Rattle.std.proofs.Common.{length}
-use Rattle.usb_text.proofs.source_item.+decimals.Given as goal
-
-abbrev pub decreases-decimals : goal.decreases-decimals
-decreases-decimals l = length l.text.now
