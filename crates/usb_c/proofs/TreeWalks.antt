@@ -19,7 +19,7 @@ use Rattle.usb_explain.specs.declared.owner.DescriptorOwner.{DescriptorOwner}
 use Rattle.usb_explain.specs.declared.position.Position.{Position}
 use Rattle.usb_explain.specs.declared.role.Role.{Role}
 use Rattle.usb_explain.specs.declared.role.Role.TheVariants as roles
-use Rattle.usb_explain.specs.Contexts.{depth_of}
+use Rattle.usb_explain.specs.Surroundings.{depth_of}
 use Rattle.usb_explain.specs.Laws.{as_in_tree}
 use Rattle.usb_explain.specs.Numbered.{FactsByPosition, Numbered, facts_by_position, facts_of, first_numbered, next_position, numbered, numbered_next}
 use Rattle.usb_explain.specs.Outline.{Described, outline}

@@ -7,9 +7,8 @@ use Rattle.std.proofs.lemmas.Option.{none-some}
 use Rattle.usb_explain.specs.declared.position.Position.{Position}
 use Rattle.usb_explain.specs.declared.role.Role.{Role}
 use Rattle.usb_explain.specs.Numbered.{first_numbered, numbered_next, next_position}
-use Rattle.usb_explain.specs.Positions.{first_position}
+use Rattle.usb_explain.specs.Positions.{Counted, first_position}
 use Rattle.usb_explain.specs.Roles.{next_role}
-use Rattle.usb_explain.specs.inside.Walking.{Counted}
 use Rattle.usb_explain.proofs.NumberedLemmas.{numbered_none, numbered_some}
 use Rattle.usb_explain.proofs.Outlines.{next_bounds}
 use Rattle.usb_explain.proofs.Spans.{next_first}

@@ -8,7 +8,7 @@ use Rattle.usb_fields.specs.Marks.{is_marked}
 use Rattle.usb_explain.specs.declared.position.Position.{Position}
 use Rattle.usb_explain.specs.declared.role.Role.{Role}
 use Rattle.usb_explain.specs.declared.role.Role.TheVariants as roles
-use Rattle.usb_explain.specs.Contexts.{depth_of}
+use Rattle.usb_explain.specs.Surroundings.{depth_of}
 use Rattle.usb_explain.specs.Numbered.{Numbered, numbered, numbered_next, next_position}
 use Rattle.usb_explain.specs.Positions.{first_position}
 use Rattle.usb_explain.specs.Roles.{next_role}

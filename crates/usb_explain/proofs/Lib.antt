@@ -1,4 +1,5 @@
 pub mod Positions
+pub mod Standings
 pub mod Outlines
 pub mod NumberedLemmas
 pub mod Explaining

@@ -16,7 +16,8 @@ use Rattle.usb_explain.specs.Standings.{start}
 use Rattle.usb_explain.specs.declared.speed.SetSpeed.{SetSpeed}
 use Rattle.usb_file_data.specs.declared.cause.Found.{Found}
 use Rattle.usb_explain.proofs.Outlines.{bytes_same, entries_next, entries_none, entry_in_tree, entry_span, next_bounds, next_says, spans_same}
-use Rattle.usb_explain.proofs.Positions.{noted_at, same_at, start_at}
+use Rattle.usb_explain.proofs.Positions.{noted_at, same_at}
+use Rattle.usb_explain.proofs.Standings.{start_at}
 use Rattle.usb_explain.proofs.Telling.{found_front}
 
 -- its two tests

@@ -21,7 +21,7 @@ use Rattle.usb_explain.specs.Explanations.{first_line, rest_lines}
 use Rattle.usb_explain.specs.Laws.{Follow, span_of}
 use Rattle.usb_explain.specs.Lines.{field_line, heading_line}
 use Rattle.usb_explain.specs.Outline.{Described, bytes_of}
-use Rattle.usb_explain.specs.RemarkPlaces.{outside}
+use Rattle.usb_explain.specs.Places.{outside}
 use Rattle.usb_explain.specs.Roles.{is_association, is_interface, typed_role}
 use Rattle.usb_explain.specs.SetSpeeds.{other_speed}
 use Rattle.usb_explain.specs.StringNames.{no_names}

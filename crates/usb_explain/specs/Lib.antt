@@ -4,6 +4,8 @@ pub mod Standings
 pub mod Roles
 pub mod SetStart
 pub mod Owners
+pub mod Places
+pub mod Surroundings
 pub mod Contexts
 pub mod Findings
 pub mod Associations
@@ -36,7 +38,6 @@ pub mod Fields
 pub mod FieldLaws
 pub mod FindingLines
 pub mod RemarkNumbers
-pub mod RemarkPlaces
 pub mod PlacedRemarks
 pub mod RemarkValues
 pub mod DeviceRemarks

@@ -7,7 +7,7 @@ use Rattle.usb_explain.specs.declared.owner.DescriptorOwner.{DescriptorOwner}
 use Rattle.usb_explain.specs.declared.position.Position.{Position}
 use Rattle.usb_explain.specs.declared.role.Role.{Role}
 use Rattle.usb_explain.specs.declared.speed.SetSpeed.{SetSpeed}
-use Rattle.usb_explain.specs.Contexts.{codes_of, depth_of}
+use Rattle.usb_explain.specs.Surroundings.{codes_of, depth_of}
 use Rattle.usb_explain.specs.Outline.{Described, outline}
 use Rattle.usb_explain.specs.Owners.{owner_of}
 use Rattle.usb_explain.specs.Positions.{first_position, position_after, position_at}

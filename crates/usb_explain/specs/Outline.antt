@@ -11,14 +11,14 @@ use Rattle.usb_explain.specs.declared.role.Role.{Role}
 use Rattle.usb_explain.specs.declared.speed.SetSpeed.{SetSpeed}
 use Rattle.usb_explain.specs.Associations.{has_associations}
 use Rattle.usb_explain.specs.Bindings.{bound_at}
-use Rattle.usb_explain.specs.Contexts.{codes_of, depth_of, interface_number, one_speed_at, rest_of_set, speed_of}
+use Rattle.usb_explain.specs.Contexts.{one_speed_at, speed_of}
+use Rattle.usb_explain.specs.Surroundings.{codes_of, depth_of, interface_number, rest_of_set}
 use Rattle.usb_explain.specs.Findings.{found_at}
-use Rattle.usb_explain.specs.InterfaceNumbers.{is_late, missing_interface}
+use Rattle.usb_explain.specs.InterfaceNumbers.{follows, is_late, missing_interface}
 use Rattle.usb_explain.specs.Owners.{owner_of}
-use Rattle.usb_explain.specs.RemarkPlaces.{place_in}
+use Rattle.usb_explain.specs.Places.{place_in}
 use Rattle.usb_explain.specs.Roles.{next_role}
 use Rattle.usb_explain.specs.SetStart.{entered}
-use Rattle.usb_explain.specs.SettingRemarks.{follows}
 use Rattle.usb_explain.specs.Standings.{passed, start}
 
 -- A descriptor of an input: its place in bytes and among sets, settings and endpoints, its bytes, what it is, how deep and whose,

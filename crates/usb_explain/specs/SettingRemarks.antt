@@ -101,19 +101,6 @@ default_remark speed Isochronous owner size = remark_if (in_default_setting owne
 default_remark High Interrupt owner size = remark_if (in_default_setting owner && nat_lt 64 size) (remarks.DefaultInterrupt size)
 default_remark speed transfer owner size = None
 
--- an interface of this number
-abbrev pub is_numbered : ℕ → List ℕ → Bool
-is_numbered number d = is_interface d && (slice_index d 2 == number)
-
--- another setting of the interface follows
-unfoldable pub has_setting : ℕ → List (List ℕ) → Bool
-has_setting number ds = list_any (is_numbered number) ds
-
--- so it is in the rest of a set, where all of that is there
-abbrev pub follows : ℕ → Option (List ℕ) → Bool
-follows number None = false
-follows number (Some rest) = has_setting number (descriptors rest)
-
 -- Packets of 0 bytes have no data: an endpoint has them where another setting has greater ones (5.6.3 and 5.7.3).
 abbrev pub empty_remark : Option DescriptorOwner → ℕ → Bool → Option (List ℕ) → Option Remark
 empty_remark owner size follows (Some rest) = remark_if ((size == 0) && (in_default_setting owner && not follows)) remarks.EmptyPackets

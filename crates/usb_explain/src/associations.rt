@@ -3,9 +3,9 @@ ghost use Rattle.std.specs.Prelude.{◌≡◌};
 ghost use Rattle.usb_explain.specs.Associations.{are_whole, associations_in, has_association, has_associations, is_whole};
 ghost use Rattle.usb_explain.specs.Trees.{descriptors};
 
-use crate::rest_lines::first_descriptor;
 use crate::role::{Role, is_association};
 use crate::set_start::sets_ahead;
+use crate::whole_descriptor::first_descriptor;
 use usb_fields::{after, byte_at, word_at};
 
 /// Whether one of the descriptors of these bytes is an association.

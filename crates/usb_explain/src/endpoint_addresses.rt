@@ -5,9 +5,9 @@ ghost use Rattle.usb_explain.specs.EndpointAddresses.{another, endpoints_remark,
 ghost use Rattle.usb_explain.specs.Trees.{descriptors};
 
 use crate::remark::{Remark, remark_if};
-use crate::rest_lines::first_descriptor;
 use crate::role::is_endpoint;
 use crate::speed::SetSpeed;
+use crate::whole_descriptor::first_descriptor;
 use usb_fields::byte_at;
 
 /// Whether it is an endpoint that isn't endpoint zero and has neither of these addresses.

@@ -56,25 +56,23 @@ impl Standing {
         match role {
             Role::Device => part_finding(cause, device_part(cause)),
             Role::Qualifier => part_finding(cause, Part::Other),
-            Role::Association => at.finding(cause, at.associations, 0),
-            Role::Interface => at.finding(cause, at.settings, 0),
-            Role::Endpoint => at.finding(cause, at.setting, at.endpoints),
-            _ => at.finding(cause, 0, 0),
+            Role::Association => in_set(at, cause, at.associations, 0),
+            Role::Interface => in_set(at, cause, at.settings, 0),
+            Role::Endpoint => in_set(at, cause, at.setting, at.endpoints),
+            _ => in_set(at, cause, 0, 0),
         }
     }
 }
 
-impl Position {
-    fn finding(&self, cause: Cause, setting: usize, endpoint: usize) -> Finding
-        ensures { result ≡ in_set self.now cause setting endpoint }
-    {
-        Finding {
-            rule: cause.rule().number(),
-            part: self.part(),
-            set: self.set,
-            setting,
-            endpoint,
-        }
+fn in_set(at: &Position, cause: Cause, setting: usize, endpoint: usize) -> Finding
+    ensures { result ≡ in_set at.now cause setting endpoint }
+{
+    Finding {
+        rule: cause.rule().number(),
+        part: at.part(),
+        set: at.set,
+        setting,
+        endpoint,
     }
 }
 

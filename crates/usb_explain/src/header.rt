@@ -5,7 +5,7 @@ ghost use Rattle.usb_explain.specs.Trees.{descriptors};
 ghost use Rattle.usb_explain.specs.Headers.{audio_place, class_length, header_place, header_remark, is_class_descriptor, is_header, is_of, total_length_place, total_remark};
 
 use crate::remark::Remark;
-use crate::rest_lines::descriptor_length;
+use crate::whole_descriptor::descriptor_length;
 use usb_fields::{after, byte_at, prefix, word_at};
 use usb_names::ClassCodes;
 

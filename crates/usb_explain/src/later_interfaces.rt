@@ -4,12 +4,12 @@ ghost use Rattle.std.specs.Option.{option_copied};
 ghost use Rattle.usb_explain.specs.declared.position.Position.{Position};
 ghost use Rattle.usb_explain.specs.Positions.{position_at};
 ghost use Rattle.usb_explain.specs.Roles.{next_role};
-ghost use Rattle.usb_explain.specs.SettingRemarks.{follows, is_numbered};
+ghost use Rattle.usb_explain.specs.InterfaceNumbers.{follows, is_numbered};
 ghost use Rattle.usb_explain.specs.Trees.{descriptors};
 ghost use Rattle.usb_explain.specs.inside.Coming.{Awaits, Counts};
 
-use crate::rest_lines::first_descriptor;
 use crate::role::{Role, is_interface};
+use crate::whole_descriptor::first_descriptor;
 use std::marker::Model;
 use usb_fields::{after, byte_at, prefix, word_at};
 

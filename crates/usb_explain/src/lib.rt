@@ -75,9 +75,11 @@ mod string;
 mod string_names;
 mod string_remark;
 mod subject;
+mod surroundings;
 mod survey;
 mod table_names;
 mod value;
+mod whole_descriptor;
 
 pub use descriptor::Descriptor;
 pub use explanation::explain;

@@ -6,7 +6,7 @@ ghost use Rattle.usb_explain.specs.SetStart.{entered};
 ghost use Rattle.usb_explain.specs.Standings.{passed};
 ghost use Rattle.usb_explain.specs.Positions.{position_at};
 ghost use Rattle.usb_explain.specs.inside.Coming.{Awaits};
-ghost use Rattle.usb_explain.specs.inside.Walking.{Counted};
+ghost use Rattle.usb_explain.specs.Positions.{Counted};
 
 use crate::associations::has_associations;
 use crate::descriptor::Descriptor;
@@ -41,7 +41,7 @@ impl<'b> Model for Outline<'b> {
     ghost use Rattle.std.specs.Prelude.{◌+◌, ◌<◌, ◌^◌, List, length};
     ghost use Rattle.usb_explain.specs.Outline.{Described, outline_from};
     ghost use Rattle.usb_explain.specs.inside.Coming.{Awaits};
-    ghost use Rattle.usb_explain.specs.inside.Walking.{Counted};
+    ghost use Rattle.usb_explain.specs.Positions.{Counted};
 
     ghost Value = { List Described };
 
@@ -53,7 +53,7 @@ impl<'b> Model for Outline<'b> {
 impl<'b> Outline<'b> {
     /// The outline of these bytes of a device that ran at this speed, if that is known, where these are its findings in the
     /// order of the bytes, as `found_in_order` gives them.
-    #[tactic(auto, using(crate::proofs::Positions::start_at))]
+    #[tactic(auto, using(crate::proofs::Standings::start_at))]
     pub fn of(bytes: &'b [u8], running: Option<SetSpeed>, found: &'b [Found]) -> Outline<'b>
         ensures { result ≡ outline running found.now bytes.now }
     {

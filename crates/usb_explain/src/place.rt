@@ -1,6 +1,6 @@
 //! Where a descriptor is among the parts, sets, settings and endpoints of an input.
 ghost use Rattle.std.specs.Prelude.{◌≡◌};
-ghost use Rattle.usb_explain.specs.RemarkPlaces.{outside, place_in, raw_place, within};
+ghost use Rattle.usb_explain.specs.Places.{outside, place_in, raw_place, within};
 
 use crate::position::Position;
 use crate::role::Role;
@@ -21,7 +21,7 @@ pub struct Place {
 
 impl Position {
     /// Where a descriptor of this role is.
-    #[tactic(auto, unfolding(crate::specs::RemarkPlaces::place_in))]
+    #[tactic(auto, unfolding(crate::specs::Places::place_in))]
     pub(crate) fn place(&self, role: Role) -> Place
         ensures { result ≡ place_in self.now role }
     {

@@ -6,9 +6,9 @@ ghost use Rattle.usb_explain.specs.Trees.{descriptors};
 
 use crate::owner::{DescriptorOwner, InterfaceSetting};
 use crate::remark::{Remark, remark_if};
-use crate::rest_lines::descriptor_length;
 use crate::role::{is_endpoint, is_interface};
 use crate::speed::SetSpeed;
+use crate::whole_descriptor::descriptor_length;
 use usb_fields::{after, byte_at, prefix};
 use usb_set::TransferType;
 

@@ -4,8 +4,8 @@ ghost use Rattle.usb_explain.specs.SetSpeeds.{evidence_of, has_multiple, is_abov
 ghost use Rattle.usb_explain.specs.Trees.{descriptors};
 ghost use Rattle.usb_explain.specs.inside.Walking.{heard};
 
-use crate::rest_lines::first_descriptor;
 use crate::role::{is_endpoint, is_interface};
+use crate::whole_descriptor::first_descriptor;
 use usb_fields::{byte_at, descriptor_type, word_at};
 use usb_set::TransferType;
 

@@ -1,7 +1,7 @@
 //! What came before a descriptor in an input.
 ghost use Rattle.std.specs.Prelude.{◌≡◌, ◌+◌, ◌<◌, ◌^◌, length};
 ghost use Rattle.usb_explain.specs.Standings.{device_codes, kept, passed, start};
-ghost use Rattle.usb_explain.specs.inside.Walking.{Counted};
+ghost use Rattle.usb_explain.specs.Positions.{Counted};
 
 use crate::bindings::Bindings;
 use crate::device_facts::DeviceFacts;

@@ -5,8 +5,8 @@ ghost use Rattle.usb_explain.specs.SetSpeeds.{survey_of};
 
 use crate::bindings::Bindings;
 use crate::interface_numbers::InterfaceNumbers;
-use crate::rest_lines::first_descriptor;
 use crate::speed_evidence::Evidence;
+use crate::whole_descriptor::first_descriptor;
 
 /// Gathers what the bytes of a set say, as far as they go: which association binds each interface, and the numbers of the
 /// interfaces. Answers what they say of the speed.

@@ -16,7 +16,7 @@ use Rattle.usb_set.specs.inside.Trees.{endpoint_bytes, extra_bytes, is_endpoint_
 use Rattle.usb_explain.specs.declared.role.Role.TheVariants as roles
 use Rattle.usb_explain.specs.declared.standing.Standing.{Standing}
 use Rattle.usb_explain.specs.Findings.{can_break, endpoint_can, finding_at, is_here}
-use Rattle.usb_explain.specs.Contexts.{depth_of}
+use Rattle.usb_explain.specs.Surroundings.{depth_of}
 use Rattle.usb_explain.specs.Owners.{of_endpoint, owner_of, part_in}
 use Rattle.usb_explain.specs.Positions.{noted}
 use Rattle.usb_explain.specs.Roles.{inner_role, typed_role}

@@ -37,7 +37,7 @@ use Rattle.usb_explain.specs.declared.role.Role.{Role}
 use Rattle.usb_explain.specs.declared.role.Role.TheVariants as roles
 use Rattle.usb_explain.specs.declared.standing.Standing.{Standing}
 use Rattle.usb_explain.specs.Findings.{can_break, finding_at, is_here}
-use Rattle.usb_explain.specs.Contexts.{depth_of}
+use Rattle.usb_explain.specs.Surroundings.{depth_of}
 use Rattle.usb_explain.specs.Laws.{WholeHasNoRest, WholeShowsTree, WholeReportsFindings}
 use Rattle.usb_explain.specs.Owners.{of_set, owner_of}
 use Rattle.usb_explain.specs.SetStart.{entered}

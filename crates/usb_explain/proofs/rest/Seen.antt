@@ -11,7 +11,7 @@ use Rattle.usb_explain.specs.Trees.{descriptor_length, TreeDescriptor, tree_desc
 use Rattle.usb_explain.specs.declared.role.Role.{Role}
 use Rattle.usb_explain.specs.declared.standing.Standing.{Standing}
 use Rattle.usb_explain.specs.Findings.{found_at, is_here}
-use Rattle.usb_explain.specs.Contexts.{depth_of}
+use Rattle.usb_explain.specs.Surroundings.{depth_of}
 use Rattle.usb_explain.proofs.Outlines.{entry_in_tree}
 use Rattle.usb_explain.specs.Owners.{of_interface, of_set, owner_above, owner_of, part_in, setting_in}
 use Rattle.usb_explain.specs.declared.owner.InterfaceSetting.{InterfaceSetting}

@@ -17,7 +17,7 @@ use Rattle.usb_set.proofs.Trees.{setting_typed_parts}
 use Rattle.usb_explain.specs.declared.role.Role.TheVariants as roles
 use Rattle.usb_explain.specs.declared.standing.Standing.{Standing}
 use Rattle.usb_explain.specs.Findings.{can_break, finding_at, interface_can, is_here}
-use Rattle.usb_explain.specs.Contexts.{depth_of}
+use Rattle.usb_explain.specs.Surroundings.{depth_of}
 use Rattle.usb_explain.specs.Owners.{of_interface, of_set, owner_of, part_in}
 use Rattle.usb_explain.specs.declared.owner.DescriptorOwner.{DescriptorOwner}
 use Rattle.usb_explain.specs.Positions.{noted}
