@@ -1,4 +1,3 @@
-pub mod Positions
 pub mod Standings
 pub mod Outlines
 pub mod NumberedLemmas
@@ -9,7 +8,6 @@ pub mod Spans
 pub mod EndpointsShown
 pub mod Brief
 pub mod rest
-pub mod Cuts
 pub mod Coming
 pub mod Tables
 pub mod Classes

@@ -3,10 +3,10 @@
 use Rattle.std.specs.Prelude.{ℕ, ◌%◌, List, [], ◌∷◌, map, take, drop, length, slice_index, slice_index_or, Bool, false, nat_le, ◌==◌, ◌&&◌, Option, Some, None, if◌then◌else◌}
 use Rattle.std.specs.List.{list_any, range_with_len}
 use Rattle.usb_names.specs.declared.codes.ClassCodes.{ClassCodes}
-use Rattle.usb_explain.specs.declared.role.Role.{Role}
-use Rattle.usb_explain.specs.declared.role.Role.TheVariants.{Association}
-use Rattle.usb_explain.specs.Roles.{is_interface}
-use Rattle.usb_explain.specs.Trees.{descriptors}
+use Rattle.usb_walk.specs.declared.role.Role.{Role}
+use Rattle.usb_walk.specs.declared.role.Role.TheVariants.{Association}
+use Rattle.usb_walk.specs.Roles.{is_interface}
+use Rattle.usb_walk.specs.Trees.{descriptors}
 
 -- an interface of this number
 abbrev pub is_numbered : ℕ → List ℕ → Bool

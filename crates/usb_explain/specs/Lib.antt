@@ -1,11 +1,6 @@
 pub mod Subjects
-pub mod Positions
 pub mod Standings
-pub mod Roles
 pub mod SetStart
-pub mod Owners
-pub mod Places
-pub mod Surroundings
 pub mod Contexts
 pub mod Findings
 pub mod Associations
@@ -18,7 +13,6 @@ pub mod Containers
 pub mod Faults
 pub mod Lines
 pub mod Uncovered
-pub mod Trees
 pub mod Laws
 pub mod OwnedEndpoints
 pub mod Names

@@ -5,8 +5,8 @@ use Rattle.std.specs.List.{list_any, take_while}
 use Rattle.usb_set.specs.Descriptors.{transfer_type_of}
 use Rattle.usb_set.specs.declared.endpoint.TransferType.{TransferType}
 use Rattle.usb_set.specs.declared.endpoint.TransferType.TheVariants.{Isochronous, Bulk, Interrupt}
-use Rattle.usb_explain.specs.declared.owner.DescriptorOwner.{DescriptorOwner}
-use Rattle.usb_explain.specs.declared.owner.InterfaceSetting.{InterfaceSetting}
+use Rattle.usb_walk.specs.declared.owner.DescriptorOwner.{DescriptorOwner}
+use Rattle.usb_walk.specs.declared.owner.InterfaceSetting.{InterfaceSetting}
 use Rattle.usb_explain.specs.declared.speed.SetSpeed.{SetSpeed}
 use Rattle.usb_explain.specs.declared.speed.SetSpeed.TheVariants.{High, Super}
 use Rattle.usb_explain.specs.declared.remark.Remark.{Remark}
@@ -14,8 +14,8 @@ use Rattle.usb_explain.specs.declared.remark.Remark.TheVariants as remarks
 use Rattle.usb_explain.specs.declared.setting_remark.Wanted.{Wanted}
 use Rattle.usb_explain.specs.declared.setting_remark.Wanted.TheVariants as wanted
 use Rattle.usb_explain.specs.RemarkValues.{remark_if}
-use Rattle.usb_explain.specs.Roles.{is_endpoint, is_interface}
-use Rattle.usb_explain.specs.Trees.{descriptors}
+use Rattle.usb_walk.specs.Roles.{is_endpoint, is_interface}
+use Rattle.usb_walk.specs.Trees.{descriptors}
 
 -- ---- the descriptors of a setting
 

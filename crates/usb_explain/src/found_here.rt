@@ -4,10 +4,9 @@ ghost use Rattle.usb_file_data.specs.Places.{finding};
 ghost use Rattle.usb_file_data.specs.Causes.{rule_of};
 ghost use Rattle.usb_explain.specs.Findings.{association_can, can_break, device_can, device_part, endpoint_can, finding_at, found_at, in_set, interface_can, is_here, is_same, part_number, qualifier_can, set_can};
 
-use crate::position::Position;
-use crate::role::Role;
 use crate::standing::Standing;
 use usb_file_data::{Cause, Finding, Found, Part};
+use usb_walk::{Position, Role};
 
 impl Standing {
     /// How many of these findings, from the first on, are of a descriptor of this role.

@@ -1,9 +1,9 @@
 -- What a position says of a descriptor at it.
 use Rattle.std.specs.Prelude.{ℕ, List, length, slice_index, nat_le, ◌-◌, ◌==◌, take, Option, Some, None, if◌then◌else◌}
 use Rattle.usb_names.specs.declared.codes.ClassCodes.{ClassCodes}
-use Rattle.usb_explain.specs.declared.role.Role.{Role}
-use Rattle.usb_explain.specs.declared.role.Role.TheVariants.{Configuration, Association, Interface, Endpoint, Raw}
-use Rattle.usb_explain.specs.declared.position.Position.{Position}
+use Rattle.usb_walk.specs.declared.role.Role.{Role}
+use Rattle.usb_walk.specs.declared.role.Role.TheVariants.{Configuration, Association, Interface, Endpoint, Raw}
+use Rattle.usb_walk.specs.declared.position.Position.{Position}
 
 -- what the interface is that a descriptor follows
 abbrev pub codes_of : Position → Option ClassCodes

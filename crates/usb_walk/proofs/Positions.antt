@@ -1,9 +1,9 @@
 -- Where one stands at a descriptor, and behind it.
-use Rattle.std.proofs.Common.{◌≡◌, ◌≤◌, ℕ, ◌+◌, ◌-◌, Bool, true, false, List, Option, ap, length, refl, arith}
-use Rattle.usb_explain.specs.declared.role.Role.{Role}
-use Rattle.usb_explain.specs.declared.role.Role.TheVariants.{Device, Qualifier, Configuration, Association, Interface, Endpoint, Raw, Languages, Text}
-use Rattle.usb_explain.specs.declared.position.Position.{Position}
-use Rattle.usb_explain.specs.Positions.{Counted, moved, noted, position_after, position_at, with_set}
+use Rattle.std.proofs.Common.{◌≡◌, ◌≤◌, ℕ, ◌-◌, Bool, true, false, List, ap, length, refl, arith}
+use Rattle.usb_walk.specs.declared.role.Role.{Role}
+use Rattle.usb_walk.specs.declared.role.Role.TheVariants.{Device, Qualifier, Configuration, Association, Interface, Endpoint, Raw, Languages, Text}
+use Rattle.usb_walk.specs.declared.position.Position.{Position}
+use Rattle.usb_walk.specs.Positions.{Counted, moved, noted, position_after, position_at, with_set}
 
 with_set_at : (is_other : Bool) (p : Position) → (with_set is_other p).at ≡ p.at
 with_set_at true p = refl

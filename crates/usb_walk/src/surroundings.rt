@@ -1,7 +1,7 @@
 //! What a position says of a descriptor at it.
 ghost use Rattle.std.specs.Prelude.{◌≡◌, ◌-◌, length, take};
 ghost use Rattle.std.specs.Option.{option_copied};
-ghost use Rattle.usb_explain.specs.Surroundings.{codes_of, depth_of, interface_number, rest_of_set};
+ghost use Rattle.usb_walk.specs.Surroundings.{codes_of, depth_of, interface_number, rest_of_set};
 
 use crate::position::Position;
 use crate::role::Role;
@@ -25,7 +25,7 @@ impl Position {
     }
 
     /// The number of the interface that a descriptor of this role is, or else of the last one before it.
-    pub(crate) fn interface_number(&self, role: Role, d: &[u8]) -> u8
+    pub fn interface_number(&self, role: Role, d: &[u8]) -> u8
         ensures { result ≡ interface_number self.now role d.now }
     {
         match role {
@@ -57,7 +57,7 @@ impl Position {
     }
 
     /// The same where they are all there.
-    pub(crate) fn rest_of_set<'b>(&self, d: &[u8], behind: &'b [u8]) -> Option<&'b [u8]>
+    pub fn rest_of_set<'b>(&self, d: &[u8], behind: &'b [u8]) -> Option<&'b [u8]>
         ensures { option_copied result ≡ rest_of_set self.now d.now behind.now }
     {
         if self.left.saturating_sub(d.len()) <= behind.len() {
