@@ -30,8 +30,8 @@ pub mod descriptors {
 /// value, with its owner, its findings and its fields; and what they mean, in words.
 pub mod files {
     pub use usb_explain::{
-        ClassCodes, Descriptor, DescriptorOwner, Field, Fields, Form, InterfaceSetting,
-        IntervalRange, Look, Manner, Outline, PacketSizes, Remark, Role, SetSpeed, explain,
+        ClassCodes, Descriptor, Field, Fields, Form, IntervalRange, Look, Manner, Outline,
+        PacketSizes, Remark, SetSpeed, explain,
     };
     pub use usb_file::{
         DescriptorFile, FILE_LIMIT, Input, NoMemory, Other, Strings, WriteFault, named, read_file,
@@ -42,6 +42,7 @@ pub mod files {
         LISTING_LIMIT, ListFault, ListWhy, assemble, assemble_commented, list, list_set,
     };
     pub use usb_text::OutFault;
+    pub use usb_walk::{DescriptorOwner, InterfaceSetting, Role};
 }
 
 /// What breaks a rule of chapter 9.

@@ -2,18 +2,18 @@
 use Rattle.std.proofs.Common.{◌≡◌, ℕ, zero, suc, ◌+◌, List, [], ◌∷◌, ◌++◌, map, length, take, drop, slice_index, Option, Some, None, refl, sym, ap, ap₂, ◌∙◌, arith}
 use Rattle.std.specs.List.{flat_map}
 use Rattle.std.proofs.lemmas.List.{drop-drop, length-take-le}
-use Rattle.usb_explain.specs.declared.position.Position.{Position}
-use Rattle.usb_explain.specs.declared.role.Role.{Role}
-use Rattle.usb_explain.specs.declared.role.Role.TheVariants as roles
+use Rattle.usb_walk.specs.declared.position.Position.{Position}
+use Rattle.usb_walk.specs.declared.role.Role.{Role}
+use Rattle.usb_walk.specs.declared.role.Role.TheVariants as roles
 use Rattle.usb_explain.specs.Numbered.{Numbered, first_numbered, next_position, numbered, numbered_next}
 use Rattle.usb_explain.specs.OwnedEndpoints.{OwnedEndpoint, endpoint_by_role}
-use Rattle.usb_explain.specs.Owners.{owner_of}
-use Rattle.usb_explain.specs.Positions.{first_position, noted}
-use Rattle.usb_explain.specs.Roles.{next_role}
+use Rattle.usb_walk.specs.Owners.{owner_of}
+use Rattle.usb_walk.specs.Positions.{first_position, noted}
+use Rattle.usb_walk.specs.Roles.{next_role}
 use Rattle.usb_explain.proofs.EndpointsShown.{among, in_tree}
 use Rattle.usb_explain.proofs.NumberedLemmas.{numbered_none, numbered_some}
 use Rattle.usb_explain.proofs.Outlines.{next_bounds}
-use Rattle.usb_explain.proofs.Positions.{noted_at, same_at}
+use Rattle.usb_walk.proofs.Positions.{noted_at, same_at}
 use Rattle.usb_explain.proofs.Spans.{next_first}
 use Rattle.usb_c.specs.declared.descriptor.NzgDescriptor.{NzgDescriptor}
 use Rattle.usb_c.specs.Descriptors.{all_as_numbers, as_numbers, nothing}

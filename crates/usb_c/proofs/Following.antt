@@ -9,14 +9,14 @@ use Rattle.std.proofs.lemmas.List.{length-map}
 use Rattle.std.proofs.lemmas.Option.{none-some, slice_get_past}
 use Rattle.usb_names.specs.declared.codes.ClassCodes.{ClassCodes}
 use Rattle.usb_explain.specs.declared.field.Field.{Field}
-use Rattle.usb_explain.specs.declared.position.Position.{Position}
-use Rattle.usb_explain.specs.declared.role.Role.{Role}
-use Rattle.usb_explain.specs.declared.role.Role.TheVariants as roles
+use Rattle.usb_walk.specs.declared.position.Position.{Position}
+use Rattle.usb_walk.specs.declared.role.Role.{Role}
+use Rattle.usb_walk.specs.declared.role.Role.TheVariants as roles
 use Rattle.usb_explain.specs.FieldLaws.{first_place, has_fields, span_of_field}
 use Rattle.usb_explain.specs.Fields.{PlacedField, fields_of, placed_of}
 use Rattle.usb_explain.specs.Laws.{Follow, Span}
 use Rattle.usb_explain.proofs.FieldsCover.{fields_have_all_bytes}
-use Rattle.usb_explain.specs.inside.Walking.{Counted}
+use Rattle.usb_walk.specs.Positions.{Counted}
 use Rattle.usb_c.specs.Descriptors.{is_counted}
 
 -- ---- bounds

@@ -2,16 +2,16 @@
 use Rattle.std.proofs.Common.{◌≡◌, ◌≤◌, ℕ, ◌+◌, List, [], ◌∷◌, ◌++◌, Bool, true, false, length, map, take, drop, slice_index, Option, Some, None, refl, sym, ap, subst, ◌∙◌, arith, zero, suc}
 use Rattle.std.specs.Prelude.{fold}
 use Rattle.std.proofs.lemmas.List.{drop-drop, length-take-le}
-use Rattle.usb_explain.specs.declared.position.Position.{Position}
-use Rattle.usb_explain.specs.declared.role.Role.{Role}
-use Rattle.usb_explain.specs.declared.role.Role.TheVariants as roles
+use Rattle.usb_walk.specs.declared.position.Position.{Position}
+use Rattle.usb_walk.specs.declared.role.Role.{Role}
+use Rattle.usb_walk.specs.declared.role.Role.TheVariants as roles
 use Rattle.usb_explain.specs.Numbered.{Numbered, first_numbered, numbered_next, next_position}
-use Rattle.usb_explain.specs.Positions.{noted, position_at, with_set}
-use Rattle.usb_explain.specs.Roles.{next_role}
+use Rattle.usb_walk.specs.Positions.{noted, position_at, with_set}
+use Rattle.usb_walk.specs.Roles.{next_role}
 use Rattle.usb_explain.proofs.NumberedLemmas.{numbered_none, numbered_some}
 use Rattle.usb_explain.proofs.Outlines.{next_bounds}
 use Rattle.usb_explain.proofs.Spans.{next_first}
-use Rattle.usb_explain.proofs.Positions.{noted_at, same_at}
+use Rattle.usb_walk.proofs.Positions.{noted_at, same_at}
 use Rattle.usb_c.specs.declared.descriptor.NzgDescriptor.{NzgDescriptor}
 use Rattle.usb_c.specs.declared.string_place.StringPlace.{StringPlace}
 use Rattle.usb_c.specs.Descriptors.{all_as_numbers, as_numbers, indices_in, indices_of_role, list_at, string_among, with_index}

@@ -10,7 +10,7 @@ use Rattle.std.proofs.lemmas.Bool.Decides.{nat_tests}
 use Rattle.std.proofs.lemmas.List.{get_or-append_right, get_or-map, length-map}
 use Rattle.usb_fields.specs.Bytes.{little_endian, little_endian_at}
 use Rattle.usb_fields.specs.Units.{units_bytes}
-use Rattle.usb_explain.specs.Trees.{text_descriptor}
+use Rattle.usb_walk.specs.Trees.{text_descriptor}
 use Rattle.usb_c.specs.declared.string_place.StringPlace.{StringPlace}
 use Rattle.usb_c.specs.Descriptors.{indices_in, language_in, no_string, string_among}
 use Rattle.usb_c.specs.Strings.{in_language, indexed, string_places}

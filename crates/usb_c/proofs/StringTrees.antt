@@ -19,9 +19,9 @@ use Rattle.usb_file_data.specs.declared.finding.Part.TheVariants as parts
 use Rattle.usb_file_data.specs.File.{association_string_index, device_string_indices, interface_string_index, other_sets, set_string_indices, string_indices}
 use Rattle.usb_file_data.specs.Places.{at_each}
 use Rattle.usb_file_data.proofs.Folds.{fold_append}
-use Rattle.usb_explain.specs.declared.owner.DescriptorOwner.{DescriptorOwner}
-use Rattle.usb_explain.specs.Owners.{of_set as owner_of_set}
-use Rattle.usb_explain.specs.Trees.{TreeDescriptor, endpoint_descriptors, extra_descriptors, other_descriptors, set_descriptors, set_descriptors_by, setting_descriptors}
+use Rattle.usb_walk.specs.declared.owner.DescriptorOwner.{DescriptorOwner}
+use Rattle.usb_walk.specs.Owners.{of_set as owner_of_set}
+use Rattle.usb_walk.specs.Trees.{TreeDescriptor, endpoint_descriptors, extra_descriptors, other_descriptors, set_descriptors, set_descriptors_by, setting_descriptors}
 use Rattle.usb_c.specs.Descriptors.{with_index}
 use Rattle.usb_c.proofs.NamedIndices.{has_index}
 use Rattle.usb_c.proofs.StringItems.{Item, strings_from}

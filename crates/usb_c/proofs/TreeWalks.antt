@@ -15,18 +15,18 @@ use Rattle.usb_file_data.specs.declared.finding.Part.TheVariants as parts
 use Rattle.usb_file_data.specs.Findings.{found_in_order, part_of_kind}
 use Rattle.usb_file_data.specs.Inputs.{IsInput}
 use Rattle.usb_file_data.specs.Places.{at_each}
-use Rattle.usb_explain.specs.declared.owner.DescriptorOwner.{DescriptorOwner}
-use Rattle.usb_explain.specs.declared.position.Position.{Position}
-use Rattle.usb_explain.specs.declared.role.Role.{Role}
-use Rattle.usb_explain.specs.declared.role.Role.TheVariants as roles
-use Rattle.usb_explain.specs.Contexts.{depth_of}
+use Rattle.usb_walk.specs.declared.owner.DescriptorOwner.{DescriptorOwner}
+use Rattle.usb_walk.specs.declared.position.Position.{Position}
+use Rattle.usb_walk.specs.declared.role.Role.{Role}
+use Rattle.usb_walk.specs.declared.role.Role.TheVariants as roles
+use Rattle.usb_walk.specs.Surroundings.{depth_of}
 use Rattle.usb_explain.specs.Laws.{as_in_tree}
 use Rattle.usb_explain.specs.Numbered.{FactsByPosition, Numbered, facts_by_position, facts_of, first_numbered, next_position, numbered, numbered_next}
 use Rattle.usb_explain.specs.Outline.{Described, outline}
-use Rattle.usb_explain.specs.Owners.{of_endpoint, of_interface, of_set, owner_of}
-use Rattle.usb_explain.specs.Positions.{first_position, noted, position_at, with_set}
-use Rattle.usb_explain.specs.Roles.{next_role}
-use Rattle.usb_explain.specs.Trees.{TreeDescriptor, endpoint_descriptors, extra_descriptors, other_descriptors, set_descriptors, setting_descriptors, string_descriptors, text_descriptor, tree_descriptor, tree_descriptors}
+use Rattle.usb_walk.specs.Owners.{of_endpoint, of_interface, of_set, owner_of}
+use Rattle.usb_walk.specs.Positions.{first_position, noted, position_at, with_set}
+use Rattle.usb_walk.specs.Roles.{next_role}
+use Rattle.usb_walk.specs.Trees.{TreeDescriptor, endpoint_descriptors, extra_descriptors, other_descriptors, set_descriptors, setting_descriptors, string_descriptors, text_descriptor, tree_descriptor, tree_descriptors}
 use Rattle.usb_explain.proofs.NumberedLemmas.{numbered_none, numbered_some, numbers_are_outline}
 use Rattle.usb_explain.proofs.rest.Inputs.{whole_shows}
 use Rattle.usb_explain.proofs.rest.Steps.{four_parts}

@@ -4,16 +4,15 @@ use Rattle.std.specs.Option.{option_map}
 use Rattle.std.proofs.lemmas.Bool.{cond-false, cond-true, le-leb}
 use Rattle.std.proofs.lemmas.List.{drop-drop, length-take-le}
 use Rattle.std.proofs.lemmas.Option.{none-some}
-use Rattle.usb_explain.specs.declared.position.Position.{Position}
-use Rattle.usb_explain.specs.declared.role.Role.{Role}
+use Rattle.usb_walk.specs.declared.position.Position.{Position}
+use Rattle.usb_walk.specs.declared.role.Role.{Role}
 use Rattle.usb_explain.specs.Numbered.{first_numbered, numbered_next, next_position}
-use Rattle.usb_explain.specs.Positions.{first_position}
-use Rattle.usb_explain.specs.Roles.{next_role}
-use Rattle.usb_explain.specs.inside.Walking.{Counted}
+use Rattle.usb_walk.specs.Positions.{Counted, first_position}
+use Rattle.usb_walk.specs.Roles.{next_role}
 use Rattle.usb_explain.proofs.NumberedLemmas.{numbered_none, numbered_some}
 use Rattle.usb_explain.proofs.Outlines.{next_bounds}
 use Rattle.usb_explain.proofs.Spans.{next_first}
-use Rattle.usb_explain.proofs.Positions.{counted_at, counted_noted, noted_at, same_at}
+use Rattle.usb_walk.proofs.Positions.{counted_at, counted_noted, noted_at, same_at}
 use Rattle.usb_c.specs.declared.descriptor.NzgDescriptor.{NzgDescriptor}
 use Rattle.usb_c.specs.Descriptors.{AllGoOn, GoesOn, WalkIsNumbered, first_walked, is_counted, next_of, nothing, as_numbers, all_as_numbers, next_as_numbers}
 

@@ -9,7 +9,7 @@ use Rattle.usb_file_data.specs.declared.file.Strings.{Strings}
 use Rattle.usb_file_data.specs.File.{named_indices}
 use Rattle.usb_file_data.specs.Inputs.{IsInput}
 use Rattle.usb_explain.specs.declared.manner.Manner.{Manner}
-use Rattle.usb_explain.specs.declared.role.Role.TheVariants as roles
+use Rattle.usb_walk.specs.declared.role.Role.TheVariants as roles
 use Rattle.usb_explain.specs.Subjects.{Subject, place_of, subject_of}
 use Rattle.usb_c.specs.declared.descriptor.NzgDescriptor.{NzgDescriptor}
 use Rattle.usb_c.specs.declared.string_place.StringPlace.{StringPlace}

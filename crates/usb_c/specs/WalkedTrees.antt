@@ -13,9 +13,9 @@ use Rattle.usb_file_data.specs.declared.finding.Part.{Part}
 use Rattle.usb_file_data.specs.declared.finding.Part.TheVariants as parts
 use Rattle.usb_file_data.specs.Findings.{part_of_kind}
 use Rattle.usb_file_data.specs.Inputs.{IsInput}
-use Rattle.usb_explain.specs.declared.role.Role.{Role}
-use Rattle.usb_explain.specs.declared.role.Role.TheVariants as roles
-use Rattle.usb_explain.specs.Trees.{extra_depth, extra_role}
+use Rattle.usb_walk.specs.declared.role.Role.{Role}
+use Rattle.usb_walk.specs.declared.role.Role.TheVariants as roles
+use Rattle.usb_walk.specs.Trees.{extra_depth, extra_role}
 use Rattle.usb_c.specs.declared.descriptor.NzgDescriptor.{NzgDescriptor}
 use Rattle.usb_c.specs.Descriptors.{role_number, walked}
 

@@ -1,5 +1,5 @@
 //! A descriptor as numbers.
-use usb_explain::Position;
+use usb_walk::Position;
 
 /// A descriptor where it stands in its input, as numbers: the struct `nzg_descriptor` of nozzlegorse.h. The walk goes on from it.
 /// What doesn't apply is 0.

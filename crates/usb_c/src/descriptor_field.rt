@@ -6,8 +6,9 @@ ghost use Rattle.usb_c.specs.DescriptorFields.{bytes_in, field_at, field_of, fie
 
 use crate::buffer::fill;
 use crate::descriptor::NzgDescriptor;
-use usb_explain::{ClassCodes, Field, Fields, Role};
+use usb_explain::{ClassCodes, Field, Fields};
 use usb_fields::{after, byte_at, prefix};
+use usb_walk::Role;
 
 /// A field of a descriptor as numbers: the struct `nzg_field` of nozzlegorse.h.
 #[repr(C)]

@@ -1,13 +1,13 @@
 //! The walk from a descriptor to the next one.
 ghost use Rattle.std.specs.Prelude.{◌≡◌, ◌≤◌, ◌+◌, ◌<◌, ◌^◌, is_some, length, unwrap_or};
 ghost use Rattle.usb_explain.specs.Numbered.{numbered_next};
-ghost use Rattle.usb_explain.specs.inside.Walking.{Counted};
+ghost use Rattle.usb_walk.specs.Positions.{Counted};
 ghost use Rattle.usb_c.specs.Descriptors.{is_counted, next_of, role_number, set_part, string_of_role, as_numbers, next_as_numbers, with_role};
 
 use crate::descriptor::NzgDescriptor;
 use crate::string_place::{NO_STRING, StringPlace, name_string, string_among};
-use usb_explain::{Position, Role};
 use usb_fields::{after, byte_at, prefix};
+use usb_walk::{Position, Role};
 
 /// The first descriptor after `{0}`, or the one after another one. False where none can stand there: nothing changes then.
 #[unsafe(no_mangle)]

@@ -3,7 +3,7 @@ use Rattle.std.proofs.Common.{◌≡◌, ◌≢◌, ◌-◌, ◌&&◌, ◌||◌,
 use Rattle.std.specs.List.{list_any}
 use Rattle.usb_fields.specs.Bytes.{little_endian_at}
 use Rattle.usb_explain.specs.Associations.{are_whole, has_association, is_whole}
-use Rattle.usb_explain.specs.Roles.{is_association}
+use Rattle.usb_walk.specs.Roles.{is_association}
 
 pub none_there : (ds : List (List ℕ)) → ds ≡ [] → has_association ds ≡ false
 unfolding has_association

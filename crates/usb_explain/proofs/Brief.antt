@@ -6,8 +6,8 @@ use Rattle.usb_explain.specs.Laws.{BriefLeavesOutFields, looking}
 use Rattle.usb_explain.specs.Outline.{Described}
 use Rattle.usb_explain.specs.RemarkLines.{remark_lines}
 use Rattle.usb_explain.specs.Subjects.{Subject}
-use Rattle.usb_explain.specs.declared.role.Role.{Role}
-use Rattle.usb_explain.specs.declared.role.Role.TheVariants as roles
+use Rattle.usb_walk.specs.declared.role.Role.{Role}
+use Rattle.usb_walk.specs.declared.role.Role.TheVariants as roles
 
 -- the lines before those of the fields
 abbrev head_of : Subject → Described → List Shown

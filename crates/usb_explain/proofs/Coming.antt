@@ -5,17 +5,17 @@ use Rattle.std.specs.Option.{option_copied, option_map}
 use Rattle.std.proofs.lemmas.Bool.Decides.{nat_tests}
 use Rattle.std.proofs.lemmas.Option.{none-some, same_Some}
 use Rattle.std.proofs.lemmas.List.{length-take-le}
-use Rattle.usb_explain.specs.declared.position.Position.{Position}
-use Rattle.usb_explain.specs.declared.role.Role.{Role}
-use Rattle.usb_explain.specs.declared.role.Role.TheVariants.{Device, Qualifier, Configuration, Association, Interface, Endpoint, Raw, Languages, Text}
-use Rattle.usb_explain.specs.Contexts.{rest_of_set}
-use Rattle.usb_explain.specs.Positions.{position_at}
-use Rattle.usb_explain.specs.Roles.{inner_role, is_interface, next_role, outer_role, role_of, typed_role}
-use Rattle.usb_explain.specs.SettingRemarks.{has_setting, is_numbered}
+use Rattle.usb_walk.specs.declared.position.Position.{Position}
+use Rattle.usb_walk.specs.declared.role.Role.{Role}
+use Rattle.usb_walk.specs.declared.role.Role.TheVariants.{Device, Qualifier, Configuration, Association, Interface, Endpoint, Raw, Languages, Text}
+use Rattle.usb_walk.specs.Surroundings.{rest_of_set}
+use Rattle.usb_walk.specs.Positions.{position_at}
+use Rattle.usb_walk.specs.Roles.{inner_role, is_interface, next_role, outer_role, role_of, typed_role}
+use Rattle.usb_explain.specs.InterfaceNumbers.{has_setting, is_numbered}
 use Rattle.usb_explain.specs.Standings.{start}
-use Rattle.usb_explain.specs.Trees.{descriptor_length, descriptors}
+use Rattle.usb_walk.specs.Trees.{descriptor_length, descriptors}
 use Rattle.usb_explain.specs.inside.Coming.{Awaits, Counts, interfaces_of}
-use Rattle.usb_explain.proofs.Cuts.{descriptors_step, length_within}
+use Rattle.usb_walk.proofs.Cuts.{descriptors_step, length_within}
 use Rattle.usb_explain.proofs.Outlines.{next_says}
 
 -- ---- one comes where there is one to come

@@ -18,12 +18,12 @@ use Rattle.usb_file_data.specs.declared.finding.Part.TheVariants as parts
 use Rattle.usb_file_data.specs.File.{other_sets}
 use Rattle.usb_file_data.specs.Findings.{found_in_order, part_of_kind}
 use Rattle.usb_file_data.specs.Places.{at_each}
-use Rattle.usb_explain.specs.declared.owner.DescriptorOwner.{DescriptorOwner}
+use Rattle.usb_walk.specs.declared.owner.DescriptorOwner.{DescriptorOwner}
 use Rattle.usb_explain.specs.Laws.{as_in_tree}
 use Rattle.usb_explain.specs.Outline.{Described, outline}
 use Rattle.usb_explain.specs.OwnedEndpoints.{OwnedEndpoint, WholeShowsEndpoints, endpoint_by_role, endpoint_shown, input_endpoints, owned_endpoint, set_endpoints}
-use Rattle.usb_explain.specs.Owners.{of_interface, of_set}
-use Rattle.usb_explain.specs.Trees.{TreeDescriptor, endpoint_descriptors, extra_descriptors, other_descriptors, set_descriptors, setting_descriptors, string_descriptors, text_descriptor, tree_descriptors}
+use Rattle.usb_walk.specs.Owners.{of_interface, of_set}
+use Rattle.usb_walk.specs.Trees.{TreeDescriptor, endpoint_descriptors, extra_descriptors, other_descriptors, set_descriptors, setting_descriptors, string_descriptors, text_descriptor, tree_descriptors}
 use Rattle.usb_explain.proofs.rest.Inputs.{whole_shows}
 
 -- the endpoint that a descriptor of a tree is, if it is one

@@ -8,7 +8,7 @@ use Rattle.std.proofs.lemmas.List.{drop-drop, length-take-le, take-append-drop}
 use Rattle.usb_names.specs.declared.codes.ClassCodes.{ClassCodes}
 use Rattle.usb_names.specs.Rows.{application_rows, audio_rows, cdc_data_rows, communications_rows, further_video_rows, hid_rows, hub_rows, mass_storage_rows, newer_audio_rows, other_rows, smart_card_rows, standard_rows, video_rows}
 use Rattle.usb_names.specs.Shown.{Field, Row}
-use Rattle.usb_explain.specs.declared.role.Role.TheVariants.{Device, Qualifier, Configuration, Association, Interface, Endpoint, Raw, Languages, Text}
+use Rattle.usb_walk.specs.declared.role.Role.TheVariants.{Device, Qualifier, Configuration, Association, Interface, Endpoint, Raw, Languages, Text}
 use Rattle.usb_explain.specs.FieldLaws.{AllFieldsHaveAllBytes, span_of_field}
 use Rattle.usb_explain.specs.Fields.{PlacedField, class_layout, fields_in_bytes, fields_of, groups_in, laid, left_over, placed, repeated}
 use Rattle.usb_explain.specs.Headers.{row_of_bytes}

@@ -15,10 +15,10 @@ use Rattle.usb_explain.specs.Fragments.{AllFragmentBytesOnce, FragmentBytesOnce,
 use Rattle.usb_explain.specs.Explanations.{first_line}
 use Rattle.usb_explain.specs.Laws.{Follow, span_of}
 use Rattle.usb_explain.specs.Outline.{Described, bytes_of}
-use Rattle.usb_explain.specs.Roles.{is_association}
+use Rattle.usb_walk.specs.Roles.{is_association}
 use Rattle.usb_explain.specs.Subjects.{Subject}
-use Rattle.usb_explain.specs.Trees.{descriptor_length, descriptors, first_descriptors}
-use Rattle.usb_explain.proofs.Cuts.{descriptors_end, descriptors_step, first_step, length_within}
+use Rattle.usb_walk.specs.Trees.{descriptor_length, descriptors, first_descriptors}
+use Rattle.usb_walk.proofs.Cuts.{descriptors_end, descriptors_step, first_step, length_within}
 use Rattle.usb_explain.proofs.Explaining.{ends_joined, put_is}
 use Rattle.usb_explain.proofs.Spans.{left_behind}
 

@@ -1,4 +1,4 @@
-pub mod Positions
+pub mod Standings
 pub mod Outlines
 pub mod NumberedLemmas
 pub mod Explaining
@@ -8,7 +8,6 @@ pub mod Spans
 pub mod EndpointsShown
 pub mod Brief
 pub mod rest
-pub mod Cuts
 pub mod Coming
 pub mod Tables
 pub mod Classes

@@ -2,14 +2,14 @@
 use Rattle.std.proofs.Common.{◌≡◌, ℕ, zero, suc, List, [], ◌∷◌, length, map, drop, Option, Some, None, unwrap_or, refl, sym, ap, ◌∙◌}
 use Rattle.std.specs.Option.{option_map}
 use Rattle.usb_file_data.specs.declared.cause.Found.{Found}
-use Rattle.usb_explain.specs.declared.position.Position.{Position}
-use Rattle.usb_explain.specs.declared.role.Role.{Role}
+use Rattle.usb_walk.specs.declared.position.Position.{Position}
+use Rattle.usb_walk.specs.declared.role.Role.{Role}
 use Rattle.usb_explain.specs.declared.speed.SetSpeed.{SetSpeed}
 use Rattle.usb_explain.specs.declared.standing.Standing.{Standing}
 use Rattle.usb_explain.specs.Numbered.{Numbered, NumbersAreOutline, first_numbered, numbered_next, facts_of, next_position, facts_by_position}
 use Rattle.usb_explain.specs.Outline.{Entry, after_next, describe, entries, first_entries, left_next}
-use Rattle.usb_explain.specs.Positions.{first_position}
-use Rattle.usb_explain.specs.Roles.{next_role}
+use Rattle.usb_walk.specs.Positions.{first_position}
+use Rattle.usb_walk.specs.Roles.{next_role}
 use Rattle.usb_explain.specs.Standings.{start}
 use Rattle.usb_explain.proofs.Outlines.{entries_next, entries_none}
 

@@ -4,19 +4,19 @@ use Rattle.std.specs.Option.{option_map}
 use Rattle.std.proofs.lemmas.Option.{none-some}
 use Rattle.std.proofs.lemmas.List.{length-take-le}
 use Rattle.usb_file_data.specs.declared.cause.Found.{Found}
-use Rattle.usb_explain.specs.declared.role.Role.{Role}
+use Rattle.usb_walk.specs.declared.role.Role.{Role}
 use Rattle.usb_explain.specs.declared.speed.SetSpeed.{SetSpeed}
-use Rattle.usb_explain.specs.declared.position.Position.{Position}
+use Rattle.usb_walk.specs.declared.position.Position.{Position}
 use Rattle.usb_explain.specs.declared.standing.Standing.{Standing}
-use Rattle.usb_explain.specs.Contexts.{depth_of}
+use Rattle.usb_walk.specs.Surroundings.{depth_of}
 use Rattle.usb_explain.specs.Laws.{Span, as_in_tree, span_of}
 use Rattle.usb_explain.specs.Outline.{Entry, after_next, bytes_of, describe, entries_from, entry_next, findings_of, first_entries, here, left_next, outline_from}
-use Rattle.usb_explain.specs.Owners.{owner_of}
-use Rattle.usb_explain.specs.Roles.{next_role, role_of}
-use Rattle.usb_explain.specs.Trees.{TreeDescriptor, descriptor_length, tree_descriptor}
-use Rattle.usb_explain.specs.inside.Walking.{Counted}
-use Rattle.usb_explain.proofs.Cuts.{length_within}
-use Rattle.usb_explain.proofs.Positions.{counted_at, counted_noted, noted_at, same_at}
+use Rattle.usb_walk.specs.Owners.{owner_of}
+use Rattle.usb_walk.specs.Roles.{next_role, role_of}
+use Rattle.usb_walk.specs.Trees.{TreeDescriptor, descriptor_length, tree_descriptor}
+use Rattle.usb_walk.specs.Positions.{Counted}
+use Rattle.usb_walk.proofs.Cuts.{length_within}
+use Rattle.usb_walk.proofs.Positions.{counted_at, counted_noted, noted_at, same_at}
 
 -- ---- the length of a descriptor
 

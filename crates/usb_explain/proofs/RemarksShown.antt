@@ -3,7 +3,7 @@ use Rattle.std.proofs.Common.{◌≡◌, ◌∙◌, Bool, true, false, not, if�
 use Rattle.std.proofs.lemmas.Grind.{flat_map-append}
 use Rattle.std.specs.List.{flat_map}
 use Rattle.usb_explain.specs.declared.remark.Remark.{Remark}
-use Rattle.usb_explain.specs.declared.role.Role.TheVariants.{Raw}
+use Rattle.usb_walk.specs.declared.role.Role.TheVariants.{Raw}
 use Rattle.usb_explain.specs.ClassRemarks.{is_of_endpoint}
 use Rattle.usb_explain.specs.Headers.{header_remark}
 use Rattle.usb_explain.specs.Outline.{Described}

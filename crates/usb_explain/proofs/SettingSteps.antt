@@ -3,7 +3,7 @@ use Rattle.std.proofs.Common.{◌≡◌, ◌∙◌, ℕ, List, [], ◌∷◌, tr
 use Rattle.std.specs.List.{list_any, take_while}
 use Rattle.std.proofs.lemmas.List.Sums.{take_while-cons}
 use Rattle.usb_explain.specs.declared.setting_remark.Wanted.{Wanted}
-use Rattle.usb_explain.specs.Roles.{is_interface}
+use Rattle.usb_walk.specs.Roles.{is_interface}
 use Rattle.usb_explain.specs.SettingRemarks.{has_wanted, is_wanted, no_interface}
 
 -- the next interface ends a setting

@@ -4,19 +4,20 @@ use Rattle.std.proofs.lemmas.Bool.Decides.{nat_tests}
 use Rattle.std.proofs.lemmas.Option.{none-some}
 use Rattle.std.proofs.lemmas.List.{length-take-le, take-append-drop}
 use Rattle.std.proofs.Math.Seq.{drop-append_seam}
-use Rattle.usb_explain.specs.Trees.{descriptor_length, TreeDescriptor}
-use Rattle.usb_explain.specs.declared.role.Role.{Role}
-use Rattle.usb_explain.specs.declared.position.Position.{Position}
+use Rattle.usb_walk.specs.Trees.{descriptor_length, TreeDescriptor}
+use Rattle.usb_walk.specs.declared.role.Role.{Role}
+use Rattle.usb_walk.specs.declared.position.Position.{Position}
 use Rattle.usb_explain.specs.declared.standing.Standing.{Standing}
 use Rattle.usb_explain.specs.Outline.{Entry, after_next, bytes_of, end_of, entries, entry_next, findings_of, first_entries, here, left_next, outline}
 use Rattle.usb_explain.specs.Findings.{found_at}
 use Rattle.usb_explain.specs.Laws.{AllEachByteOnce, Cut, Follow, span_of}
-use Rattle.usb_explain.specs.Roles.{next_role}
+use Rattle.usb_walk.specs.Roles.{next_role}
 use Rattle.usb_explain.specs.Standings.{start}
 use Rattle.usb_explain.specs.declared.speed.SetSpeed.{SetSpeed}
 use Rattle.usb_file_data.specs.declared.cause.Found.{Found}
 use Rattle.usb_explain.proofs.Outlines.{bytes_same, entries_next, entries_none, entry_in_tree, entry_span, next_bounds, next_says, spans_same}
-use Rattle.usb_explain.proofs.Positions.{noted_at, same_at, start_at}
+use Rattle.usb_walk.proofs.Positions.{noted_at, same_at}
+use Rattle.usb_explain.proofs.Standings.{start_at}
 use Rattle.usb_explain.proofs.Telling.{found_front}
 
 -- its two tests

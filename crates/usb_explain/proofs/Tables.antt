@@ -9,8 +9,7 @@ use Rattle.std.proofs.lemmas.List.{ext_get_or, get_or-map, get_or-replicate, len
 use Rattle.std.proofs.lemmas.List.FromFn.{get_or-map-range_with_len, length-map-range_with_len}
 use Rattle.usb_explain.specs.declared.speed_evidence.Evidence.{Evidence}
 use Rattle.usb_explain.specs.Bindings.{binding, bindings, binds, bound_at}
-use Rattle.usb_explain.specs.InterfaceNumbers.{has_number, interface_numbers}
-use Rattle.usb_explain.specs.SettingRemarks.{has_setting, is_numbered}
+use Rattle.usb_explain.specs.InterfaceNumbers.{has_number, has_setting, interface_numbers, is_numbered}
 use Rattle.usb_explain.specs.SetSpeeds.{Survey, evidence_of, excludes_low, hints_low_or_full, is_companion, proves_full, proves_high, survey_of}
 use Rattle.usb_explain.specs.inside.Walking.{AllBound, Gathers, Hears, bound_cell, bound_first, bound_with, heard}
 

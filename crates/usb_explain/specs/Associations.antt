@@ -2,11 +2,11 @@
 use Rattle.std.specs.Prelude.{ℕ, zero, suc, ◌-◌, List, slice_index, length, take, drop, Bool, true, false, nat_le, nat_lt, ◌&&◌, Option, Some, None, if◌then◌else◌}
 use Rattle.std.specs.List.{list_any}
 use Rattle.usb_fields.specs.Bytes.{little_endian_at}
-use Rattle.usb_explain.specs.declared.role.Role.{Role}
-use Rattle.usb_explain.specs.declared.role.Role.TheVariants.{Device, Qualifier}
-use Rattle.usb_explain.specs.Roles.{is_association}
+use Rattle.usb_walk.specs.declared.role.Role.{Role}
+use Rattle.usb_walk.specs.declared.role.Role.TheVariants.{Device, Qualifier}
+use Rattle.usb_walk.specs.Roles.{is_association}
 use Rattle.usb_explain.specs.SetStart.{sets_ahead}
-use Rattle.usb_explain.specs.Trees.{descriptors}
+use Rattle.usb_walk.specs.Trees.{descriptors}
 
 -- one of these descriptors is an association
 unfoldable pub has_association : List (List ℕ) → Bool

@@ -1,7 +1,7 @@
 -- Which association binds an interface (ECN on interface associations, 9.X.Y).
 use Rattle.std.specs.Prelude.{ℕ, ◌+◌, List, [], ◌∷◌, map, slice_index, slice_index_or, Bool, nat_le, nat_lt, ◌&&◌, Option, Some, None, if◌then◌else◌}
 use Rattle.std.specs.List.{range_with_len}
-use Rattle.usb_explain.specs.Roles.{is_association}
+use Rattle.usb_walk.specs.Roles.{is_association}
 
 -- from bFirstInterface on as many numbers as bInterfaceCount are bound; the sum doesn't wrap
 abbrev pub binds : ℕ → ℕ → ℕ → Bool

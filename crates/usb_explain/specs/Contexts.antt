@@ -5,9 +5,9 @@ use Rattle.usb_fields.specs.Bytes.{little_endian_at}
 use Rattle.usb_names.specs.declared.codes.ClassCodes.{ClassCodes}
 use Rattle.usb_explain.specs.declared.speed.SetSpeed.{SetSpeed}
 use Rattle.usb_explain.specs.declared.speed.SetSpeed.TheVariants.{FullOrHigh, Super}
-use Rattle.usb_explain.specs.declared.role.Role.{Role}
-use Rattle.usb_explain.specs.declared.role.Role.TheVariants.{Device, Qualifier, Configuration, Association, Interface, Endpoint, Raw}
-use Rattle.usb_explain.specs.declared.position.Position.{Position}
+use Rattle.usb_walk.specs.declared.role.Role.{Role}
+use Rattle.usb_walk.specs.declared.role.Role.TheVariants.{Device, Qualifier, Configuration, Association, Interface, Endpoint, Raw}
+use Rattle.usb_walk.specs.declared.position.Position.{Position}
 use Rattle.usb_explain.specs.declared.standing.Standing.{Standing}
 use Rattle.usb_explain.specs.SetSpeeds.{high_beside, high_side, is_super_device, one_speed, other_speed}
 
@@ -26,30 +26,7 @@ speed_of running s Qualifier d =
     unwrap_or (option_or (option_and_then other_speed running) (high_beside s.own_side s.other_side)) FullOrHigh
 speed_of running s _ d = s.speed
 
--- what the interface is that a descriptor follows
-abbrev pub codes_of : Position → Option ClassCodes
-codes_of p = if p.settings == 0 then None else Some (record { class = p.class; subclass = p.subclass; protocol = p.protocol })
-
--- the number of the interface that it is, or else of the one that it follows
-abbrev pub interface_number : Position → Role → List ℕ → ℕ
-interface_number p Interface d = slice_index d 2
-interface_number p _ d = p.interface
-
 -- the speed that both sides of a device have, at its qualifier
 abbrev pub one_speed_at : Standing → Role → Option SetSpeed
 one_speed_at s Qualifier = one_speed s.own_side s.other_side
 one_speed_at s role = None
-
--- the depth of its heading
-unfoldable pub depth_of : Position → Role → ℕ
-depth_of p Configuration = 1
-depth_of p Interface = 2
-depth_of p Endpoint = 3
-depth_of p Association = 2
-depth_of p Raw = p.below
-depth_of p _ = 0
-
--- the bytes of its set after a descriptor, where they are all there
-abbrev pub rest_of_set : Position → List ℕ → List ℕ → Option (List ℕ)
-rest_of_set p d after =
-    let count = p.left - length d in if nat_le count (length after) then Some (take count after) else None

@@ -1,8 +1,8 @@
 -- The lines of a descriptor, by what it is.
 use Rattle.std.specs.Prelude.{List, [], ◌++◌, length, flat_map, if◌then◌else◌}
 use Rattle.usb_text.specs.Shown.{Shown}
-use Rattle.usb_explain.specs.declared.role.Role.{Role}
-use Rattle.usb_explain.specs.declared.role.Role.TheVariants as roles
+use Rattle.usb_walk.specs.declared.role.Role.{Role}
+use Rattle.usb_walk.specs.declared.role.Role.TheVariants as roles
 use Rattle.usb_explain.specs.Endpoints.{endpoint_shown}
 use Rattle.usb_explain.specs.Fields.{PlacedField, fields_of}
 use Rattle.usb_explain.specs.FindingLines.{finding_line}

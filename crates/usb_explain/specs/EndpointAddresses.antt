@@ -6,8 +6,8 @@ use Rattle.usb_explain.specs.declared.remark.Remark.TheVariants as remarks
 use Rattle.usb_explain.specs.declared.speed.SetSpeed.{SetSpeed}
 use Rattle.usb_explain.specs.declared.speed.SetSpeed.TheVariants.{Low}
 use Rattle.usb_explain.specs.RemarkValues.{remark_if}
-use Rattle.usb_explain.specs.Roles.{is_endpoint}
-use Rattle.usb_explain.specs.Trees.{descriptors}
+use Rattle.usb_walk.specs.Roles.{is_endpoint}
+use Rattle.usb_walk.specs.Trees.{descriptors}
 
 -- an endpoint that isn't endpoint zero and has neither of these addresses
 abbrev pub is_another : ℕ → ℕ → List ℕ → Bool

@@ -1,8 +1,8 @@
 -- What holds of the fields of each descriptor: they stand one after another and have all its bytes.
 use Rattle.std.specs.Prelude.{◌≡◌, ◌≤◌, ℕ, Bool, true, false, List, drop, flat_map, length, map, Option}
 use Rattle.usb_names.specs.declared.codes.ClassCodes.{ClassCodes}
-use Rattle.usb_explain.specs.declared.role.Role.{Role}
-use Rattle.usb_explain.specs.declared.role.Role.TheVariants.{Raw, Languages, Text}
+use Rattle.usb_walk.specs.declared.role.Role.{Role}
+use Rattle.usb_walk.specs.declared.role.Role.TheVariants.{Raw, Languages, Text}
 use Rattle.usb_explain.specs.Fields.{PlacedField, fields_of}
 use Rattle.usb_explain.specs.Laws.{Follow, Span}
 

@@ -5,8 +5,8 @@ use Rattle.usb_names.specs.declared.field.Form.{Form}
 use Rattle.usb_names.specs.declared.field.Form.TheVariants.{Bytes, Hexadecimal}
 use Rattle.usb_names.specs.Shown.{Field, Row}
 use Rattle.usb_explain.specs.declared.field.Field as declared
-use Rattle.usb_explain.specs.declared.role.Role.{Role}
-use Rattle.usb_explain.specs.declared.role.Role.TheVariants.{Device, Qualifier, Configuration, Association, Interface, Endpoint, Raw, Languages, Text}
+use Rattle.usb_walk.specs.declared.role.Role.{Role}
+use Rattle.usb_walk.specs.declared.role.Role.TheVariants.{Device, Qualifier, Configuration, Association, Interface, Endpoint, Raw, Languages, Text}
 use Rattle.usb_explain.specs.Headers.{row_layout, row_of_bytes}
 use Rattle.usb_explain.specs.Layouts.{Layout, association_layout, configuration_layout, device_layout, endpoint_layout, field_in, group_count, interface_layout, qualifier_layout, width_of}
 

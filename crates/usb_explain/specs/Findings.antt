@@ -9,11 +9,11 @@ use Rattle.usb_file_data.specs.declared.finding.Part.{Part}
 use Rattle.usb_file_data.specs.declared.finding.Part.TheVariants as parts
 use Rattle.usb_file_data.specs.Causes.{rule_of}
 use Rattle.usb_file_data.specs.Places.{finding}
-use Rattle.usb_explain.specs.declared.role.Role.{Role}
-use Rattle.usb_explain.specs.declared.role.Role.TheVariants.{Device, Qualifier, Configuration, Association, Interface, Endpoint}
-use Rattle.usb_explain.specs.declared.position.Position.{Position}
+use Rattle.usb_walk.specs.declared.role.Role.{Role}
+use Rattle.usb_walk.specs.declared.role.Role.TheVariants.{Device, Qualifier, Configuration, Association, Interface, Endpoint}
+use Rattle.usb_walk.specs.declared.position.Position.{Position}
 use Rattle.usb_explain.specs.declared.standing.Standing.{Standing}
-use Rattle.usb_explain.specs.Owners.{part_in}
+use Rattle.usb_walk.specs.Owners.{part_in}
 
 -- a device breaks V11, and V10 for the main part, where that has no set
 abbrev pub device_can : Cause → Bool

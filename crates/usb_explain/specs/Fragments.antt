@@ -10,8 +10,8 @@ use Rattle.usb_text.specs.Shown.{Shown, Number}
 use Rattle.usb_explain.specs.declared.fragment.FragmentPosition.{FragmentPosition}
 use Rattle.usb_explain.specs.declared.manner.Look.{Look}
 use Rattle.usb_explain.specs.declared.manner.Manner.{Manner}
-use Rattle.usb_explain.specs.declared.role.Role.{Role}
-use Rattle.usb_explain.specs.declared.role.Role.TheVariants.{Device, Qualifier, Configuration, Association, Interface, Endpoint, Raw, Languages, Text}
+use Rattle.usb_walk.specs.declared.role.Role.{Role}
+use Rattle.usb_walk.specs.declared.role.Role.TheVariants.{Device, Qualifier, Configuration, Association, Interface, Endpoint, Raw, Languages, Text}
 use Rattle.usb_explain.specs.declared.speed.SetSpeed.{SetSpeed}
 use Rattle.usb_explain.specs.declared.speed.SetSpeed.TheVariants.{FullOrHigh}
 use Rattle.usb_explain.specs.declared.string_names.Missing.TheVariants.{NotInInput}
@@ -21,12 +21,12 @@ use Rattle.usb_explain.specs.Explanations.{first_line, rest_lines}
 use Rattle.usb_explain.specs.Laws.{Follow, span_of}
 use Rattle.usb_explain.specs.Lines.{field_line, heading_line}
 use Rattle.usb_explain.specs.Outline.{Described, bytes_of}
-use Rattle.usb_explain.specs.RemarkPlaces.{outside}
-use Rattle.usb_explain.specs.Roles.{is_association, is_interface, typed_role}
+use Rattle.usb_walk.specs.Places.{outside}
+use Rattle.usb_walk.specs.Roles.{is_association, is_interface, typed_role}
 use Rattle.usb_explain.specs.SetSpeeds.{other_speed}
 use Rattle.usb_explain.specs.StringNames.{no_names}
 use Rattle.usb_explain.specs.Subjects.{Subject}
-use Rattle.usb_explain.specs.Trees.{descriptors}
+use Rattle.usb_walk.specs.Trees.{descriptors}
 use Rattle.std.specs.Prelude.{◌≡◌, map}
 
 -- What a descriptor is by its type and its length alone.

@@ -3,9 +3,23 @@
 use Rattle.std.specs.Prelude.{ℕ, ◌%◌, List, [], ◌∷◌, map, take, drop, length, slice_index, slice_index_or, Bool, false, nat_le, ◌==◌, ◌&&◌, Option, Some, None, if◌then◌else◌}
 use Rattle.std.specs.List.{list_any, range_with_len}
 use Rattle.usb_names.specs.declared.codes.ClassCodes.{ClassCodes}
-use Rattle.usb_explain.specs.declared.role.Role.{Role}
-use Rattle.usb_explain.specs.declared.role.Role.TheVariants.{Association}
-use Rattle.usb_explain.specs.SettingRemarks.{has_setting}
+use Rattle.usb_walk.specs.declared.role.Role.{Role}
+use Rattle.usb_walk.specs.declared.role.Role.TheVariants.{Association}
+use Rattle.usb_walk.specs.Roles.{is_interface}
+use Rattle.usb_walk.specs.Trees.{descriptors}
+
+-- an interface of this number
+abbrev pub is_numbered : ℕ → List ℕ → Bool
+is_numbered number d = is_interface d && (slice_index d 2 == number)
+
+-- another setting of the interface follows
+unfoldable pub has_setting : ℕ → List (List ℕ) → Bool
+has_setting number ds = list_any (is_numbered number) ds
+
+-- so it is in the rest of a set, where all of that is there
+abbrev pub follows : ℕ → Option (List ℕ) → Bool
+follows number None = false
+follows number (Some rest) = has_setting number (descriptors rest)
 
 -- for each of the 256 numbers, whether an interface has it
 unfoldable pub interface_numbers : List (List ℕ) → List Bool

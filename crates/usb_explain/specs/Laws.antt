@@ -19,7 +19,7 @@ use Rattle.usb_explain.specs.Findings.{is_here}
 use Rattle.usb_explain.specs.Outline.{Described, Entry, bytes_of, end_of, entries, findings_of, outline}
 use Rattle.usb_explain.specs.Uncovered.{most_uncovered}
 use Rattle.usb_explain.specs.Subjects.{Subject}
-use Rattle.usb_explain.specs.Trees.{TreeDescriptor, tree_descriptor, tree_descriptors}
+use Rattle.usb_walk.specs.Trees.{TreeDescriptor, tree_descriptor, tree_descriptors}
 
 -- a place and a length
 pub record Span : Type 0 where

@@ -1,9 +1,6 @@
 pub mod Subjects
-pub mod Positions
 pub mod Standings
-pub mod Roles
 pub mod SetStart
-pub mod Owners
 pub mod Contexts
 pub mod Findings
 pub mod Associations
@@ -16,7 +13,6 @@ pub mod Containers
 pub mod Faults
 pub mod Lines
 pub mod Uncovered
-pub mod Trees
 pub mod Laws
 pub mod OwnedEndpoints
 pub mod Names
@@ -36,7 +32,6 @@ pub mod Fields
 pub mod FieldLaws
 pub mod FindingLines
 pub mod RemarkNumbers
-pub mod RemarkPlaces
 pub mod PlacedRemarks
 pub mod RemarkValues
 pub mod DeviceRemarks

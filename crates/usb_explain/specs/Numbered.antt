@@ -3,15 +3,15 @@ use Rattle.std.specs.Prelude.{◌≡◌, ℕ, zero, suc, List, [], ◌∷◌, le
 use Rattle.std.specs.Option.{option_map}
 use Rattle.usb_file_data.specs.declared.cause.Found.{Found}
 use Rattle.usb_names.specs.declared.codes.ClassCodes.{ClassCodes}
-use Rattle.usb_explain.specs.declared.owner.DescriptorOwner.{DescriptorOwner}
-use Rattle.usb_explain.specs.declared.position.Position.{Position}
-use Rattle.usb_explain.specs.declared.role.Role.{Role}
+use Rattle.usb_walk.specs.declared.owner.DescriptorOwner.{DescriptorOwner}
+use Rattle.usb_walk.specs.declared.position.Position.{Position}
+use Rattle.usb_walk.specs.declared.role.Role.{Role}
 use Rattle.usb_explain.specs.declared.speed.SetSpeed.{SetSpeed}
-use Rattle.usb_explain.specs.Contexts.{codes_of, depth_of}
+use Rattle.usb_walk.specs.Surroundings.{codes_of, depth_of}
 use Rattle.usb_explain.specs.Outline.{Described, outline}
-use Rattle.usb_explain.specs.Owners.{owner_of}
-use Rattle.usb_explain.specs.Positions.{first_position, position_after, position_at}
-use Rattle.usb_explain.specs.Roles.{next_role}
+use Rattle.usb_walk.specs.Owners.{owner_of}
+use Rattle.usb_walk.specs.Positions.{first_position, position_after, position_at}
+use Rattle.usb_walk.specs.Roles.{next_role}
 
 -- a descriptor at its position: what it is there, and its bytes
 pub record Numbered : Type 0 where

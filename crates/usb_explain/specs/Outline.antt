@@ -4,21 +4,21 @@ use Rattle.std.specs.Option.{option_copied, option_map}
 use Rattle.usb_file_data.specs.declared.cause.Found.{Found}
 use Rattle.usb_names.specs.declared.codes.ClassCodes.{ClassCodes}
 use Rattle.usb_explain.specs.declared.descriptor.Descriptor.{Descriptor}
-use Rattle.usb_explain.specs.declared.owner.DescriptorOwner.{DescriptorOwner}
+use Rattle.usb_walk.specs.declared.owner.DescriptorOwner.{DescriptorOwner}
 use Rattle.usb_explain.specs.declared.standing.Standing.{Standing}
-use Rattle.usb_explain.specs.declared.place.Place.{Place}
-use Rattle.usb_explain.specs.declared.role.Role.{Role}
+use Rattle.usb_walk.specs.declared.place.Place.{Place}
+use Rattle.usb_walk.specs.declared.role.Role.{Role}
 use Rattle.usb_explain.specs.declared.speed.SetSpeed.{SetSpeed}
 use Rattle.usb_explain.specs.Associations.{has_associations}
 use Rattle.usb_explain.specs.Bindings.{bound_at}
-use Rattle.usb_explain.specs.Contexts.{codes_of, depth_of, interface_number, one_speed_at, rest_of_set, speed_of}
+use Rattle.usb_explain.specs.Contexts.{one_speed_at, speed_of}
+use Rattle.usb_walk.specs.Surroundings.{codes_of, depth_of, interface_number, rest_of_set}
 use Rattle.usb_explain.specs.Findings.{found_at}
-use Rattle.usb_explain.specs.InterfaceNumbers.{is_late, missing_interface}
-use Rattle.usb_explain.specs.Owners.{owner_of}
-use Rattle.usb_explain.specs.RemarkPlaces.{place_in}
-use Rattle.usb_explain.specs.Roles.{next_role}
+use Rattle.usb_explain.specs.InterfaceNumbers.{follows, is_late, missing_interface}
+use Rattle.usb_walk.specs.Owners.{owner_of}
+use Rattle.usb_walk.specs.Places.{place_in}
+use Rattle.usb_walk.specs.Roles.{next_role}
 use Rattle.usb_explain.specs.SetStart.{entered}
-use Rattle.usb_explain.specs.SettingRemarks.{follows}
 use Rattle.usb_explain.specs.Standings.{passed, start}
 
 -- A descriptor of an input: its place in bytes and among sets, settings and endpoints, its bytes, what it is, how deep and whose,

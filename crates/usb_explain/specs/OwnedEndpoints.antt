@@ -14,12 +14,12 @@ use Rattle.usb_file_data.specs.File.{other_sets}
 use Rattle.usb_file_data.specs.Findings.{found_in_order, part_of_kind}
 use Rattle.usb_file_data.specs.Inputs.{IsInput}
 use Rattle.usb_file_data.specs.Places.{at_each}
-use Rattle.usb_explain.specs.declared.owner.DescriptorOwner.{DescriptorOwner}
-use Rattle.usb_explain.specs.declared.role.Role.{Role}
-use Rattle.usb_explain.specs.declared.role.Role.TheVariants as roles
+use Rattle.usb_walk.specs.declared.owner.DescriptorOwner.{DescriptorOwner}
+use Rattle.usb_walk.specs.declared.role.Role.{Role}
+use Rattle.usb_walk.specs.declared.role.Role.TheVariants as roles
 use Rattle.usb_explain.specs.declared.speed.SetSpeed.{SetSpeed}
 use Rattle.usb_explain.specs.Outline.{Described, outline}
-use Rattle.usb_explain.specs.Owners.{of_endpoint, of_interface, of_set}
+use Rattle.usb_walk.specs.Owners.{of_endpoint, of_interface, of_set}
 
 -- an endpoint by what it is an owner of, which has its set, its interface, its setting and its address, and its bytes
 pub record OwnedEndpoint : Type 0 where

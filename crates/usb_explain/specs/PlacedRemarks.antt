@@ -4,7 +4,7 @@ use Rattle.std.specs.Fmt.{decimal}
 use Rattle.std.specs.List.{flat_map}
 use Rattle.usb_file_data.specs.FindingLine.{part_word}
 use Rattle.usb_file_data.specs.declared.cause.Found.{Found}
-use Rattle.usb_explain.specs.declared.place.Place.{Place}
+use Rattle.usb_walk.specs.declared.place.Place.{Place}
 use Rattle.usb_explain.specs.declared.placed_remark.PlacedRemark.{PlacedRemark}
 use Rattle.usb_explain.specs.declared.remark.Remark.{Remark}
 use Rattle.usb_explain.specs.declared.speed.SetSpeed.{SetSpeed}

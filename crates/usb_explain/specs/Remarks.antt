@@ -10,8 +10,8 @@ use Rattle.usb_set.specs.Descriptors.{packet_size_of, transfer_type_of}
 use Rattle.usb_explain.specs.declared.speed.SetSpeed.{SetSpeed}
 use Rattle.usb_explain.specs.declared.speed.SetSpeed.TheVariants.{Low, Full, LowOrFull, High, FullOrHigh, Super}
 use Rattle.usb_explain.specs.Outline.{Described}
-use Rattle.usb_explain.specs.declared.role.Role.{Role}
-use Rattle.usb_explain.specs.declared.role.Role.TheVariants as roles
+use Rattle.usb_walk.specs.declared.role.Role.{Role}
+use Rattle.usb_walk.specs.declared.role.Role.TheVariants as roles
 use Rattle.usb_explain.specs.declared.remark.IntervalRange.{IntervalRange}
 use Rattle.usb_explain.specs.declared.remark.PacketSizes.{PacketSizes}
 use Rattle.usb_explain.specs.declared.remark.PacketSizes.TheVariants.{NoEndpoint, Only, UpTo, EightTo64, EightTo64Or512}

@@ -6,7 +6,7 @@ use Rattle.usb_set.specs.Descriptors.{packet_size_of, transfer_type_of}
 use Rattle.usb_set.specs.declared.endpoint.TransferType.{TransferType}
 use Rattle.usb_set.specs.declared.endpoint.TransferType.TheVariants.{Control, Isochronous, Bulk, Interrupt}
 use Rattle.usb_explain.specs.declared.speed_evidence.Evidence.{Evidence}
-use Rattle.usb_explain.specs.Roles.{is_endpoint, is_interface}
+use Rattle.usb_walk.specs.Roles.{is_endpoint, is_interface}
 use Rattle.std.specs.Option.{option_map, option_or}
 use Rattle.usb_explain.specs.declared.device_facts.DeviceFacts.{DeviceFacts}
 use Rattle.usb_explain.specs.declared.speed.SetSpeed.{SetSpeed}

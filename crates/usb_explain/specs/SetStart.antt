@@ -7,13 +7,13 @@ use Rattle.usb_explain.specs.declared.speed.SetSpeed.{SetSpeed}
 use Rattle.usb_explain.specs.declared.speed.SetSpeed.TheVariants.{FullOrHigh}
 use Rattle.usb_explain.specs.declared.set_speed.Background.{Background}
 use Rattle.usb_explain.specs.DeviceFacts.{facts_of_device, facts_of_qualifier}
-use Rattle.usb_explain.specs.Trees.{descriptors}
+use Rattle.usb_walk.specs.Trees.{descriptors}
 use Rattle.usb_explain.specs.SetSpeeds.{evidence_of, other_speed, side_speed, speed_by, survey_of}
-use Rattle.usb_explain.specs.declared.role.Role.{Role}
-use Rattle.usb_explain.specs.declared.role.Role.TheVariants.{Configuration, Device}
+use Rattle.usb_walk.specs.declared.role.Role.{Role}
+use Rattle.usb_walk.specs.declared.role.Role.TheVariants.{Configuration, Device}
 use Rattle.usb_explain.specs.declared.device_facts.DeviceFacts.{DeviceFacts}
 use Rattle.usb_explain.specs.declared.standing.Standing.{Standing}
-use Rattle.usb_explain.specs.Positions.{position_at}
+use Rattle.usb_walk.specs.Positions.{position_at}
 
 -- what is known of sets by the device or the qualifier before them, beside a speed that is known, and the device's other speed
 unfoldable pub background_of : Option SetSpeed → DeviceFacts → Option SetSpeed → Background

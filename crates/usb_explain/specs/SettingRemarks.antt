@@ -5,8 +5,8 @@ use Rattle.std.specs.List.{list_any, take_while}
 use Rattle.usb_set.specs.Descriptors.{transfer_type_of}
 use Rattle.usb_set.specs.declared.endpoint.TransferType.{TransferType}
 use Rattle.usb_set.specs.declared.endpoint.TransferType.TheVariants.{Isochronous, Bulk, Interrupt}
-use Rattle.usb_explain.specs.declared.owner.DescriptorOwner.{DescriptorOwner}
-use Rattle.usb_explain.specs.declared.owner.InterfaceSetting.{InterfaceSetting}
+use Rattle.usb_walk.specs.declared.owner.DescriptorOwner.{DescriptorOwner}
+use Rattle.usb_walk.specs.declared.owner.InterfaceSetting.{InterfaceSetting}
 use Rattle.usb_explain.specs.declared.speed.SetSpeed.{SetSpeed}
 use Rattle.usb_explain.specs.declared.speed.SetSpeed.TheVariants.{High, Super}
 use Rattle.usb_explain.specs.declared.remark.Remark.{Remark}
@@ -14,8 +14,8 @@ use Rattle.usb_explain.specs.declared.remark.Remark.TheVariants as remarks
 use Rattle.usb_explain.specs.declared.setting_remark.Wanted.{Wanted}
 use Rattle.usb_explain.specs.declared.setting_remark.Wanted.TheVariants as wanted
 use Rattle.usb_explain.specs.RemarkValues.{remark_if}
-use Rattle.usb_explain.specs.Roles.{is_endpoint, is_interface}
-use Rattle.usb_explain.specs.Trees.{descriptors}
+use Rattle.usb_walk.specs.Roles.{is_endpoint, is_interface}
+use Rattle.usb_walk.specs.Trees.{descriptors}
 
 -- ---- the descriptors of a setting
 
@@ -100,19 +100,6 @@ default_remark Super transfer owner size = None
 default_remark speed Isochronous owner size = remark_if (in_default_setting owner && not (size == 0)) (remarks.DefaultIsochronous size)
 default_remark High Interrupt owner size = remark_if (in_default_setting owner && nat_lt 64 size) (remarks.DefaultInterrupt size)
 default_remark speed transfer owner size = None
-
--- an interface of this number
-abbrev pub is_numbered : ℕ → List ℕ → Bool
-is_numbered number d = is_interface d && (slice_index d 2 == number)
-
--- another setting of the interface follows
-unfoldable pub has_setting : ℕ → List (List ℕ) → Bool
-has_setting number ds = list_any (is_numbered number) ds
-
--- so it is in the rest of a set, where all of that is there
-abbrev pub follows : ℕ → Option (List ℕ) → Bool
-follows number None = false
-follows number (Some rest) = has_setting number (descriptors rest)
 
 -- Packets of 0 bytes have no data: an endpoint has them where another setting has greater ones (5.6.3 and 5.7.3).
 abbrev pub empty_remark : Option DescriptorOwner → ℕ → Bool → Option (List ℕ) → Option Remark

@@ -1,11 +1,11 @@
 -- What came before a descriptor in an input, and what has come after it.
 use Rattle.std.specs.Prelude.{ℕ, List, slice_index, slice_set, replicate, true, false, Some, None}
 use Rattle.usb_names.specs.declared.codes.ClassCodes.{ClassCodes}
-use Rattle.usb_explain.specs.declared.role.Role.{Role}
-use Rattle.usb_explain.specs.declared.role.Role.TheVariants.{Device, Interface, Qualifier}
+use Rattle.usb_walk.specs.declared.role.Role.{Role}
+use Rattle.usb_walk.specs.declared.role.Role.TheVariants.{Device, Interface, Qualifier}
 use Rattle.usb_explain.specs.declared.speed.SetSpeed.TheVariants.{FullOrHigh}
 use Rattle.usb_explain.specs.declared.standing.Standing.{Standing}
-use Rattle.usb_explain.specs.Positions.{first_position, position_after}
+use Rattle.usb_walk.specs.Positions.{first_position, position_after}
 use Rattle.usb_explain.specs.DeviceFacts.{facts_of_device, facts_of_qualifier}
 
 -- at the first byte of an input

@@ -1,12 +1,11 @@
 //! Whether the sets of a device or a qualifier have associations.
 ghost use Rattle.std.specs.Prelude.{◌≡◌};
 ghost use Rattle.usb_explain.specs.Associations.{are_whole, associations_in, has_association, has_associations, is_whole};
-ghost use Rattle.usb_explain.specs.Trees.{descriptors};
+ghost use Rattle.usb_walk.specs.Trees.{descriptors};
 
-use crate::rest_lines::first_descriptor;
-use crate::role::{Role, is_association};
 use crate::set_start::sets_ahead;
 use usb_fields::{after, byte_at, word_at};
+use usb_walk::{Role, first_descriptor, is_association};
 
 /// Whether one of the descriptors of these bytes is an association.
 fn has_association(set: &[u8]) -> bool

@@ -4,9 +4,9 @@ ghost use Rattle.std.specs.Option.{option_or};
 ghost use Rattle.usb_explain.specs.Bindings.{binds, bound_at};
 ghost use Rattle.usb_explain.specs.inside.Walking.{AllBound, bound_cell, bound_first, bound_with};
 
-use crate::role::is_association;
 use std::marker::Model;
 use usb_fields::byte_at;
+use usb_walk::is_association;
 
 /// In a cell of a number that no association binds.
 const UNBOUND: u16 = u16::MAX;

@@ -4,10 +4,10 @@ ghost use Rattle.std.specs.Option.{option_copied};
 ghost use Rattle.usb_explain.specs.ClassRemarks.{below_least, class_release, class_release_remark, functional_remark, hid_length, hid_length_remark, hid_report_remark, is_hid, is_of_endpoint, late_remark, least_length, missing_remark, report_remark};
 
 use crate::interface_numbers::{is_functional, is_of_class};
-use crate::owner::DescriptorOwner;
 use crate::remark::{Remark, remark_if};
 use usb_fields::{byte_at, word_at};
 use usb_names::ClassCodes;
+use usb_walk::DescriptorOwner;
 
 /// Whether it is the HID descriptor of a HID interface.
 fn is_hid(interface: Option<ClassCodes>, d: &[u8]) -> bool

@@ -1,10 +1,8 @@
 //! A descriptor of an input, at its place.
-use crate::owner::DescriptorOwner;
-use crate::place::Place;
-use crate::role::Role;
 use crate::speed::SetSpeed;
 use usb_file_data::Found;
 use usb_names::ClassCodes;
+use usb_walk::{DescriptorOwner, Place, Role};
 
 /// A descriptor of an input, with what is known of it at its place.
 #[derive(Clone, Copy, Debug, PartialEq, Eq, Hash)]

@@ -2,13 +2,12 @@
 ghost use Rattle.std.specs.Prelude.{◌≡◌};
 ghost use Rattle.std.specs.Option.{option_copied};
 ghost use Rattle.usb_explain.specs.EndpointAddresses.{another, endpoints_remark, is_another, third};
-ghost use Rattle.usb_explain.specs.Trees.{descriptors};
+ghost use Rattle.usb_walk.specs.Trees.{descriptors};
 
 use crate::remark::{Remark, remark_if};
-use crate::rest_lines::first_descriptor;
-use crate::role::is_endpoint;
 use crate::speed::SetSpeed;
 use usb_fields::byte_at;
+use usb_walk::{first_descriptor, is_endpoint};
 
 /// Whether it is an endpoint that isn't endpoint zero and has neither of these addresses.
 fn is_another(one: u8, other: u8, d: &[u8]) -> bool

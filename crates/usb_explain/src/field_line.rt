@@ -15,12 +15,12 @@ use crate::field::Field;
 use crate::fields::Fields;
 use crate::form::put_form;
 use crate::line::NAME_WIDTH;
-use crate::role::Role;
 use crate::string_names::Names;
 use crate::subject::Subject;
 use std::alloc::AllocError;
 use usb_names::ClassDescriptor;
 use usb_text::Page;
+use usb_walk::Role;
 
 /// Puts the lines of the fields of a descriptor that has this row, as `          bMaxPower              50 (100 mA)`. A brief explanation has none.
 ///

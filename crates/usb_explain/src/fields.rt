@@ -9,7 +9,6 @@ ghost use Rattle.usb_explain.specs.inside.FieldsLeft.{is_name, layout_has_words,
 ghost use Rattle.usb_explain.specs.inside.Walking.{layout_of};
 
 use crate::field::Field;
-use crate::role::Role;
 use crate::standard_layouts::{
     DescriptorLayout, association_layout, configuration_layout, device_layout, endpoint_layout,
     interface_layout, qualifier_layout,
@@ -18,6 +17,7 @@ use crate::table_names::row_in;
 use std::marker::Model;
 use usb_fields::{after, prefix};
 use usb_names::{ClassCodes, ClassDescriptor, ClassField, Form};
+use usb_walk::Role;
 
 /// The fields of a descriptor that are left, in the order of the bytes. In a contract it is the list of them.
 ///

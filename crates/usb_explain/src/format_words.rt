@@ -5,16 +5,16 @@ ghost use Rattle.std.specs.Option.{option_copied};
 ghost use Rattle.usb_text.specs.Shown.{showing_all};
 ghost use Rattle.usb_explain.specs.Fields.{fields_of, placed_of};
 ghost use Rattle.usb_explain.specs.FormatWords.{format_shown, frame_shown, range_shown, rate_shown, value_of};
-ghost use Rattle.usb_explain.specs.declared.role.Role.TheVariants as roles;
+ghost use Rattle.usb_walk.specs.declared.role.Role.TheVariants as roles;
 
 use crate::field::Field;
 use crate::fields::Fields;
 use crate::form::put_number;
-use crate::role::Role;
 use crate::speed::put_frame_time;
 use std::alloc::AllocError;
 use usb_names::ClassCodes;
 use usb_text::Page;
+use usb_walk::Role;
 
 /// Puts the size and the default interval of a video frame, `, 1280 x 720, 33.3333 ms`, or the rates of an audio format,
 /// `, 44100 Hz, 48000 Hz` or `, 8000 to 48000 Hz`; nothing where one of these fields is missing, or of another descriptor.

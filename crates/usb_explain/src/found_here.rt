@@ -4,10 +4,9 @@ ghost use Rattle.usb_file_data.specs.Places.{finding};
 ghost use Rattle.usb_file_data.specs.Causes.{rule_of};
 ghost use Rattle.usb_explain.specs.Findings.{association_can, can_break, device_can, device_part, endpoint_can, finding_at, found_at, in_set, interface_can, is_here, is_same, part_number, qualifier_can, set_can};
 
-use crate::position::Position;
-use crate::role::Role;
 use crate::standing::Standing;
 use usb_file_data::{Cause, Finding, Found, Part};
+use usb_walk::{Position, Role};
 
 impl Standing {
     /// How many of these findings, from the first on, are of a descriptor of this role.
@@ -56,25 +55,23 @@ impl Standing {
         match role {
             Role::Device => part_finding(cause, device_part(cause)),
             Role::Qualifier => part_finding(cause, Part::Other),
-            Role::Association => at.finding(cause, at.associations, 0),
-            Role::Interface => at.finding(cause, at.settings, 0),
-            Role::Endpoint => at.finding(cause, at.setting, at.endpoints),
-            _ => at.finding(cause, 0, 0),
+            Role::Association => in_set(at, cause, at.associations, 0),
+            Role::Interface => in_set(at, cause, at.settings, 0),
+            Role::Endpoint => in_set(at, cause, at.setting, at.endpoints),
+            _ => in_set(at, cause, 0, 0),
         }
     }
 }
 
-impl Position {
-    fn finding(&self, cause: Cause, setting: usize, endpoint: usize) -> Finding
-        ensures { result ≡ in_set self.now cause setting endpoint }
-    {
-        Finding {
-            rule: cause.rule().number(),
-            part: self.part(),
-            set: self.set,
-            setting,
-            endpoint,
-        }
+fn in_set(at: &Position, cause: Cause, setting: usize, endpoint: usize) -> Finding
+    ensures { result ≡ in_set at.now cause setting endpoint }
+{
+    Finding {
+        rule: cause.rule().number(),
+        part: at.part(),
+        set: at.set,
+        setting,
+        endpoint,
     }
 }
 

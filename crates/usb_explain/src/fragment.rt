@@ -13,9 +13,7 @@ use crate::class_remark::hid_length;
 use crate::descriptor::Descriptor;
 use crate::descriptor_lines::put_descriptor;
 use crate::manner::Manner;
-use crate::place::outside;
-use crate::rest_lines::{descriptor_length, put_rest};
-use crate::role::{Role, is_association, is_interface, typed_role};
+use crate::rest_lines::put_rest;
 use crate::set_speed::other_speed;
 use crate::setup_lines::{is_setup, put_setup};
 use crate::speed::SetSpeed;
@@ -26,6 +24,7 @@ use usb_fields::{after, byte_at, descriptor_type, prefix};
 use usb_file_data::{Part, names_languages};
 use usb_names::ClassCodes;
 use usb_text::{Lines, OutFault, Page};
+use usb_walk::{Role, descriptor_length, is_association, is_interface, outside, typed_role};
 
 /// Writes the explanation of a fragment of an input: of descriptors one after another, of which no owner is asked for, and of the
 /// bytes after them; or of a setup packet, which has eight bytes.

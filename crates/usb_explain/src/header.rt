@@ -1,13 +1,13 @@
 //! A remark on wTotalLength of a class header.
 ghost use Rattle.std.specs.Prelude.{◌≡◌, ◌≤◌, length};
 ghost use Rattle.std.specs.Option.{option_copied};
-ghost use Rattle.usb_explain.specs.Trees.{descriptors};
+ghost use Rattle.usb_walk.specs.Trees.{descriptors};
 ghost use Rattle.usb_explain.specs.Headers.{audio_place, class_length, header_place, header_remark, is_class_descriptor, is_header, is_of, total_length_place, total_remark};
 
 use crate::remark::Remark;
-use crate::rest_lines::descriptor_length;
 use usb_fields::{after, byte_at, prefix, word_at};
 use usb_names::ClassCodes;
+use usb_walk::descriptor_length;
 
 fn is_of(class: u8, subclass: u8, codes: ClassCodes) -> bool
     ensures { result ≡ is_of class subclass codes }

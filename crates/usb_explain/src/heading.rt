@@ -13,7 +13,6 @@ use crate::endpoint::put_endpoint_words;
 use crate::format_words::put_format_words;
 use crate::line::put_place;
 use crate::raw::{put_device_words, put_qualifier_words, put_row_words};
-use crate::role::Role;
 use crate::set::{put_association_words, put_configuration_words, put_interface_words};
 use crate::string::{put_languages_words, put_string_words};
 use crate::subject::Subject;
@@ -21,6 +20,7 @@ use std::alloc::AllocError;
 use usb_fields::byte_at;
 use usb_names::ClassDescriptor;
 use usb_text::Page;
+use usb_walk::Role;
 
 /// Puts the heading of a descriptor that has this row, as `    interface 0 alternate 0, HID / boot interface / keyboard, 1 endpoint @27+9`.
 ///

@@ -1,13 +1,12 @@
 //! The numbers of the interfaces of a set, and which of them a descriptor names.
 ghost use Rattle.std.specs.Prelude.{◌≡◌, ◌<◌, ◌+◌, ◌^◌, ◌||◌, ℕ, true, false, length, replicate, slice_set};
 ghost use Rattle.std.specs.List.{list_any, range_with_len};
-ghost use Rattle.usb_explain.specs.InterfaceNumbers.{first_missing, function_interfaces, has_data_interface, has_number, is_functional, is_late, is_of_class, missing_interface, named_interfaces};
-ghost use Rattle.usb_explain.specs.SettingRemarks.{is_numbered};
+ghost use Rattle.usb_explain.specs.InterfaceNumbers.{first_missing, function_interfaces, has_data_interface, has_number, is_functional, is_late, is_numbered, is_of_class, missing_interface, named_interfaces};
 
-use crate::role::{Role, is_interface};
 use std::marker::Model;
 use usb_fields::{after, byte_at, prefix};
 use usb_names::ClassCodes;
+use usb_walk::{Role, is_interface};
 
 /// The numbers of the interfaces of a set.
 #[derive(Clone, Debug, Drop)]

@@ -1,17 +1,16 @@
 //! Which interfaces are still to come in a set.
 ghost use Rattle.std.specs.Prelude.{◌≡◌, ◌≤◌, ◌<◌, ◌+◌, ◌-◌, ◌^◌, [], ℕ, Some, drop, IfSome, if◌then◌else◌, length, slice_index};
 ghost use Rattle.std.specs.Option.{option_copied};
-ghost use Rattle.usb_explain.specs.declared.position.Position.{Position};
-ghost use Rattle.usb_explain.specs.Positions.{position_at};
-ghost use Rattle.usb_explain.specs.Roles.{next_role};
-ghost use Rattle.usb_explain.specs.SettingRemarks.{follows, is_numbered};
-ghost use Rattle.usb_explain.specs.Trees.{descriptors};
+ghost use Rattle.usb_walk.specs.declared.position.Position.{Position};
+ghost use Rattle.usb_walk.specs.Positions.{position_at};
+ghost use Rattle.usb_walk.specs.Roles.{next_role};
+ghost use Rattle.usb_explain.specs.InterfaceNumbers.{follows, is_numbered};
+ghost use Rattle.usb_walk.specs.Trees.{descriptors};
 ghost use Rattle.usb_explain.specs.inside.Coming.{Awaits, Counts};
 
-use crate::rest_lines::first_descriptor;
-use crate::role::{Role, is_interface};
 use std::marker::Model;
 use usb_fields::{after, byte_at, prefix, word_at};
+use usb_walk::{Role, first_descriptor, is_interface};
 
 /// How many descriptors of interfaces are still to come in a set, for each number, so that no remark has to look through it.
 #[derive(Drop)]

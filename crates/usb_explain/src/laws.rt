@@ -53,7 +53,7 @@ pub fn each_endpoint_has_its_setting()
     ensures { WholeShowsEndpoints }
 {}
 
-/// A walk that goes from one [`Position`](crate::Position) to the next has the descriptors of the outline: with the same places,
+/// A walk that goes from one [`Position`](usb_walk::Position) to the next has the descriptors of the outline: with the same places,
 /// bytes, roles, depths and owners.
 pub fn a_walk_by_numbers_is_the_outline()
     ensures { NumbersAreOutline }

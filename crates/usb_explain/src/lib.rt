@@ -5,9 +5,9 @@
 //! each at its place. A byte that isn't there is read as 0, so that all of it is defined for any bytes. [`explain`] puts the lines
 //! of each descriptor: its heading, what it breaks, what is remarked of it, which is no finding, and its fields.
 //!
-//! - Descriptors are `specs/Outline.antt`: what each is `specs/Roles.antt`, whose `specs/Owners.antt`, what is found at it
-//!   `specs/Findings.antt`, and the speed of its set, as far as its descriptors tell it, `specs/SetSpeeds.antt`. What is remarked
-//!   of one is `specs/Remarks.antt`.
+//! - Descriptors are `specs/Outline.antt`: what each is, how deep and whose is said by `usb_walk`, what is found at it by
+//!   `specs/Findings.antt`, and the speed of its set, as far as its descriptors tell it, by `specs/SetSpeeds.antt`. What is
+//!   remarked of one is `specs/Remarks.antt`.
 //! - Fields are `specs/Fields.antt`, by the layouts of `specs/Layouts.antt` and the rows of `specs/Headers.antt`.
 //! - What is said of an explanation is what its lines show: numbers, bytes, and names of tables, each in its line
 //!   (`specs/Descriptors.antt`, `specs/Explanations.antt`). The words between them are free.
@@ -51,17 +51,13 @@ mod line;
 mod manner;
 mod names;
 mod outline;
-mod owner;
 mod passing_page;
-mod place;
 mod placed_remark;
-mod position;
 mod raw;
 mod remark;
 mod remark_line;
 mod remarks;
 mod rest_lines;
-mod role;
 mod set;
 mod set_speed;
 mod set_start;
@@ -86,11 +82,7 @@ pub use fields::Fields;
 pub use fragment::explain_fragment;
 pub use manner::{Look, Manner};
 pub use outline::Outline;
-pub use owner::{DescriptorOwner, InterfaceSetting};
-pub use place::Place;
 pub use placed_remark::{PlacedRemark, remarks_text};
-pub use position::Position;
 pub use remark::{IntervalRange, PacketSizes, Remark};
-pub use role::Role;
 pub use speed::SetSpeed;
 pub use usb_names::{ClassCodes, Form};

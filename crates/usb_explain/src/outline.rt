@@ -4,19 +4,19 @@ ghost use Rattle.usb_explain.specs.Findings.{found_at};
 ghost use Rattle.usb_explain.specs.Outline.{describe, described, outline};
 ghost use Rattle.usb_explain.specs.SetStart.{entered};
 ghost use Rattle.usb_explain.specs.Standings.{passed};
-ghost use Rattle.usb_explain.specs.Positions.{position_at};
+ghost use Rattle.usb_walk.specs.Positions.{position_at};
 ghost use Rattle.usb_explain.specs.inside.Coming.{Awaits};
-ghost use Rattle.usb_explain.specs.inside.Walking.{Counted};
+ghost use Rattle.usb_walk.specs.Positions.{Counted};
 
 use crate::associations::has_associations;
 use crate::descriptor::Descriptor;
 use crate::later_interfaces::LaterInterfaces;
-use crate::role::Role;
 use crate::speed::SetSpeed;
 use crate::standing::Standing;
 use std::marker::Model;
 use usb_fields::byte_at;
 use usb_file_data::Found;
+use usb_walk::Role;
 
 /// The descriptors of an input that are left, in the order of its bytes. In a contract it is the list of them.
 ///
@@ -41,7 +41,7 @@ impl<'b> Model for Outline<'b> {
     ghost use Rattle.std.specs.Prelude.{◌+◌, ◌<◌, ◌^◌, List, length};
     ghost use Rattle.usb_explain.specs.Outline.{Described, outline_from};
     ghost use Rattle.usb_explain.specs.inside.Coming.{Awaits};
-    ghost use Rattle.usb_explain.specs.inside.Walking.{Counted};
+    ghost use Rattle.usb_walk.specs.Positions.{Counted};
 
     ghost Value = { List Described };
 
@@ -53,7 +53,7 @@ impl<'b> Model for Outline<'b> {
 impl<'b> Outline<'b> {
     /// The outline of these bytes of a device that ran at this speed, if that is known, where these are its findings in the
     /// order of the bytes, as `found_in_order` gives them.
-    #[tactic(auto, using(crate::proofs::Positions::start_at))]
+    #[tactic(auto, using(crate::proofs::Standings::start_at))]
     pub fn of(bytes: &'b [u8], running: Option<SetSpeed>, found: &'b [Found]) -> Outline<'b>
         ensures { result ≡ outline running found.now bytes.now }
     {

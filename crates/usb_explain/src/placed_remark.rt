@@ -6,12 +6,12 @@ ghost use Rattle.usb_explain.specs.PlacedRemarks.{maybe_lines, placed_line, plac
 
 use crate::descriptor::Descriptor;
 use crate::outline::Outline;
-use crate::place::Place;
 use crate::remark::Remark;
 use crate::speed::SetSpeed;
 use std::alloc::{AllocError, Global};
 use std::fmt;
 use usb_file_data::Found;
+use usb_walk::Place;
 
 /// A remark by its number, at its place.
 ///

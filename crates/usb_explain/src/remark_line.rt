@@ -10,11 +10,11 @@ ghost use Rattle.usb_explain.specs.RemarkValues.{there};
 
 use crate::descriptor::Descriptor;
 use crate::remark::{PacketSizes, Remark};
-use crate::role::Role;
 use crate::speed::SetSpeed;
 use std::alloc::AllocError;
 use usb_set::TransferType;
 use usb_text::Page;
+use usb_walk::Role;
 
 fn type_name(transfer: TransferType) -> &'static str
     ensures { IsTrue (is_words result.now) }

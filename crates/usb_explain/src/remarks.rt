@@ -20,12 +20,12 @@ use crate::remark::{
     Remark, association_class_remark, attributes_remark, class_remark, multiple_remark, remark_if,
     size_remark,
 };
-use crate::role::Role;
 use crate::setting_remark::{default_remark, empty_remark, pipe_remark, setting_remark};
 use crate::standing::device_codes;
 use crate::string_remark::{languages_remark, text_remark};
 use usb_fields::{byte_at, word_at};
 use usb_set::TransferType;
+use usb_walk::Role;
 
 impl Descriptor<'_> {
     /// What is remarked of it, which is no finding: reserved classes and bits, values that the speed of its set doesn't have, and

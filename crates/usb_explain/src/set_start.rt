@@ -4,7 +4,6 @@ ghost use Rattle.usb_explain.specs.SetSpeeds.{other_speed};
 ghost use Rattle.usb_explain.specs.SetStart.{after_own_sets, background_after, background_alone, background_by, background_of, entered, has_qualifier, looked, own_ahead, own_sets, own_side, sets_ahead, side_of_qualifier, speed_after_qualifier, surveyed};
 
 use crate::device_facts::DeviceFacts;
-use crate::role::Role;
 use crate::set_speed::{Background, other_speed, side_speed, speed_by};
 use crate::speed::SetSpeed;
 use crate::speed_evidence::Evidence;
@@ -12,6 +11,7 @@ use crate::standing::Standing;
 use crate::survey::survey;
 use usb_fields::{after, byte_at, descriptor_type, prefix, word_at};
 use usb_file_data::after_sets;
+use usb_walk::Role;
 
 impl Standing {
     /// Comes to a descriptor of this role, with which the bytes begin.

@@ -2,15 +2,13 @@
 ghost use Rattle.std.specs.Prelude.{◌≡◌};
 ghost use Rattle.std.specs.Option.{option_copied};
 ghost use Rattle.usb_explain.specs.SettingRemarks.{default_remark, empty_remark, has_functions, has_wanted, in_default_setting, is_bulk_endpoint, is_default, is_interrupt_in, is_wanted, lack_remark, pipe_remark, setting_remark};
-ghost use Rattle.usb_explain.specs.Trees.{descriptors};
+ghost use Rattle.usb_walk.specs.Trees.{descriptors};
 
-use crate::owner::{DescriptorOwner, InterfaceSetting};
 use crate::remark::{Remark, remark_if};
-use crate::rest_lines::descriptor_length;
-use crate::role::{is_endpoint, is_interface};
 use crate::speed::SetSpeed;
 use usb_fields::{after, byte_at, prefix};
 use usb_set::TransferType;
+use usb_walk::{DescriptorOwner, InterfaceSetting, descriptor_length, is_endpoint, is_interface};
 
 /// What the setting of an interface of some classes has to have.
 #[derive(Clone, Copy, Debug, PartialEq, Eq, Hash)]

@@ -1,13 +1,12 @@
 //! Evidence of the speed of a set, in its descriptors.
 ghost use Rattle.std.specs.Prelude.{◌≡◌, false, slice_index};
 ghost use Rattle.usb_explain.specs.SetSpeeds.{evidence_of, has_multiple, is_above_low, is_full, is_high, is_hub_interface, is_slow, is_within};
-ghost use Rattle.usb_explain.specs.Trees.{descriptors};
+ghost use Rattle.usb_walk.specs.Trees.{descriptors};
 ghost use Rattle.usb_explain.specs.inside.Walking.{heard};
 
-use crate::rest_lines::first_descriptor;
-use crate::role::{is_endpoint, is_interface};
 use usb_fields::{byte_at, descriptor_type, word_at};
 use usb_set::TransferType;
+use usb_walk::{first_descriptor, is_endpoint, is_interface};
 
 /// The type of a SuperSpeed endpoint companion (USB 3.2, 9.6.7).
 const COMPANION: u8 = 48;

@@ -1,16 +1,15 @@
 //! What came before a descriptor in an input.
 ghost use Rattle.std.specs.Prelude.{◌≡◌, ◌+◌, ◌<◌, ◌^◌, length};
 ghost use Rattle.usb_explain.specs.Standings.{device_codes, kept, passed, start};
-ghost use Rattle.usb_explain.specs.inside.Walking.{Counted};
+ghost use Rattle.usb_walk.specs.Positions.{Counted};
 
 use crate::bindings::Bindings;
 use crate::device_facts::DeviceFacts;
 use crate::interface_numbers::InterfaceNumbers;
-use crate::position::Position;
-use crate::role::Role;
 use crate::speed::SetSpeed;
 use usb_fields::byte_at;
 use usb_names::ClassCodes;
+use usb_walk::{Position, Role};
 
 /// What came before a descriptor, as far as its explanation depends on it.
 #[derive(Drop)]

@@ -1,12 +1,12 @@
 //! What a set says as a whole, gathered descriptor by descriptor.
 ghost use Rattle.std.specs.Prelude.{◌≡◌, ◌<◌, ◌^◌, length};
-ghost use Rattle.usb_explain.specs.Trees.{descriptors};
+ghost use Rattle.usb_walk.specs.Trees.{descriptors};
 ghost use Rattle.usb_explain.specs.SetSpeeds.{survey_of};
 
 use crate::bindings::Bindings;
 use crate::interface_numbers::InterfaceNumbers;
-use crate::rest_lines::first_descriptor;
 use crate::speed_evidence::Evidence;
+use usb_walk::first_descriptor;
 
 /// Gathers what the bytes of a set say, as far as they go: which association binds each interface, and the numbers of the
 /// interfaces. Answers what they say of the speed.

@@ -11,9 +11,9 @@ ghost use Rattle.usb_text.specs.Written.{is_words};
 ghost use Rattle.usb_explain.specs.Headers.{row_in, row_layout, row_of_bytes};
 ghost use Rattle.usb_explain.specs.inside.FieldsLeft.{layout_has_words};
 
-use crate::role::Role;
 use usb_fields::{after, byte_at};
 use usb_names::{ClassCodes, ClassDescriptor, class_descriptor};
+use usb_walk::Role;
 
 /// The row of the table that a descriptor of these bytes has, after an interface of these codes.
 #[inline(never)]

@@ -28,11 +28,11 @@ use Rattle.usb_file_data.specs.declared.fault.InputFault.{InputFault}
 use Rattle.usb_file_data.specs.declared.fault.InputFault.TheVariants as faults
 use Rattle.usb_file_data.specs.FileFaults.{FileFaulty, NextPart, a_set, a_qualifier, the_languages, a_string, the_end, PartFaulty, SetFaulty, fixed_fault, is_no_string, string_fault}
 use Rattle.usb_file_data.specs.Inputs.{DeviceRefused, HasFault, InputRefused}
-use Rattle.usb_explain.specs.declared.role.Role.TheVariants as roles
+use Rattle.usb_walk.specs.declared.role.Role.TheVariants as roles
 use Rattle.usb_explain.specs.declared.standing.Standing.{Standing}
 use Rattle.usb_explain.specs.Faults.{place_of_fault}
 use Rattle.usb_explain.specs.Laws.{BrokenCoversUpToFault}
-use Rattle.usb_explain.specs.Positions.{noted}
+use Rattle.usb_walk.specs.Positions.{noted}
 use Rattle.usb_explain.specs.Standings.{start}
 use Rattle.usb_explain.specs.Uncovered.{uncovered_in_file, uncovered_in_set, most_uncovered}
 use Rattle.usb_explain.specs.declared.speed.SetSpeed.{SetSpeed}

@@ -13,15 +13,15 @@ use Rattle.usb_set.specs.declared.tree.Endpoint.{Endpoint}
 use Rattle.usb_set.specs.declared.tree.Setting.{Setting}
 use Rattle.usb_set.specs.Descriptors.{descriptor_bytes, endpoint_descriptor}
 use Rattle.usb_set.specs.inside.Trees.{endpoint_bytes, extra_bytes, is_endpoint_typed}
-use Rattle.usb_explain.specs.declared.role.Role.TheVariants as roles
+use Rattle.usb_walk.specs.declared.role.Role.TheVariants as roles
 use Rattle.usb_explain.specs.declared.standing.Standing.{Standing}
 use Rattle.usb_explain.specs.Findings.{can_break, endpoint_can, finding_at, is_here}
-use Rattle.usb_explain.specs.Contexts.{depth_of}
-use Rattle.usb_explain.specs.Owners.{of_endpoint, owner_of, part_in}
-use Rattle.usb_explain.specs.Positions.{noted}
-use Rattle.usb_explain.specs.Roles.{inner_role, typed_role}
+use Rattle.usb_walk.specs.Surroundings.{depth_of}
+use Rattle.usb_walk.specs.Owners.{of_endpoint, owner_of, part_in}
+use Rattle.usb_walk.specs.Positions.{noted}
+use Rattle.usb_walk.specs.Roles.{inner_role, typed_role}
 use Rattle.usb_explain.specs.declared.speed.SetSpeed.{SetSpeed}
-use Rattle.usb_explain.specs.Trees.{endpoint_descriptors, tree_descriptor}
+use Rattle.usb_walk.specs.Trees.{endpoint_descriptors, tree_descriptor}
 use Rattle.usb_explain.proofs.Spans.{Aim, adding}
 use Rattle.usb_explain.proofs.rest.Steps.{four_parts, inner_at, length_is}
 use Rattle.usb_explain.proofs.rest.Seen.{AllHere, Goes, Seen, Step, goes_as, goes_twice, here_both, here_when, seen, whose_interface}

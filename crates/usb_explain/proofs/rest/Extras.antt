@@ -24,16 +24,16 @@ use Rattle.usb_set.specs.Layout.{is_typed, is_typed_raw}
 use Rattle.usb_set.specs.Owners.{association_in}
 use Rattle.usb_set.specs.inside.Trees.{extra_bytes}
 use Rattle.usb_set.proofs.ExtraLemmas.{untyped}
-use Rattle.usb_explain.specs.Trees.{descriptor_length, extra_depth, extra_descriptors, extra_in_tree, extra_owner, extra_role, tree_descriptor}
-use Rattle.usb_explain.specs.declared.role.Role.{Role}
-use Rattle.usb_explain.specs.declared.role.Role.TheVariants as roles
+use Rattle.usb_walk.specs.Trees.{descriptor_length, extra_depth, extra_descriptors, extra_in_tree, extra_owner, extra_role, tree_descriptor}
+use Rattle.usb_walk.specs.declared.role.Role.{Role}
+use Rattle.usb_walk.specs.declared.role.Role.TheVariants as roles
 use Rattle.usb_explain.specs.declared.standing.Standing.{Standing}
 use Rattle.usb_explain.specs.Findings.{association_can, can_break, finding_at, is_here, is_same, part_number}
-use Rattle.usb_explain.specs.Contexts.{depth_of}
-use Rattle.usb_explain.specs.Owners.{owner_of, part_in}
-use Rattle.usb_explain.specs.declared.owner.DescriptorOwner.{DescriptorOwner}
-use Rattle.usb_explain.specs.Positions.{noted}
-use Rattle.usb_explain.specs.Roles.{inner_role, typed_role}
+use Rattle.usb_walk.specs.Surroundings.{depth_of}
+use Rattle.usb_walk.specs.Owners.{owner_of, part_in}
+use Rattle.usb_walk.specs.declared.owner.DescriptorOwner.{DescriptorOwner}
+use Rattle.usb_walk.specs.Positions.{noted}
+use Rattle.usb_walk.specs.Roles.{inner_role, typed_role}
 use Rattle.usb_explain.specs.declared.speed.SetSpeed.{SetSpeed}
 use Rattle.usb_explain.proofs.Spans.{Aim, adding}
 use Rattle.usb_explain.proofs.rest.Steps.{inner_at, length_is}

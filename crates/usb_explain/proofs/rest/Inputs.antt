@@ -31,19 +31,19 @@ use Rattle.usb_file_data.specs.declared.file.Input.TheVariants as inputs
 use Rattle.usb_file_data.specs.Inputs.{Dump, IsInput}
 use Rattle.usb_file_data.proofs.Counts.{all_strings}
 use Rattle.usb_file_data.proofs.Units.{length-units_bytes}
-use Rattle.usb_explain.specs.Trees.{descriptor_length, other_descriptors, set_descriptors, set_descriptors_by, string_descriptors, text_descriptor, tree_descriptor}
+use Rattle.usb_walk.specs.Trees.{descriptor_length, other_descriptors, set_descriptors, set_descriptors_by, string_descriptors, text_descriptor, tree_descriptor}
 use Rattle.usb_explain.specs.declared.speed.SetSpeed.{SetSpeed}
-use Rattle.usb_explain.specs.declared.role.Role.{Role}
-use Rattle.usb_explain.specs.declared.role.Role.TheVariants as roles
+use Rattle.usb_walk.specs.declared.role.Role.{Role}
+use Rattle.usb_walk.specs.declared.role.Role.TheVariants as roles
 use Rattle.usb_explain.specs.declared.standing.Standing.{Standing}
 use Rattle.usb_explain.specs.Findings.{can_break, finding_at, is_here}
-use Rattle.usb_explain.specs.Contexts.{depth_of}
+use Rattle.usb_walk.specs.Surroundings.{depth_of}
 use Rattle.usb_explain.specs.Laws.{WholeHasNoRest, WholeShowsTree, WholeReportsFindings}
-use Rattle.usb_explain.specs.Owners.{of_set, owner_of}
+use Rattle.usb_walk.specs.Owners.{of_set, owner_of}
 use Rattle.usb_explain.specs.SetStart.{entered}
-use Rattle.usb_explain.specs.Positions.{noted}
+use Rattle.usb_walk.specs.Positions.{noted}
 use Rattle.usb_explain.specs.Standings.{passed, start}
-use Rattle.usb_explain.specs.Roles.{is_alone, outer_role, role_if, role_of, string_role}
+use Rattle.usb_walk.specs.Roles.{is_alone, outer_role, role_if, role_of, string_role}
 use Rattle.usb_file_data.specs.Likeness.{names_languages}
 use Rattle.usb_explain.proofs.Spans.{Aim, adding}
 use Rattle.usb_explain.proofs.rest.Walks.{Ends, ShowsAll, Tells, all_tells, ends_here, nothing_left}

@@ -18,17 +18,17 @@ use Rattle.usb_set.proofs.Sound.{Sound, sound}
 use Rattle.usb_set.proofs.Stands.{item_within}
 use Rattle.usb_file_data.proofs.Lists.{bytes_behind}
 use Rattle.usb_explain.specs.declared.speed.SetSpeed.{SetSpeed}
-use Rattle.usb_explain.specs.declared.role.Role.{Role}
-use Rattle.usb_explain.specs.declared.role.Role.TheVariants.{Device, Qualifier, Association, Interface, Endpoint, Raw, Languages, Text}
-use Rattle.usb_explain.specs.declared.role.Role.TheVariants as roles
+use Rattle.usb_walk.specs.declared.role.Role.{Role}
+use Rattle.usb_walk.specs.declared.role.Role.TheVariants.{Device, Qualifier, Association, Interface, Endpoint, Raw, Languages, Text}
+use Rattle.usb_walk.specs.declared.role.Role.TheVariants as roles
 use Rattle.usb_explain.specs.declared.standing.Standing.{Standing}
 use Rattle.usb_explain.specs.Laws.{Cut}
 use Rattle.usb_explain.specs.Outline.{Entry, findings_of}
 use Rattle.usb_explain.specs.Findings.{found_at}
 use Rattle.usb_explain.specs.SetStart.{entered}
-use Rattle.usb_explain.specs.Positions.{noted}
+use Rattle.usb_walk.specs.Positions.{noted}
 use Rattle.usb_explain.specs.Standings.{passed}
-use Rattle.usb_explain.specs.Roles.{inner_role, typed_role}
+use Rattle.usb_walk.specs.Roles.{inner_role, typed_role}
 use Rattle.usb_explain.specs.Uncovered.{uncovered_in_set}
 use Rattle.usb_explain.proofs.Spans.{Aim, walk_shows}
 use Rattle.usb_explain.proofs.rest.Walks.{Ends}

@@ -7,18 +7,18 @@ use Rattle.std.proofs.lemmas.List.Sums.{take_while-cons}
 use Rattle.usb_file_data.specs.declared.cause.Found.{Found}
 use Rattle.usb_file_data.specs.declared.finding.Part.{Part}
 use Rattle.usb_file_data.specs.Places.{when}
-use Rattle.usb_explain.specs.Trees.{descriptor_length, TreeDescriptor, tree_descriptor}
-use Rattle.usb_explain.specs.declared.role.Role.{Role}
+use Rattle.usb_walk.specs.Trees.{descriptor_length, TreeDescriptor, tree_descriptor}
+use Rattle.usb_walk.specs.declared.role.Role.{Role}
 use Rattle.usb_explain.specs.declared.standing.Standing.{Standing}
 use Rattle.usb_explain.specs.Findings.{found_at, is_here}
-use Rattle.usb_explain.specs.Contexts.{depth_of}
+use Rattle.usb_walk.specs.Surroundings.{depth_of}
 use Rattle.usb_explain.proofs.Outlines.{entry_in_tree}
-use Rattle.usb_explain.specs.Owners.{of_interface, of_set, owner_above, owner_of, part_in, setting_in}
-use Rattle.usb_explain.specs.declared.owner.InterfaceSetting.{InterfaceSetting}
-use Rattle.usb_explain.specs.declared.owner.DescriptorOwner.{DescriptorOwner}
+use Rattle.usb_walk.specs.Owners.{of_interface, of_set, owner_above, owner_of, part_in, setting_in}
+use Rattle.usb_walk.specs.declared.owner.InterfaceSetting.{InterfaceSetting}
+use Rattle.usb_walk.specs.declared.owner.DescriptorOwner.{DescriptorOwner}
 use Rattle.usb_explain.specs.SetStart.{entered}
 use Rattle.usb_explain.specs.Standings.{passed}
-use Rattle.usb_explain.specs.Roles.{role_of}
+use Rattle.usb_walk.specs.Roles.{role_of}
 use Rattle.usb_explain.specs.declared.speed.SetSpeed.{SetSpeed}
 use Rattle.usb_explain.proofs.Spans.{Aim, adding}
 use Rattle.usb_explain.proofs.rest.Walks.{Ends}

@@ -24,17 +24,17 @@ use Rattle.usb_set.proofs.Trees.{set_bytes_is, typed_parts}
 use Rattle.usb_file_data.specs.File.{has_no_layout, is_other_kind, sets_bytes, whole_set}
 use Rattle.usb_file_data.proofs.WholeSets.{no_some}
 use Rattle.usb_explain.specs.declared.speed.SetSpeed.{SetSpeed}
-use Rattle.usb_explain.specs.declared.role.Role.{Role}
-use Rattle.usb_explain.specs.declared.role.Role.TheVariants as roles
+use Rattle.usb_walk.specs.declared.role.Role.{Role}
+use Rattle.usb_walk.specs.declared.role.Role.TheVariants as roles
 use Rattle.usb_explain.specs.declared.standing.Standing.{Standing}
 use Rattle.usb_explain.specs.Findings.{can_break, finding_at, is_here, set_can}
-use Rattle.usb_explain.specs.Contexts.{depth_of}
-use Rattle.usb_explain.specs.Owners.{of_set, owner_of}
+use Rattle.usb_walk.specs.Surroundings.{depth_of}
+use Rattle.usb_walk.specs.Owners.{of_set, owner_of}
 use Rattle.usb_explain.specs.SetStart.{entered}
-use Rattle.usb_explain.specs.Positions.{noted}
+use Rattle.usb_walk.specs.Positions.{noted}
 use Rattle.usb_explain.specs.Standings.{passed}
-use Rattle.usb_explain.specs.Roles.{outer_role, role_if, role_of}
-use Rattle.usb_explain.specs.Trees.{extra_descriptors, set_descriptors, set_descriptors_by, setting_descriptors, tree_descriptor}
+use Rattle.usb_walk.specs.Roles.{outer_role, role_if, role_of}
+use Rattle.usb_walk.specs.Trees.{extra_descriptors, set_descriptors, set_descriptors_by, setting_descriptors, tree_descriptor}
 use Rattle.usb_explain.proofs.Spans.{Aim, adding}
 use Rattle.usb_explain.proofs.rest.Steps.{four_parts, length_is}
 use Rattle.usb_explain.proofs.rest.Seen.{Goes, Seen, Step, goes_as, goes_for, goes_twice, seen}

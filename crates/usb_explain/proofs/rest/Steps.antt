@@ -4,15 +4,15 @@ use Rattle.std.specs.Option.{option_map}
 use Rattle.std.proofs.lemmas.Bool.{cond-false, cond-true, le-leb, ne_eqb}
 use Rattle.std.proofs.lemmas.Bool.Decides.{nat_tests}
 use Rattle.std.proofs.Math.Seq.{drop-append_seam, take-append_seam}
-use Rattle.usb_explain.specs.Trees.{descriptor_length, tree_descriptor}
-use Rattle.usb_explain.specs.declared.role.Role.{Role}
+use Rattle.usb_walk.specs.Trees.{descriptor_length, tree_descriptor}
+use Rattle.usb_walk.specs.declared.role.Role.{Role}
 use Rattle.usb_explain.specs.declared.standing.Standing.{Standing}
-use Rattle.usb_explain.specs.Contexts.{depth_of}
-use Rattle.usb_explain.specs.Owners.{owner_of}
-use Rattle.usb_explain.specs.declared.owner.DescriptorOwner.{DescriptorOwner}
+use Rattle.usb_walk.specs.Surroundings.{depth_of}
+use Rattle.usb_walk.specs.Owners.{owner_of}
+use Rattle.usb_walk.specs.declared.owner.DescriptorOwner.{DescriptorOwner}
 use Rattle.usb_explain.specs.SetStart.{entered}
 use Rattle.usb_explain.specs.Standings.{passed}
-use Rattle.usb_explain.specs.Roles.{inner_role, next_role, role_of}
+use Rattle.usb_walk.specs.Roles.{inner_role, next_role, role_of}
 use Rattle.usb_explain.specs.declared.speed.SetSpeed.{SetSpeed}
 use Rattle.usb_explain.specs.Outline.{Entry}
 use Rattle.usb_explain.specs.Findings.{found_at}

@@ -1,16 +1,16 @@
 -- Walks that come to the end of the bytes, and their text.
 use Rattle.std.proofs.Common.{◌≡◌, ◌≤◌, ℕ, zero, suc, List, [], ◌++◌, flat_map, length, map, drop, Option, Some, None, is_some, ◌==◌, ◌&&◌, sym, ap, subst, ◌∙◌, arith, append-nil, length-drop, Bool, true, false, cond, ◌∷◌, refl}
-use Rattle.usb_explain.specs.declared.role.Role.{Role}
+use Rattle.usb_walk.specs.declared.role.Role.{Role}
 use Rattle.usb_explain.specs.declared.standing.Standing.{Standing}
 use Rattle.usb_explain.specs.Outline.{Entry, after_next, end_of, entries, entry_next, findings_of, left_next, outline}
 use Rattle.usb_explain.specs.Laws.{EachFindingOnce, HasItsOwnFindings, as_in_tree}
 use Rattle.usb_explain.specs.Findings.{finding_at, found_at, is_here}
 use Rattle.std.specs.List.{AllByRecursion, take_while}
 use Rattle.std.proofs.lemmas.List.Sums.{take_while-cons}
-use Rattle.usb_explain.specs.Roles.{next_role}
+use Rattle.usb_walk.specs.Roles.{next_role}
 use Rattle.usb_explain.specs.Standings.{start}
 use Rattle.usb_explain.specs.declared.speed.SetSpeed.{SetSpeed}
-use Rattle.usb_explain.specs.Trees.{tree_descriptors}
+use Rattle.usb_walk.specs.Trees.{tree_descriptors}
 use Rattle.usb_file_data.specs.declared.file.Input.{Input}
 use Rattle.usb_file_data.specs.Findings.{found_in_order}
 use Rattle.usb_explain.proofs.Outlines.{entry_in_tree, found_same, next_bounds, tree_same}
@@ -19,7 +19,7 @@ use Rattle.usb_file_data.specs.Numbers.{rule_number, rule_numbered}
 use Rattle.usb_file_data.specs.declared.cause.Cause.{Cause}
 use Rattle.usb_file_data.specs.Causes.{rule_of}
 use Rattle.usb_file_data.proofs.RuleNumbers.{numbered_rule}
-use Rattle.usb_explain.specs.declared.role.Role.TheVariants as roles
+use Rattle.usb_walk.specs.declared.role.Role.TheVariants as roles
 use Rattle.std.proofs.lemmas.Bool.{eqb-true}
 use Rattle.std.proofs.lemmas.List.{length-map}
 use Rattle.usb_file_data.specs.declared.rule.Rule.{Rule}

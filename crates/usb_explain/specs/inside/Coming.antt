@@ -1,7 +1,7 @@
 -- Which interfaces are still to come in a set.
 use Rattle.std.specs.Prelude.{◌≡◌, ◌≤◌, ◌<◌, ◌+◌, ℕ, List, [], ◌∷◌, if◌then◌else◌, length, slice_index, take}
-use Rattle.usb_explain.specs.SettingRemarks.{is_numbered}
-use Rattle.usb_explain.specs.Trees.{descriptors}
+use Rattle.usb_explain.specs.InterfaceNumbers.{is_numbered}
+use Rattle.usb_walk.specs.Trees.{descriptors}
 
 -- how many interfaces of this number there are
 abbrev pub interfaces_of : ℕ → List (List ℕ) → ℕ

@@ -1,16 +1,14 @@
 -- What a walk keeps.
-use Rattle.std.specs.Prelude.{◌≡◌, ◌≢◌, slice_index, ℕ, List, Bool, ◌==◌, ◌||◌, ◌<◌, ◌∷◌, if◌then◌else◌, length, Option, map, ◌≤◌, Some, None}
+use Rattle.std.specs.Prelude.{◌≡◌, ◌≢◌, slice_index, ℕ, List, Bool, ◌==◌, ◌||◌, ◌<◌, ◌∷◌, if◌then◌else◌, length, Option, map, Some, None}
 use Rattle.std.specs.List.{list_any}
 use Rattle.usb_explain.specs.SetSpeeds.{excludes_low, hints_low_or_full, is_companion, proves_full, proves_high}
 use Rattle.usb_explain.specs.declared.speed_evidence.Evidence.{Evidence}
 use Rattle.std.specs.Option.{option_or}
 use Rattle.usb_explain.specs.Bindings.{binding, bound_at}
-use Rattle.usb_explain.specs.InterfaceNumbers.{has_number}
-use Rattle.usb_explain.specs.SettingRemarks.{has_setting}
+use Rattle.usb_explain.specs.InterfaceNumbers.{has_number, has_setting}
 use Rattle.usb_names.specs.Shown.{field_of}
 use Rattle.usb_explain.specs.declared.standard_layouts.DescriptorLayout.{DescriptorLayout}
 use Rattle.usb_explain.specs.Layouts.{Layout}
-use Rattle.usb_explain.specs.declared.position.Position.{Position}
 
 -- What is heard of the speed of a set, descriptor by descriptor.
 
@@ -63,12 +61,3 @@ pub record Gathers (all : List (List ℕ)) (e : Evidence) (table : List (Option 
 -- the fields, the group and the name of the rest that it has
 abbrev pub layout_of : DescriptorLayout → Layout
 layout_of l = record { fields = map field_of l.fields.now; group = map field_of l.group.now; rest = l.rest.now }
-
--- there are no more of anything than bytes before
-pub record Counted (p : Position) : Type 0 where
-  pub strings : p.strings ≤ p.at
-  pub main_sets : p.main_sets ≤ p.at
-  pub other_sets : p.other_sets ≤ p.at
-  pub associations : p.associations ≤ p.at
-  pub settings : p.settings ≤ p.at
-  pub endpoints : p.endpoints ≤ p.at

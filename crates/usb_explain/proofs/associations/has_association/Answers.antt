@@ -1,5 +1,5 @@
 use Rattle.std.proofs.Common.{◌≡◌, ◌∙◌, true, false, sym}
-use Rattle.usb_explain.specs.Roles.{is_association}
+use Rattle.usb_walk.specs.Roles.{is_association}
 use Rattle.usb_explain.proofs.AssociationSteps.{found_later, found_there, none_there}
 use Rattle.usb_explain.proofs.associations.has_association.Goals as goal
 

@@ -1,6 +1,6 @@
 use Rattle.std.proofs.Common.{◌≡◌, length}
 use Rattle.usb_explain.specs.Associations.{has_association}
-use Rattle.usb_explain.specs.Trees.{descriptors}
+use Rattle.usb_walk.specs.Trees.{descriptors}
 use Rattle.usb_explain.proofs.associations.has_association.Given as goal
 
 abbrev pub invariant-loop-d : goal.invariant-loop-d

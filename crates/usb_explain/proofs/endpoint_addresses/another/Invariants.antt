@@ -1,6 +1,6 @@
 use Rattle.std.proofs.Common.{◌≡◌, length}
 use Rattle.usb_explain.specs.EndpointAddresses.{another}
-use Rattle.usb_explain.specs.Trees.{descriptors}
+use Rattle.usb_walk.specs.Trees.{descriptors}
 use Rattle.usb_explain.proofs.endpoint_addresses.another.Given as goal
 
 abbrev pub invariant-loop-d : goal.invariant-loop-d

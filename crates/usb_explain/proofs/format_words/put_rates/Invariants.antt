@@ -3,7 +3,7 @@ use Rattle.std.specs.List.{flat_map}
 use Rattle.usb_text.specs.Shown.{showing_all}
 use Rattle.usb_explain.specs.FormatWords.{rate_shown}
 use Rattle.usb_explain.specs.Fields.{fields_of}
-use Rattle.usb_explain.specs.declared.role.Role.TheVariants as roles
+use Rattle.usb_walk.specs.declared.role.Role.TheVariants as roles
 use Rattle.usb_explain.proofs.format_words.put_rates.Given as goal
 
 abbrev pub invariant-loop-field : goal.invariant-loop-field

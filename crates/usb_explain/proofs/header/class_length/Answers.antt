@@ -1,7 +1,7 @@
 use Rattle.std.proofs.Common.{◌≡◌, ◌∷◌, ◌∙◌, ◌+◌, ◌-◌, ℕ, List, Some, true, arith, drop, length, length-drop, sym, take}
 use Rattle.std.proofs.lemmas.List.{length-take-le}
-use Rattle.usb_explain.specs.Trees.{descriptor_length, descriptors}
-use Rattle.usb_explain.proofs.Cuts.{descriptors_step}
+use Rattle.usb_walk.specs.Trees.{descriptor_length, descriptors}
+use Rattle.usb_walk.proofs.Cuts.{descriptors_step}
 use Rattle.usb_explain.specs.Headers.{class_length, is_class_descriptor}
 use Rattle.usb_explain.proofs.Classes.{class_length_step}
 use Rattle.usb_explain.proofs.header.class_length.Goals as goal

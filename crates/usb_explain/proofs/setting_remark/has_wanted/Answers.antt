@@ -1,8 +1,8 @@
 use Rattle.std.proofs.Common.{◌≡◌, ◌∷◌, ◌∙◌, ℕ, List, true, false, arith, drop, sym, take}
-use Rattle.usb_explain.specs.Trees.{descriptors}
-use Rattle.usb_explain.specs.Roles.{is_interface}
+use Rattle.usb_walk.specs.Trees.{descriptors}
+use Rattle.usb_walk.specs.Roles.{is_interface}
 use Rattle.usb_explain.specs.SettingRemarks.{is_wanted}
-use Rattle.usb_explain.proofs.Cuts.{descriptors_end, descriptors_step}
+use Rattle.usb_walk.proofs.Cuts.{descriptors_end, descriptors_step}
 use Rattle.usb_explain.proofs.SettingSteps.{none_wanted, wanted_ends, wanted_found, wanted_later}
 use Rattle.usb_explain.proofs.setting_remark.has_wanted.Goals as goal
 

@@ -1,5 +1,5 @@
 use Rattle.std.proofs.Common.{◌≡◌, length}
-use Rattle.usb_explain.specs.Trees.{descriptors}
+use Rattle.usb_walk.specs.Trees.{descriptors}
 use Rattle.usb_explain.specs.SettingRemarks.{has_wanted}
 use Rattle.usb_explain.proofs.setting_remark.has_wanted.Given as goal
 

@@ -1,5 +1,5 @@
 use Rattle.std.proofs.Common.{◌∷◌, arith}
-use Rattle.usb_explain.specs.Trees.{descriptors}
+use Rattle.usb_walk.specs.Trees.{descriptors}
 use Rattle.usb_explain.specs.inside.Walking.{Gathers}
 use Rattle.usb_explain.proofs.Tables.{gathered_all, gathered_on, gathers_none}
 use Rattle.usb_explain.proofs.survey.survey.Goals as goal

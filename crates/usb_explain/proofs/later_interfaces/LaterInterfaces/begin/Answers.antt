@@ -1,7 +1,7 @@
 use Rattle.std.proofs.Common.{◌≡◌, ◌+◌, ℕ, arith, if◌then◌else◌, slice_index}
 use Rattle.std.proofs.lemmas.List.{get_or-replicate, length-replicate}
-use Rattle.usb_explain.specs.SettingRemarks.{is_numbered}
-use Rattle.usb_explain.specs.Trees.{descriptors}
+use Rattle.usb_explain.specs.InterfaceNumbers.{is_numbered}
+use Rattle.usb_walk.specs.Trees.{descriptors}
 use Rattle.usb_explain.specs.inside.Coming.{interfaces_of}
 use Rattle.usb_explain.proofs.Coming.{at_most_one}
 use Rattle.usb_explain.proofs.later_interfaces.LaterInterfaces.begin.Goals as goal

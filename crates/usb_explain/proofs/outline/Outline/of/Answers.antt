@@ -1,6 +1,6 @@
 use Rattle.std.proofs.Common.{arith}
 use Rattle.usb_explain.proofs.Coming.{awaits_start}
-use Rattle.usb_explain.proofs.Positions.{start_at}
+use Rattle.usb_explain.proofs.Standings.{start_at}
 use Rattle.usb_explain.proofs.outline.Outline.of.Goals as goal
 
 pub invariant_of-result : goal.invariant_of-result

@@ -1,14 +1,13 @@
 use Rattle.std.proofs.Common.{◌≡◌, ◌∙◌, ◌∷◌, ◌-◌, drop, ap, ap₂, arith, length, subst, sym, take, rules, List, ℕ}
 use Rattle.std.proofs.lemmas.List.{length-take-le}
-use Rattle.usb_explain.specs.declared.position.Position.{Position}
-use Rattle.usb_explain.specs.declared.role.Role.{Role}
+use Rattle.usb_walk.specs.declared.position.Position.{Position}
+use Rattle.usb_walk.specs.declared.role.Role.{Role}
 use Rattle.usb_explain.specs.declared.standing.Standing.{Standing}
 use Rattle.usb_explain.specs.Outline.{Described, after_next}
-use Rattle.usb_explain.specs.Positions.{position_at}
-use Rattle.usb_explain.specs.inside.Walking.{Counted}
+use Rattle.usb_walk.specs.Positions.{Counted, position_at}
 use Rattle.usb_explain.proofs.Coming.{awaits_end}
 use Rattle.usb_explain.proofs.Outlines.{left_same, outline_next, outline_nil, outline_none, stays_counted, stays_room}
-use Rattle.usb_explain.proofs.Positions.{after_left}
+use Rattle.usb_walk.proofs.Positions.{after_left}
 use Rattle.usb_explain.proofs.outline.OutlineIterator.next.Goals as goal
 
 pub returns-in_default-clause-steps : goal.returns-in_default-clause-steps

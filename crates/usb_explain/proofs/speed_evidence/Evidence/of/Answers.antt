@@ -1,4 +1,4 @@
-use Rattle.usb_explain.specs.Trees.{descriptors}
+use Rattle.usb_walk.specs.Trees.{descriptors}
 use Rattle.usb_explain.proofs.Tables.{hears_none, hears_on}
 use Rattle.usb_explain.proofs.speed_evidence.Evidence.of.Goals as goal
 

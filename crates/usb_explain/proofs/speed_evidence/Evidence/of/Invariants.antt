@@ -1,5 +1,5 @@
 use Rattle.std.proofs.Common.{length}
-use Rattle.usb_explain.specs.Trees.{descriptors}
+use Rattle.usb_walk.specs.Trees.{descriptors}
 use Rattle.usb_explain.specs.inside.Walking.{Hears}
 use Rattle.usb_explain.proofs.speed_evidence.Evidence.of.Given as goal
 

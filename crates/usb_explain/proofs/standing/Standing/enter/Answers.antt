@@ -1,8 +1,8 @@
 use Rattle.std.proofs.Common.{◌≡◌, ◌∙◌, ap}
-use Rattle.usb_explain.specs.declared.position.Position.{Position}
+use Rattle.usb_walk.specs.declared.position.Position.{Position}
 use Rattle.usb_explain.specs.declared.standing.Standing.{Standing}
-use Rattle.usb_explain.specs.Positions.{position_at}
-use Rattle.usb_explain.proofs.Positions.{looked_position}
+use Rattle.usb_walk.specs.Positions.{position_at}
+use Rattle.usb_explain.proofs.Standings.{looked_position}
 use Rattle.usb_explain.proofs.standing.Standing.enter.Goals as goal
 
 pub returns : goal.returns

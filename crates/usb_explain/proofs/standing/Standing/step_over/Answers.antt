@@ -1,8 +1,8 @@
 use Rattle.std.proofs.Common.{◌≡◌, ◌∙◌, ap, arith, subst, sym}
 use Rattle.usb_explain.specs.declared.standing.Standing.{Standing}
 use Rattle.usb_explain.specs.SetStart.{entered}
-use Rattle.usb_explain.specs.inside.Walking.{Counted}
-use Rattle.usb_explain.proofs.Positions.{counted_at, same_at}
+use Rattle.usb_walk.specs.Positions.{Counted}
+use Rattle.usb_walk.proofs.Positions.{counted_at, same_at}
 use Rattle.usb_explain.proofs.standing.Standing.step_over.Goals as goal
 
 pub pass-requires-clause-counted : goal.pass-requires-clause-counted

@@ -1,9 +1,9 @@
 -- The position of a descriptor in an input, and the one after it.
-use Rattle.std.specs.Prelude.{ℕ, ◌+◌, ◌-◌, ◌==◌, List, length, slice_index, Bool, true, false, if◌then◌else◌}
+use Rattle.std.specs.Prelude.{ℕ, ◌≤◌, ◌+◌, ◌-◌, ◌==◌, List, length, slice_index, Bool, true, false, if◌then◌else◌}
 use Rattle.usb_fields.specs.Bytes.{little_endian_at}
-use Rattle.usb_explain.specs.declared.position.Position.{Position}
-use Rattle.usb_explain.specs.declared.role.Role.{Role}
-use Rattle.usb_explain.specs.declared.role.Role.TheVariants.{Device, Qualifier, Configuration, Association, Interface, Endpoint, Raw, Languages, Text}
+use Rattle.usb_walk.specs.declared.position.Position.{Position}
+use Rattle.usb_walk.specs.declared.role.Role.{Role}
+use Rattle.usb_walk.specs.declared.role.Role.TheVariants.{Device, Qualifier, Configuration, Association, Interface, Endpoint, Raw, Languages, Text}
 
 -- Where a descriptor stands.
 
@@ -106,3 +106,14 @@ moved n p = record p { at = p.at + n; left = p.left - n }
 -- after a descriptor of this role
 abbrev pub position_after : Role → List ℕ → Position → Position
 position_after role d p = moved (length d) (noted role d p)
+
+-- How many came before.
+
+-- there are no more of anything than bytes before
+pub record Counted (p : Position) : Type 0 where
+  pub strings : p.strings ≤ p.at
+  pub main_sets : p.main_sets ≤ p.at
+  pub other_sets : p.other_sets ≤ p.at
+  pub associations : p.associations ≤ p.at
+  pub settings : p.settings ≤ p.at
+  pub endpoints : p.endpoints ≤ p.at

@@ -1,6 +1,6 @@
 //! Whose a descriptor is.
 ghost use Rattle.std.specs.Prelude.{◌≡◌};
-ghost use Rattle.usb_explain.specs.Owners.{last_owner, owner_of, part_in, set_of, setting_in};
+ghost use Rattle.usb_walk.specs.Owners.{last_owner, owner_of, part_in, set_of, setting_in};
 
 use crate::position::Position;
 use crate::role::Role;
@@ -33,7 +33,7 @@ pub struct DescriptorOwner {
 impl Position {
     /// Whose a descriptor of this role is.
     #[tactic(auto, unfolding(crate::specs::Owners::owner_of))]
-    pub(crate) fn owner(&self, role: Role, d: &[u8]) -> Option<DescriptorOwner>
+    pub fn owner(&self, role: Role, d: &[u8]) -> Option<DescriptorOwner>
         ensures { result ≡ owner_of self.now role d.now }
     {
         match role {
@@ -67,7 +67,7 @@ impl Position {
     }
 
     /// The part that has the set.
-    pub(crate) fn part(&self) -> Part
+    pub fn part(&self) -> Part
         ensures { result ≡ part_in self.now }
     {
         if self.is_other {

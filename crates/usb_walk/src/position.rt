@@ -1,11 +1,10 @@
 //! Where a descriptor stands in an input, as plain numbers: all that decides what it is, how deep and whose.
 ghost use Rattle.std.specs.Prelude.{◌≡◌, ◌≤◌, ◌+◌, ◌<◌, ◌^◌, IfSome, length};
-ghost use Rattle.usb_explain.specs.Positions.{begun, first_position, moved, noted, position_after, position_at, sets_of, with_set, with_setting};
-ghost use Rattle.usb_explain.specs.Roles.{next_role};
-ghost use Rattle.usb_explain.specs.inside.Walking.{Counted};
+ghost use Rattle.usb_walk.specs.Positions.{Counted, begun, first_position, moved, noted, position_after, position_at, sets_of, with_set, with_setting};
+ghost use Rattle.usb_walk.specs.Roles.{next_role};
 
-use crate::rest_lines::descriptor_length;
 use crate::role::Role;
+use crate::whole_descriptor::descriptor_length;
 use usb_fields::{byte_at, descriptor_type, prefix, word_at};
 
 /// What came before a descriptor, as numbers. A walk over an input goes from one to the next: [`next_role`](Self::next_role) says

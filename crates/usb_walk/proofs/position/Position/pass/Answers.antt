@@ -1,7 +1,7 @@
 use Rattle.std.proofs.Common.{◌≡◌, ◌∙◌, ap, arith}
-use Rattle.usb_explain.proofs.Positions.{noted_at}
-use Rattle.usb_explain.specs.declared.position.Position.{Position}
-use Rattle.usb_explain.proofs.position.Position.pass.Goals as goal
+use Rattle.usb_walk.proofs.Positions.{noted_at}
+use Rattle.usb_walk.specs.declared.position.Position.{Position}
+use Rattle.usb_walk.proofs.position.Position.pass.Goals as goal
 
 pub go_on-requires : goal.go_on-requires
 go_on-requires c =

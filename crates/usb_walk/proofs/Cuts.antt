@@ -2,7 +2,7 @@
 use Rattle.std.proofs.Common.{◌≡◌, ◌≤◌, ℕ, zero, suc, ◌-◌, List, [], ◌∷◌, length, take, drop, Option, Some, None, unwrap_or, refl, sym, ap, ◌∙◌, arith, length-drop}
 use Rattle.std.specs.Option.{option_map}
 use Rattle.std.proofs.lemmas.Bool.Decides.{nat_tests}
-use Rattle.usb_explain.specs.Trees.{descriptor_length, descriptors, first_descriptors}
+use Rattle.usb_walk.specs.Trees.{descriptor_length, descriptors, first_descriptors}
 
 -- a descriptor has two bytes at least, and no more than are there
 pub length_within : (b : List ℕ) (n : ℕ) → descriptor_length b ≡ Some n → (2 ≤ n) × (n ≤ length b)

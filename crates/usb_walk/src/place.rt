@@ -1,6 +1,6 @@
 //! Where a descriptor is among the parts, sets, settings and endpoints of an input.
 ghost use Rattle.std.specs.Prelude.{◌≡◌};
-ghost use Rattle.usb_explain.specs.RemarkPlaces.{outside, place_in, raw_place, within};
+ghost use Rattle.usb_walk.specs.Places.{outside, place_in, raw_place, within};
 
 use crate::position::Position;
 use crate::role::Role;
@@ -21,8 +21,8 @@ pub struct Place {
 
 impl Position {
     /// Where a descriptor of this role is.
-    #[tactic(auto, unfolding(crate::specs::RemarkPlaces::place_in))]
-    pub(crate) fn place(&self, role: Role) -> Place
+    #[tactic(auto, unfolding(crate::specs::Places::place_in))]
+    pub fn place(&self, role: Role) -> Place
         ensures { result ≡ place_in self.now role }
     {
         match role {
@@ -60,7 +60,7 @@ impl Position {
 }
 
 /// In a part, and in none of its sets.
-pub(crate) fn outside(part: Part) -> Place
+pub fn outside(part: Part) -> Place
     ensures { result ≡ outside part }
 {
     Place {

@@ -2,11 +2,11 @@
 use Rattle.std.specs.Prelude.{ℕ, ◌==◌, ◌||◌, List, slice_index, Option, Some, None, if◌then◌else◌}
 use Rattle.usb_file_data.specs.declared.finding.Part.{Part}
 use Rattle.usb_file_data.specs.declared.finding.Part.TheVariants.{Main, Other}
-use Rattle.usb_explain.specs.declared.owner.InterfaceSetting.{InterfaceSetting}
-use Rattle.usb_explain.specs.declared.owner.DescriptorOwner.{DescriptorOwner}
-use Rattle.usb_explain.specs.declared.position.Position.{Position}
-use Rattle.usb_explain.specs.declared.role.Role.{Role}
-use Rattle.usb_explain.specs.declared.role.Role.TheVariants.{Configuration, Association, Interface, Endpoint, Raw}
+use Rattle.usb_walk.specs.declared.owner.InterfaceSetting.{InterfaceSetting}
+use Rattle.usb_walk.specs.declared.owner.DescriptorOwner.{DescriptorOwner}
+use Rattle.usb_walk.specs.declared.position.Position.{Position}
+use Rattle.usb_walk.specs.declared.role.Role.{Role}
+use Rattle.usb_walk.specs.declared.role.Role.TheVariants.{Configuration, Association, Interface, Endpoint, Raw}
 
 -- the set of this number in a part
 abbrev pub of_set : Part → ℕ → DescriptorOwner

@@ -1,8 +1,8 @@
 //! What a descriptor is at its place.
 ghost use Rattle.std.specs.Prelude.{◌≡◌, length};
-ghost use Rattle.usb_explain.specs.Roles.{inner_role, is_alone, outer_role, role_if, role_of, string_role, typed_role};
+ghost use Rattle.usb_walk.specs.Roles.{inner_role, is_alone, outer_role, role_if, role_of, string_role, typed_role};
 ghost use Rattle.std.specs.Prelude.{◌≡◌};
-ghost use Rattle.usb_explain.specs.Roles.{is_association, is_endpoint, is_interface, is_of_type};
+ghost use Rattle.usb_walk.specs.Roles.{is_association, is_endpoint, is_interface, is_of_type};
 
 use crate::position::Position;
 use usb_fields::{byte_at, descriptor_length, descriptor_type, word_at};
@@ -100,7 +100,7 @@ fn role_if(holds: bool, role: Role) -> Option<Role>
 }
 
 /// The role of a descriptor of a type that has one, or that of any other.
-pub(crate) fn typed_role(holds: bool, role: Role) -> Role
+pub fn typed_role(holds: bool, role: Role) -> Role
     ensures { result ≡ typed_role holds role }
 {
     if holds { role } else { Role::Raw }
@@ -135,19 +135,19 @@ fn is_of_type(kind: u8, least: u8, d: &[u8]) -> bool
     byte_at(d, 1) == kind && d.len() >= usize::from(least)
 }
 
-pub(crate) fn is_interface(d: &[u8]) -> bool
+pub fn is_interface(d: &[u8]) -> bool
     ensures { result ≡ is_interface d.now }
 {
     is_of_type(descriptor_type::INTERFACE, descriptor_length::INTERFACE, d)
 }
 
-pub(crate) fn is_endpoint(d: &[u8]) -> bool
+pub fn is_endpoint(d: &[u8]) -> bool
     ensures { result ≡ is_endpoint d.now }
 {
     is_of_type(descriptor_type::ENDPOINT, descriptor_length::ENDPOINT, d)
 }
 
-pub(crate) fn is_association(d: &[u8]) -> bool
+pub fn is_association(d: &[u8]) -> bool
     ensures { result ≡ is_association d.now }
 {
     is_of_type(

@@ -3,10 +3,10 @@ use Rattle.std.specs.Prelude.{ℕ, List, length, slice_index, Bool, not, nat_le,
 use Rattle.std.specs.Option.{option_map}
 use Rattle.usb_fields.specs.Bytes.{little_endian_at}
 use Rattle.usb_file_data.specs.Likeness.{names_languages}
-use Rattle.usb_explain.specs.Trees.{descriptor_length}
-use Rattle.usb_explain.specs.declared.role.Role.{Role}
-use Rattle.usb_explain.specs.declared.role.Role.TheVariants.{Device, Qualifier, Configuration, Association, Interface, Endpoint, Raw, Languages, Text}
-use Rattle.usb_explain.specs.declared.position.Position.{Position}
+use Rattle.usb_walk.specs.Trees.{descriptor_length}
+use Rattle.usb_walk.specs.declared.role.Role.{Role}
+use Rattle.usb_walk.specs.declared.role.Role.TheVariants.{Device, Qualifier, Configuration, Association, Interface, Endpoint, Raw, Languages, Text}
+use Rattle.usb_walk.specs.declared.position.Position.{Position}
 
 -- What the descriptors of a set are, by bDescriptorType and bLength (USB 2.0, 9.6.5 and 9.6.6, and the ECN on interface
 -- associations, 9.X.Y).

@@ -1,23 +1,13 @@
 -- Where one stands at a descriptor, and behind it.
-use Rattle.std.proofs.Common.{◌≡◌, ◌≤◌, ℕ, ◌+◌, ◌-◌, Bool, true, false, List, Option, ap, length, refl, arith}
-use Rattle.usb_explain.specs.declared.role.Role.{Role}
-use Rattle.usb_explain.specs.declared.role.Role.TheVariants.{Device, Qualifier, Configuration, Association, Interface, Endpoint, Raw, Languages, Text}
-use Rattle.usb_explain.specs.declared.position.Position.{Position}
-use Rattle.usb_explain.specs.Positions.{moved, noted, position_after, position_at, with_set}
-use Rattle.usb_explain.specs.declared.speed.SetSpeed.{SetSpeed}
-use Rattle.usb_explain.specs.declared.standing.Standing.{Standing}
-use Rattle.usb_explain.specs.SetStart.{looked, surveyed}
-use Rattle.usb_explain.specs.Standings.{start}
-use Rattle.usb_explain.specs.inside.Walking.{Counted}
+use Rattle.std.proofs.Common.{◌≡◌, ◌≤◌, ℕ, ◌-◌, Bool, true, false, List, ap, length, refl, arith}
+use Rattle.usb_walk.specs.declared.role.Role.{Role}
+use Rattle.usb_walk.specs.declared.role.Role.TheVariants.{Device, Qualifier, Configuration, Association, Interface, Endpoint, Raw, Languages, Text}
+use Rattle.usb_walk.specs.declared.position.Position.{Position}
+use Rattle.usb_walk.specs.Positions.{Counted, moved, noted, position_after, position_at, with_set}
 
 with_set_at : (is_other : Bool) (p : Position) → (with_set is_other p).at ≡ p.at
 with_set_at true p = refl
 with_set_at false p = refl
-
--- the first place is 0
-pub start_at : start.position.at ≡ 0
-unfolding start
-start_at = refl
 
 -- what is kept of a descriptor doesn't move
 pub noted_at : (role : Role) (d : List ℕ) (p : Position) → (noted role d p).at ≡ p.at
@@ -63,19 +53,6 @@ same_at Endpoint ahead p = refl
 same_at Raw ahead p = refl
 same_at Languages ahead p = refl
 same_at Text ahead p = refl
-
--- nor does looking ahead
-pub looked_position : (role : Role) (running : Option SetSpeed) (ahead : List ℕ) (s : Standing) → (looked role running ahead s).position ≡ s.position
-unfolding surveyed
-looked_position Device running ahead s = refl
-looked_position Qualifier running ahead s = refl
-looked_position Configuration running ahead s = refl
-looked_position Association running ahead s = refl
-looked_position Interface running ahead s = refl
-looked_position Endpoint running ahead s = refl
-looked_position Raw running ahead s = refl
-looked_position Languages running ahead s = refl
-looked_position Text running ahead s = refl
 
 counted_set : (is_other : Bool) (n : ℕ) (p : Position) → 1 ≤ n → Counted p → Counted (moved n (with_set is_other p))
 counted_set true n p more c = record { strings = omega arith; main_sets = omega arith; other_sets = omega arith; associations = omega arith; settings = omega arith; endpoints = omega arith }

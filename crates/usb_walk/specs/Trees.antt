@@ -19,10 +19,10 @@ use Rattle.usb_file_data.specs.Places.{at_each}
 use Rattle.usb_file_data.specs.declared.file.Strings.{Strings}
 use Rattle.usb_file_data.specs.declared.file.Input.{Input}
 use Rattle.usb_file_data.specs.declared.file.Input.TheVariants as inputs
-use Rattle.usb_explain.specs.declared.owner.DescriptorOwner.{DescriptorOwner}
-use Rattle.usb_explain.specs.declared.role.Role.{Role}
-use Rattle.usb_explain.specs.declared.role.Role.TheVariants as roles
-use Rattle.usb_explain.specs.Owners.{of_endpoint, of_interface, of_set}
+use Rattle.usb_walk.specs.declared.owner.DescriptorOwner.{DescriptorOwner}
+use Rattle.usb_walk.specs.declared.role.Role.{Role}
+use Rattle.usb_walk.specs.declared.role.Role.TheVariants as roles
+use Rattle.usb_walk.specs.Owners.{of_endpoint, of_interface, of_set}
 
 -- Descriptors one after another, each as long as its first byte says (USB 2.0, 9.5).
 

@@ -1,0 +1,23 @@
+//! The descriptors of an input in order: what each is, where, how deep and whose.
+//!
+//! A [`Position`] is what came before a descriptor. It says what the next one is, its [`Role`] and its length, and goes on past it.
+//! At each it says the [`Place`], the number of its part, set, setting and endpoint, the [`DescriptorOwner`], the depth of its
+//! heading, and the class codes of its interface. Nothing is kept beside it, so a walk needs no memory, over any bytes.
+//!
+//! - What comes next is `specs/Roles.antt`, and the position after it `specs/Positions.antt`.
+//! - What is said of one is `specs/Places.antt`, `specs/Owners.antt` and `specs/Surroundings.antt`.
+//! - Bytes as descriptors, and the descriptors that what was read has, are `specs/Trees.antt`.
+#![tactic(auto)]
+
+mod owner;
+mod place;
+mod position;
+mod role;
+mod surroundings;
+mod whole_descriptor;
+
+pub use owner::{DescriptorOwner, InterfaceSetting};
+pub use place::{Place, outside};
+pub use position::Position;
+pub use role::{Role, is_association, is_endpoint, is_interface, typed_role};
+pub use whole_descriptor::{descriptor_length, first_descriptor};
