@@ -6,6 +6,7 @@ pub mod Running
 pub mod Telling
 pub mod Written
 pub mod FateLemmas
+pub mod DamageLemmas
 pub mod LineLemmas
 pub mod NumberLemmas
 pub mod Hexadecimal

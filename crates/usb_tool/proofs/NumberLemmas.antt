@@ -6,7 +6,7 @@ use Rattle.std.specs.Result.{result_ok}
 use Rattle.std.specs.Str.Parse.{AllDigits, ParsesUnsigned, digits_value, without_leading_plus}
 use borrow.Author.Tests.{lt-ltb, ltb-true}
 use Rattle.clap.proofs.WalkLemmas.{both}
-use Rattle.usb_tool.specs.Settings.{number_of}
+use Rattle.usb_tool.specs.OptionValues.{number_of}
 
 all_pass : (ds : List ℕ) → AllDigits 10 ds → list_all (λ c. nat_lt (digit_value c) 10) ds ≡ true
 all_pass [] h = refl

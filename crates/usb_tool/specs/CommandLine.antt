@@ -35,6 +35,9 @@ speed_rule = chosen_rule (codes "speed")
 abbrev pub fates_rule : Rule
 fates_rule = chosen_rule (codes "fates")
 
+abbrev pub damage_rule : Rule
+damage_rule = chosen_rule (codes "damage")
+
 -- the numbers that an address, NAKs and attempts may be
 abbrev pub address_rule : Rule
 address_rule = number_rule (codes "address") 1 127
@@ -65,7 +68,7 @@ explain_app = command_with (codes "explain")
 
 abbrev pub enumerate_app : App
 enumerate_app = command_with (codes "enumerate")
-    (speed_rule ∷ address_rule ∷ naks_rule ∷ attempts_rule ∷ fates_rule ∷ flag_rule (codes "log") ∷ flag_rule (codes "brief") ∷ flag_rule (codes "with-strings") ∷ [])
+    (speed_rule ∷ address_rule ∷ naks_rule ∷ attempts_rule ∷ fates_rule ∷ damage_rule ∷ flag_rule (codes "log") ∷ flag_rule (codes "brief") ∷ flag_rule (codes "with-strings") ∷ [])
 
 -- a command that prints its version where it is asked for
 abbrev pub versioned : App → App
@@ -151,7 +154,7 @@ abbrev pub Asks : Line → Option (Text × List Row) → Type 0
 Asks lines.Show = Finds (codes "show") (ReadsBy false false)
 Asks lines.Check = Finds (codes "check") (λ rows. (finds_alone rows ≡ true) × ReadsBy false false rows)
 Asks lines.Build = Finds (codes "build") (WritesBy false false)
-Asks (lines.Enumerate o) = Finds (codes "enumerate") (λ rows. HasTexts o rows × (flags_of rows ≡ no_flags))
+Asks (lines.Enumerate o) = Finds (codes "enumerate") (λ rows. HasTexts o rows × (flags_of rows ≡ no_flags) × (first_of (codes "damage") rows ≡ None))
 Asks lines.ShowAny = Finds (codes "show") (ReadsBy false true)
 Asks lines.CheckAny = Finds (codes "check") (λ rows. (finds_alone rows ≡ true) × ReadsBy false true rows)
 Asks (lines.ShowHex any) = Finds (codes "show") (ReadsBy true any)
@@ -160,7 +163,8 @@ Asks (lines.CheckRemarks o) = Finds (codes "check") (λ rows. (finds_alone rows 
 Asks lines.BuildCommented = Finds (codes "build") (WritesBy false true)
 Asks (lines.BuildHex comments) = Finds (codes "build") (WritesBy true comments)
 Asks (lines.Explain o) = Finds (codes "explain") (HasFlags o)
-Asks (lines.EnumerateWith o flags) = Finds (codes "enumerate") (λ rows. HasTexts o rows × (flags ≡ flags_of rows) × (flags ≢ no_flags))
+Asks (lines.EnumerateWith o flags) = Finds (codes "enumerate") (λ rows. HasTexts o rows × (flags ≡ flags_of rows) × (flags ≢ no_flags) × (first_of (codes "damage") rows ≡ None))
+Asks (lines.EnumerateDamaged o flags text) = Finds (codes "enumerate") (λ rows. HasTexts o rows × (flags ≡ flags_of rows) × (first_of (codes "damage") rows ≡ Some text.now))
 
 -- the words as clap sees them
 abbrev pub word_texts : List (String Global) → List Text

@@ -23,6 +23,8 @@ use Rattle.usb_text.specs.declared.output.OutFault.TheVariants as outs
 use Rattle.usb_text.specs.Output.{AppendsFront, AppendsLess, Held}
 use Rattle.usb_host.specs.Limits.{LimitView}
 use Rattle.usb_bus.specs.declared.fate.Fate.{Fate}
+use Rattle.usb_bus.specs.declared.wire.change.BitChange.{BitChange}
+use Rattle.usb_bus.specs.DamagedRuns.{IsDamagedEnumeration}
 use Rattle.usb_bus.specs.Enumerate.{IsEnumeration}
 use Rattle.usb_bus.specs.Log.{IsLogOf, WritesLogLess}
 use Rattle.usb_tool.specs.EnumerationEnds.{end_of, end_status}
@@ -53,17 +55,18 @@ unfoldable pub refused_line : DescriptionFault → List ℕ
 refused_line (refusals.Finding finding) = codes "refused 1 " ++ finding_line finding ++ 10 ∷ []
 refused_line fault = codes "refused " ++ decimal (fault_number fault) ++ 10 ∷ []
 
--- what an enumeration is made under: the limits of the host, the speed of the device, the fates of the transactions, and
--- whether a log is asked for, a brief one, and a dump is taken
+-- what an enumeration is made under: the limits of the host, the speed of the device, the fates of the transactions, the bits
+-- that change, and whether a log is asked for, a brief one, and a dump is taken
 pub record Conditions : Type 0 where
   pub limits : LimitView
   pub speed : Speed
   pub fates : List Fate
+  pub changes : List BitChange
   pub flags : EnumerateFlags
 
 -- these conditions
-abbrev pub under : LimitView → Speed → List Fate → EnumerateFlags → Conditions
-under limits speed fates flags = record { limits = limits; speed = speed; fates = fates; flags = flags }
+abbrev pub under : LimitView → Speed → List Fate → List BitChange → EnumerateFlags → Conditions
+under limits speed fates changes flags = record { limits = limits; speed = speed; fates = fates; changes = changes; flags = flags }
 
 -- what is reported of a run with this outcome: after success its line and the listing of the file that was read, and else the
 -- line of its trouble
@@ -78,17 +81,22 @@ pub record TellsRefusal (c : Conditions) (f : DescriptorFile) (text : List ℕ) 
   pub told : text ≡ refused_line fault
   pub ended : end ≡ Refused fault
 
--- a device with these descriptors was enumerated, and this is the log of that very run, or nothing where none is asked for
-abbrev pub IsRun : Bool → Conditions → DescriptorFile → Run → List ℕ → Type 0
-IsRun false c f run log = IsEnumeration f c.speed c.limits c.fates run × (log ≡ [])
-IsRun true c f run log = IsLogOf c.flags.brief f c.speed c.limits c.fates run log
+-- A device with these descriptors was enumerated, and this is the log of that very run, or nothing where none is asked for. Where
+-- bits change, it was over a bus of bytes, and there is no log.
+abbrev pub IsRunOver : List BitChange → Bool → Conditions → DescriptorFile → Run → List ℕ → Type 0
+IsRunOver [] false c f run log = IsEnumeration f c.speed c.limits c.fates run × (log ≡ [])
+IsRunOver [] true c f run log = IsLogOf c.flags.brief f c.speed c.limits c.fates run log
+IsRunOver (change ∷ more) logged c f run log = IsDamagedEnumeration f c.speed c.limits c.fates (change ∷ more) run × (log ≡ [])
+
+abbrev pub IsRun : Conditions → DescriptorFile → Run → List ℕ → Type 0
+IsRun c f run log = IsRunOver c.changes c.flags.log c f run log
 
 -- a device was made of the file and enumerated, this is the log of that run, if it is asked for, and the text what is reported
 -- of it
 pub record TellsRun (c : Conditions) (f : DescriptorFile) (log text : List ℕ) (end : EnumerationEnd) : Type 0 where
   pub run : Run
   pub accepted : Accepted f c.speed
-  pub enumerated : IsRun c.flags.log c f run log
+  pub enumerated : IsRun c f run log
   pub told : text ≡ run_text run.outcome run
   pub ended : end ≡ end_of run.outcome
 

@@ -10,6 +10,7 @@ pub mod Enumerations
 pub mod Explains
 pub mod CommandLine
 pub mod OptionValues
+pub mod Damages
 pub mod Settings
 pub mod OptionFaults
 pub mod Numbers

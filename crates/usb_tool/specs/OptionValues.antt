@@ -1,12 +1,23 @@
--- What the values of `--speed` and `--fates` say.
-use Rattle.std.specs.Prelude.{◌≡◌, ℕ, List, [], ◌∷◌, IsSome, Option, Some, None, ◌==◌, if◌then◌else◌, codes, option_map, option_and_then}
+-- What numbers and the values of `--speed` and `--fates` say.
+use Rattle.std.specs.Prelude.{◌≡◌, ◌&&◌, ◌^◌, length, nat_lt, ℕ, List, [], ◌∷◌, IsSome, Option, Some, None, ◌==◌, if◌then◌else◌, codes, option_map, option_and_then}
+use Rattle.std.specs.Char.{digit_value}
+use Rattle.std.specs.List.{list_all}
 use Rattle.std.specs.Str.{bytes_eq}
+use Rattle.std.specs.Str.Parse.{digits_value, without_leading_plus}
 use Rattle.usb_fields.specs.declared.packet.Speed.{Speed}
 use Rattle.usb_fields.specs.declared.packet.Speed.TheVariants.{Low, Full, High}
 use Rattle.usb_bus.specs.declared.fate.Fate.{Fate}
 use Rattle.usb_bus.specs.declared.fate.Fate.TheVariants.{Pass, Busy, LostDown, LostUp, LostAck}
 use Rattle.usb_tool.specs.declared.settings.FatesFault.{FatesFault}
 use Rattle.usb_tool.specs.declared.settings.FatesFault.TheVariants as faults
+
+-- the number of so many bits that decimal digits write, after one plus or none
+abbrev pub number_of : ℕ → List ℕ → Option ℕ
+number_of bits text =
+    let digits = without_leading_plus text in
+    if nat_lt 0 (length digits) && (list_all (λ c. nat_lt (digit_value c) 10) digits
+    && nat_lt (digits_value 10 digits) (2 ^ bits))
+    then Some (digits_value 10 digits) else None
 
 -- the speed of a name
 abbrev pub speed_of : List ℕ → Option Speed

@@ -28,6 +28,8 @@ use Rattle.usb_explain.specs.declared.manner.Manner.{Manner}
 use Rattle.usb_explain.specs.declared.speed.SetSpeed.{SetSpeed}
 use Rattle.usb_tool.specs.declared.checking.Checking.{Checking}
 use Rattle.usb_tool.specs.OptionFaults.{settings_line, settings_meaning, settings_status}
+use Rattle.usb_tool.specs.Damages.{IsDamageSettled, RefusesBeside}
+use Rattle.usb_tool.specs.declared.damages.DamageSettings.{DamageSettings}
 use Rattle.usb_tool.specs.Settings.{IsSettledUnless, RefusesUnless, is_brief_alone}
 use Rattle.usb_tool.specs.declared.manner.Explaining.{Explaining}
 use Rattle.usb_tool.specs.declared.command_line.Line.{Line}
@@ -161,8 +163,15 @@ EndsUnder person c from to held holds errors told status =
 -- how `enumerate` ends with these options and flags
 abbrev pub EndsEnumeration : Bool → Options → EnumerateFlags → Course
 EndsEnumeration person o flags from to held holds errors told status =
-    OptionsAreTaken Settings (IsSettledUnless (is_brief_alone flags) o) (λ s. EndsUnder person (under s.limits s.speed s.fates.items flags)) from to held holds errors told status
+    OptionsAreTaken Settings (IsSettledUnless (is_brief_alone flags) o) (λ s. EndsUnder person (under s.limits s.speed s.fates.items [] flags)) from to held holds errors told status
     ⊎ OptionsAreRefused person (RefusesUnless (is_brief_alone flags) o) from to held holds errors told status
+
+-- the same with damage, which this text names
+abbrev pub EndsDamaged : Bool → Options → EnumerateFlags → List ℕ → Course
+EndsDamaged person o flags text from to held holds errors told status =
+    OptionsAreTaken DamageSettings (IsDamageSettled o flags text)
+    (λ s. EndsUnder person (under s.settings.limits s.settings.speed s.settings.fates.items s.changes.items flags)) from to held holds errors told status
+    ⊎ OptionsAreRefused person (RefusesBeside flags.log o flags text) from to held holds errors told status
 
 -- what to try where the input of `build` is at fault
 abbrev pub build_hint : Bool → Hint
@@ -183,6 +192,7 @@ EndsLine person lines.BuildCommented = Ends person hints.Nothing BuiltCommented 
 EndsLine person (lines.BuildHex comments) = Ends person (build_hint comments) (BuiltHex comments) (BuildHexFails comments)
 EndsLine person (lines.Explain options) = EndsExplanation person options
 EndsLine person (lines.EnumerateWith options flags) = EndsEnumeration person options flags
+EndsLine person (lines.EnumerateDamaged options flags text) = EndsDamaged person options flags text.now
 
 -- the words are a line, and what it asks for was done
 pub record LineIsTaken (person : Bool) (words : List (String Global)) (from to : Left) (held holds errors told : Held) (status : ℕ) : Type 0 where

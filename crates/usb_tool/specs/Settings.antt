@@ -1,14 +1,11 @@
 -- What the options of `enumerate` come to.
-use Rattle.std.specs.Prelude.{◌≡◌, ◌&&◌, ◌^◌, not, ℕ, Bool, true, false, List, [], IsSome, IsSomeAnd, length, Option, Some, None, is_some, nat_lt, if◌then◌else◌, option_and_then}
+use Rattle.std.specs.Prelude.{◌≡◌, ◌&&◌, not, ℕ, Bool, true, false, List, [], IsSome, IsSomeAnd, Option, Some, None, is_some, if◌then◌else◌, option_and_then}
 use Rattle.std.specs.Borrow.{Bor}
-use Rattle.std.specs.Char.{digit_value}
-use Rattle.std.specs.List.{list_all}
-use Rattle.std.specs.Str.Parse.{digits_value, without_leading_plus}
 use Rattle.usb_fields.specs.declared.packet.Speed.{Speed}
 use Rattle.usb_fields.specs.declared.packet.Speed.TheVariants.{Full}
 use Rattle.usb_bus.specs.declared.fate.Fate.{Fate}
 use Rattle.usb_host.specs.Limits.{LimitView, limit_fault}
-use Rattle.usb_tool.specs.OptionValues.{RefusesFates, fates_of, speed_of}
+use Rattle.usb_tool.specs.OptionValues.{RefusesFates, fates_of, number_of, speed_of}
 use Rattle.usb_tool.specs.declared.settings.FatesFault.{FatesFault}
 use Rattle.usb_tool.specs.declared.settings.FatesFault.TheVariants as letters
 use Rattle.usb_tool.specs.declared.settings.EnumerateFlags.{EnumerateFlags}
@@ -16,14 +13,6 @@ use Rattle.usb_tool.specs.declared.settings.Options.{Options}
 use Rattle.usb_tool.specs.declared.settings.Settings.{Settings}
 use Rattle.usb_tool.specs.declared.settings.SettingsFault.{SettingsFault}
 use Rattle.usb_tool.specs.declared.settings.SettingsFault.TheVariants as faults
-
--- the number of so many bits that decimal digits write, after one plus or none
-abbrev pub number_of : ℕ → List ℕ → Option ℕ
-number_of bits text =
-    let digits = without_leading_plus text in
-    if nat_lt 0 (length digits) && (list_all (λ c. nat_lt (digit_value c) 10) digits
-    && nat_lt (digits_value 10 digits) (2 ^ bits))
-    then Some (digits_value 10 digits) else None
 
 -- the number that an option says, and its default where it is absent
 abbrev pub number_said : ℕ → ℕ → Option (Bor (List ℕ)) → Option ℕ
@@ -78,6 +67,8 @@ RefusesOptions o faults.Fates = IsSome (limits_said o) × (IsSome (speed_said o)
 RefusesOptions o faults.Memory = IsSome (limits_said o) × (IsSome (speed_said o) × IsSomeAnd o.fates (λ text. RefusesFates text.now letters.Memory))
 RefusesOptions o faults.SpeedAlone = ⊥
 RefusesOptions o faults.BriefAlone = ⊥
+RefusesOptions o faults.Damages = ⊥
+RefusesOptions o faults.DamageLogged = ⊥
 
 -- lines of a log are left out, and none is asked for
 abbrev pub is_brief_alone : EnumerateFlags → Bool

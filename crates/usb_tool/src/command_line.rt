@@ -1,6 +1,6 @@
 //! What the words of the command line ask for.
 ghost use Rattle.std.specs.Prelude.{◌≡◌, IfOk, Some, codes};
-ghost use Rattle.clap.specs.Words.{fault_of, found_of, rows_of, subcommand_of, subcommand_rows_of};
+ghost use Rattle.clap.specs.Words.{fault_of, first_of, found_of, rows_of, subcommand_of, subcommand_rows_of};
 ghost use Rattle.clap.specs.Kinds.{FailsBy};
 ghost use Rattle.usb_tool.specs.CommandLine.{Asks, HasFlags, IsChecking, HasTexts, flags_of, gives, is_given, text_of, usbdesc_app, word_texts};
 ghost use Rattle.usb_tool.specs.inside.Taking.{NamesCommand};
@@ -41,6 +41,8 @@ pub enum Line<'a> {
     Explain(Explaining<'a>),
     /// `enumerate` with at least one of these flags.
     EnumerateWith(Options<'a>, EnumerateFlags),
+    /// `enumerate --damage`, with this text and with any of these flags.
+    EnumerateDamaged(Options<'a>, EnumerateFlags, &'a str),
 }
 
 /// What the words ask for, of which the first is the program's name.
@@ -148,10 +150,12 @@ fn enumerate_of<'a>(matches: &ArgMatches<'a>) -> Line<'a>
 {
     let options = options_of(matches);
     let flags = flags_of(matches);
-    if flags.log || flags.brief || flags.with_strings {
-        Line::EnumerateWith(options, flags)
-    } else {
-        Line::Enumerate(options)
+    match damage_of(matches) {
+        Some(text) => Line::EnumerateDamaged(options, flags, text),
+        None if flags.log || flags.brief || flags.with_strings => {
+            Line::EnumerateWith(options, flags)
+        }
+        None => Line::Enumerate(options),
     }
 }
 
@@ -209,4 +213,10 @@ fn options_of<'a>(matches: &ArgMatches<'a>) -> Options<'a>
         attempts: matches.get_str("attempts"),
         fates: matches.get_str("fates"),
     }
+}
+
+fn damage_of<'a>(matches: &ArgMatches<'a>) -> Option<&'a str>
+    ensures { text_of result ≡ first_of (codes "damage") (rows_of (found_of matches.now)) }
+{
+    matches.get_str("damage")
 }

@@ -1,5 +1,5 @@
 //! The command `enumerate`.
-ghost use Rattle.std.specs.Prelude.{◌≢◌, ◌++◌, IfErr, IfOk};
+ghost use Rattle.std.specs.Prelude.{◌≢◌, ◌++◌, [], IfErr, IfOk};
 ghost use Rattle.usb_listing.specs.Listing.{file_lines};
 ghost use Rattle.usb_tool.specs.CommandLine.{no_flags};
 ghost use Rattle.usb_tool.specs.Enumerations.{EnumerateFails, Enumerated, EnumeratedTo, IsNotTaken, IsTaken, RefusesToEnumerate, WritesResult, run_text, under, refused_line, success_line, trouble_line};
@@ -16,7 +16,10 @@ use crate::result_line::{RefusedLine, SuccessLine, TroubleLine};
 use crate::settings::EnumerateFlags;
 use std::alloc::Global;
 use std::io::{Read, Write};
-use usb_bus::{Fate, Run, enumerate_encoded, enumerate_encoded_logged};
+use usb_bus::{
+    BitChange, Fate, Run, enumerate_encoded, enumerate_encoded_logged,
+    enumerate_encoded_on_the_wire,
+};
 use usb_device::{DescriptionFault, Encoded};
 use usb_fields::Speed;
 use usb_file::{DescriptorFile, FILE_LIMIT, read_completed, read_file};
@@ -53,8 +56,8 @@ pub fn run_enumerate<R: Read, W: Write>(
     s: Speed,
     fates: &[Fate],
 ) -> Result<u8, ToolFault>
-    ensures enumerated { IfOk result (Enumerated (under l s fates.now no_flags) (R.remaining r.old) (R.remaining r.new) (W.contents w.old) (W.contents w.new)) }
-    ensures err { IfErr result (EnumerateFails (under l s fates.now no_flags) (R.remaining r.old) (R.remaining r.new) (W.contents w.old) (W.contents w.new)) }
+    ensures enumerated { IfOk result (Enumerated (under l s fates.now [] no_flags) (R.remaining r.old) (R.remaining r.new) (W.contents w.old) (W.contents w.new)) }
+    ensures err { IfErr result (EnumerateFails (under l s fates.now [] no_flags) (R.remaining r.old) (R.remaining r.new) (W.contents w.old) (W.contents w.new)) }
 {
     let flags = EnumerateFlags {
         log: false,
@@ -90,16 +93,17 @@ pub fn run_enumerate_with<R: Read, W: Write>(
     fates: &[Fate],
     flags: EnumerateFlags,
 ) -> Result<u8, ToolFault>
-    ensures enumerated { IfOk result (Enumerated (under l s fates.now flags) (R.remaining r.old) (R.remaining r.new) (W.contents w.old) (W.contents w.new)) }
-    ensures err { IfErr result (EnumerateFails (under l s fates.now flags) (R.remaining r.old) (R.remaining r.new) (W.contents w.old) (W.contents w.new)) }
+    ensures enumerated { IfOk result (Enumerated (under l s fates.now [] flags) (R.remaining r.old) (R.remaining r.new) (W.contents w.old) (W.contents w.new)) }
+    ensures err { IfErr result (EnumerateFails (under l s fates.now [] flags) (R.remaining r.old) (R.remaining r.new) (W.contents w.old) (W.contents w.new)) }
 {
-    match run_enumeration(alloc, r, w, l, s, fates, flags) {
+    match run_enumeration(alloc, r, w, l, s, fates, &[], flags) {
         Ok(end) => Ok(end.status()),
         Err(fault) => Err(fault),
     }
 }
 
-/// The same, and answers how the enumeration has ended.
+/// The same over a bus that changes these bits too, and answers how the enumeration has ended. Where bits change no log is
+/// written, whether the flags ask for one or not.
 ///
 /// # Errors
 ///
@@ -111,13 +115,14 @@ pub fn run_enumeration<R: Read, W: Write>(
     l: Limits,
     s: Speed,
     fates: &[Fate],
+    changes: &[BitChange],
     flags: EnumerateFlags,
 ) -> Result<EnumerationEnd, ToolFault>
-    ensures enumerated { IfOk result (EnumeratedTo (under l s fates.now flags) (R.remaining r.old) (R.remaining r.new) (W.contents w.old) (W.contents w.new)) }
-    ensures err { IfErr result (EnumerateFails (under l s fates.now flags) (R.remaining r.old) (R.remaining r.new) (W.contents w.old) (W.contents w.new)) }
+    ensures enumerated { IfOk result (EnumeratedTo (under l s fates.now changes.now flags) (R.remaining r.old) (R.remaining r.new) (W.contents w.old) (W.contents w.new)) }
+    ensures err { IfErr result (EnumerateFails (under l s fates.now changes.now flags) (R.remaining r.old) (R.remaining r.new) (W.contents w.old) (W.contents w.new)) }
 {
     let bytes = read_all(alloc, r, FILE_LIMIT)?;
-    enumerate_bytes(alloc, bytes, w, l, s, fates, flags)
+    enumerate_bytes(alloc, bytes, w, l, s, fates, changes, flags)
 }
 
 /// Writes what comes of the file that the bytes are, and flushes the writer. The bytes are let go as soon as they are read, and
@@ -129,10 +134,11 @@ fn enumerate_bytes<W: Write>(
     l: Limits,
     s: Speed,
     fates: &[Fate],
+    changes: &[BitChange],
     flags: EnumerateFlags,
 ) -> Result<EnumerationEnd, ToolFault>
-    ensures ok { IfOk result (WritesResult (under l s fates.now flags) bytes.items (W.contents w.old) (W.contents w.new)) }
-    ensures err { IfErr result (RefusesToEnumerate (under l s fates.now flags) bytes.items (W.contents w.old) (W.contents w.new)) }
+    ensures ok { IfOk result (WritesResult (under l s fates.now changes.now flags) bytes.items (W.contents w.old) (W.contents w.new)) }
+    ensures err { IfErr result (RefusesToEnumerate (under l s fates.now changes.now flags) bytes.items (W.contents w.old) (W.contents w.new)) }
 {
     let file = file_of(alloc, &bytes, flags.with_strings)?;
     drop(bytes);
@@ -146,7 +152,7 @@ fn enumerate_bytes<W: Write>(
         }
     };
     drop(file);
-    let run = run_over(alloc, &description, l, fates, flags, w)?;
+    let run = run_over(alloc, &description, l, fates, changes, flags, w)?;
     tell_run(alloc, &run, w)
 }
 
@@ -162,8 +168,28 @@ fn file_of(alloc: Global, bytes: &[u8], with_strings: bool) -> Result<Descriptor
     }
 }
 
-/// The enumeration of a device, whose speed is the description's, and its log where one is asked for.
+/// The enumeration of a device, whose speed is the description's, over a bus of bytes where bits change on it.
 fn run_over<W: Write>(
+    alloc: Global,
+    d: &Encoded,
+    l: Limits,
+    fates: &[Fate],
+    changes: &[BitChange],
+    flags: EnumerateFlags,
+    w: &mut W,
+) -> Result<Run, ToolFault>
+    ensures ok { IfOk result (MakesRun (under l d.now.speed fates.now changes.now flags) d.now.file (W.contents w.old) (W.contents w.new)) }
+    ensures err { IfErr result (BreaksRun (under l d.now.speed fates.now changes.now flags) d.now.file (W.contents w.old) (W.contents w.new)) }
+{
+    if changes.is_empty() {
+        run_losing(alloc, d, l, fates, flags, w)
+    } else {
+        Ok(enumerate_encoded_on_the_wire(alloc, d, l, fates, changes))
+    }
+}
+
+/// The enumeration over a bus that loses packets alone, and its log where one is asked for.
+fn run_losing<W: Write>(
     alloc: Global,
     d: &Encoded,
     l: Limits,
@@ -171,8 +197,8 @@ fn run_over<W: Write>(
     flags: EnumerateFlags,
     w: &mut W,
 ) -> Result<Run, ToolFault>
-    ensures ok { IfOk result (MakesRun (under l d.now.speed fates.now flags) d.now.file (W.contents w.old) (W.contents w.new)) }
-    ensures err { IfErr result (BreaksRun (under l d.now.speed fates.now flags) d.now.file (W.contents w.old) (W.contents w.new)) }
+    ensures ok { IfOk result (MakesRun (under l d.now.speed fates.now [] flags) d.now.file (W.contents w.old) (W.contents w.new)) }
+    ensures err { IfErr result (BreaksRun (under l d.now.speed fates.now [] flags) d.now.file (W.contents w.old) (W.contents w.new)) }
 {
     if flags.log {
         let run = enumerate_encoded_logged(alloc, d, l, fates, flags.brief, w)?;

@@ -232,6 +232,13 @@ Fates:
   u  what the device answers is lost
   a  the host's ACK of a data packet is lost
 
+Damage:
+  With --damage packets are bytes, from the PID to the CRC, and bits change in some of them.
+  Who receives what is no packet ignores it; what still is one arrives as what it became.
+  An entry N:P:B,.. names a transaction and a packet of it, counted from 1, and the bits,
+  counted from 0 as they are sent: 7:2:5,17 is transaction 7, second packet, bits 5 and 17.
+  A ';' parts entries. What a fate loses isn't there to change. There is no log of damage.
+
 Refused, 'refused N', with the first finding where N is 1:
   1  a rule of chapter 9 is broken
   2  the strings are not those that the file names, or a language stands twice
@@ -276,6 +283,13 @@ pub(crate) const FATES: &str = "[.ndua]..";
 /// What `--fates` says.
 pub(crate) const FATES_HELP: &str =
     "What the bus does to each transaction, a letter for each [default: none]";
+
+/// The values of `--damage`.
+pub(crate) const DAMAGE: &str = "N:P:B,..;..";
+
+/// What `--damage` says.
+pub(crate) const DAMAGE_HELP: &str =
+    "Which bits the bus changes, in which packets of which transactions [default: none]";
 
 /// What `--with-strings` says.
 pub(crate) const WITH_STRINGS_HELP: &str =

@@ -12,8 +12,8 @@
 //! of such a text (`specs/HexInputs.antt`), and [`run_build_hex`] writes one (`specs/HexOutputs.antt`).
 //! [`run_enumerate`] enumerates a device that has the descriptors of a file, over a bus that loses
 //! packets and handshakes, and writes what came of that (`specs/Enumerations.antt`). [`run_enumerate_with`] takes a dump
-//! too where it is asked to, and writes a log, whose lines are in the crate `usb_bus`. [`run_enumeration`] answers the
-//! [`EnumerationEnd`], whose meaning is `specs/EnumerationEnds.antt`.
+//! too where it is asked to, and writes a log, whose lines are in the crate `usb_bus`. [`run_enumeration`] takes
+//! changes of bits beside the fates, and answers the [`EnumerationEnd`], whose meaning is `specs/EnumerationEnds.antt`.
 //!
 //! [`run`] is the whole program over any standard streams: [`read_line`] reads its command line,
 //! [`ToolFault`] says why a command failed, and [`verdict`] gives the exit status. What a run does, and says on
@@ -26,7 +26,7 @@
 //! function of the words, and each fault is `clap`'s own (`specs/CommandLine.antt`).
 //! [`settings_of`] makes the [`Settings`] of an enumeration of these texts, with what holds where an option is
 //! absent, and [`settings_with`] refuses flags too (`specs/Settings.antt`). It reads the numbers, and [`read_speed`] and [`read_fates`] the other two
-//! (`specs/OptionValues.antt`). [`manner_of`] says what the options of `explain` mean (`specs/Explains.antt`).
+//! (`specs/OptionValues.antt`). [`damage_settings`] reads the bits that change too (`specs/Damages.antt`). [`manner_of`] says what the options of `explain` mean (`specs/Explains.antt`).
 //!
 //! [`converse`] makes control transfers between a host and a device over a bus that loses packets and handshakes.
 //! It takes the description of the device (crate `usb_device`), how many NAKs the host retries, the requests
@@ -40,6 +40,7 @@ mod check_remarks;
 mod checking;
 mod clap_command;
 mod command_line;
+mod damages;
 mod enumeration;
 mod enumeration_end;
 mod explanation;
@@ -63,6 +64,7 @@ pub use check::{run_check, run_check_any};
 pub use check_remarks::{remarks_add_lines_alone, run_check_remarks};
 pub use checking::{Checking, running_speed};
 pub use command_line::{Line, read_line};
+pub use damages::{DamageSettings, damage_settings, read_damages};
 pub use enumeration::{run_enumerate, run_enumerate_with, run_enumeration};
 pub use enumeration_end::EnumerationEnd;
 pub use explanation::{no_input_is_hexadecimal_text, run_explain, run_explain_loose};
@@ -78,6 +80,6 @@ pub use settings::{
     settings_of, settings_with,
 };
 pub use show::{run_show, run_show_any};
-pub use usb_bus::{Fate, Reply, Run, Talk, converse, enumerate, laws};
+pub use usb_bus::{BitChange, Fate, Reply, Run, Talk, converse, enumerate, laws};
 pub use usb_explain::{Look, Manner, SetSpeed};
 pub use usb_listing::LISTING_LIMIT;

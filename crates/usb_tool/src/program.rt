@@ -4,7 +4,7 @@ ghost use Rattle.std.specs.IoError.{error_kind};
 ghost use Rattle.usb_tool.specs.Faults.{words_line, words_status};
 ghost use Rattle.usb_tool.specs.CommandLine.{no_flags};
 ghost use Rattle.usb_tool.specs.Faults.{fault_line, meaning_line, status_of};
-ghost use Rattle.usb_tool.specs.Runs.{Answers, EndsChecking, EndsEnumeration, EndsExplanation, EndsHex, EndsLine, EndsRemarks, Runs, ReportsLines, ReportsEnd, ReportsEnded, ReportsOutcome, any_hint, build_hint, ended_status, enumerate_hint, line_status};
+ghost use Rattle.usb_tool.specs.Runs.{Answers, EndsChecking, EndsDamaged, EndsEnumeration, EndsExplanation, EndsHex, EndsLine, EndsRemarks, Runs, ReportsLines, ReportsEnd, ReportsEnded, ReportsOutcome, any_hint, build_hint, ended_status, enumerate_hint, line_status};
 ghost use Rattle.usb_tool.specs.OptionFaults.{settings_line, settings_meaning, settings_status};
 
 use crate::build::{run_build, run_build_commented};
@@ -12,6 +12,7 @@ use crate::check::{run_check, run_check_any};
 use crate::check_remarks::run_check_remarks;
 use crate::checking::{Checking, running_speed};
 use crate::command_line::{Line, read_line};
+use crate::damages::damage_settings;
 use crate::enumeration::run_enumeration;
 use crate::enumeration_end::{EnumerationEnd, TroubleMeaning, refusal_hint, trouble_hint};
 use crate::explanation::explain_as;
@@ -162,6 +163,9 @@ fn carry_out<R: Read, W: Write, E: Write>(
         Line::Explain(options) => explain_with(alloc, options, person, r, w, e),
         Line::EnumerateWith(options, flags) => enumerate_with(
             alloc, options, *flags, person, r, w, e,
+        ),
+        Line::EnumerateDamaged(options, flags, text) => enumerate_damaged(
+            alloc, options, *flags, text, person, r, w, e,
         ),
     }
 }
@@ -318,9 +322,34 @@ fn enumerate_with<R: Read, W: Write, E: Write>(
     match settings_with(alloc, options, flags) {
         Ok(settings) => {
             let (l, s) = (settings.limits, settings.speed);
-            let outcome = run_enumeration(alloc, r, w, l, s, &settings.fates, flags);
+            let outcome = run_enumeration(alloc, r, w, l, s, &settings.fates, &[], flags);
             report_end(&outcome, person, flags, e)
         },
+        Err(fault) => refuse(fault, person, e),
+    }
+}
+
+/// Enumerates over a bus on which bits change, as this text, the options and the flags say. What is wrong with them is reported
+/// before anything is read.
+fn enumerate_damaged<R: Read, W: Write, E: Write>(
+    alloc: Global,
+    options: &Options<'_>,
+    flags: EnumerateFlags,
+    text: &str,
+    person: bool,
+    r: &mut R,
+    w: &mut W,
+    e: &mut E,
+) -> u8
+    ensures { EndsDamaged person options.now flags text.now (R.remaining r.old) (R.remaining r.new) (W.contents w.old) (W.contents w.new) (E.contents e.old) (E.contents e.new) result }
+{
+    match damage_settings(alloc, options, flags, text) {
+        Ok(damaged) => {
+            let (l, s) = (damaged.settings.limits, damaged.settings.speed);
+            let fates = &damaged.settings.fates;
+            let outcome = run_enumeration(alloc, r, w, l, s, fates, &damaged.changes, flags);
+            report_end(&outcome, person, flags, e)
+        }
         Err(fault) => refuse(fault, person, e),
     }
 }

@@ -1,11 +1,12 @@
 //! What the options of `enumerate` mean.
 ghost use Rattle.std.specs.Prelude.{◌≡◌, IfErr, IfOk, Some, IsSomeAnd};
 ghost use Rattle.usb_tool.specs.OptionValues.{speed_of, RefusesFates, fate_of, fates_of};
-ghost use Rattle.usb_tool.specs.declared.settings.FatesFault.TheVariants.{Memory};
+ghost use Rattle.usb_tool.specs.declared.settings.FatesFault.TheVariants as letters;
+ghost use Rattle.usb_tool.specs.declared.settings.SettingsFault.TheVariants as faults;
 ghost use Rattle.usb_tool.specs.Settings.{IsSettled, IsSettledUnless, RefusesOptions, RefusesUnless, byte_said, fates_said, is_brief_alone, limits_said, settings_fault_of, speed_said, word_said};
 ghost use Rattle.usb_tool.specs.OptionFaults.{settings_fault_number, settings_line, settings_status};
 
-use std::alloc::{AllocFailed, Global};
+use std::alloc::{AllocError, AllocFailed, Global};
 use std::{error, fmt};
 use usb_bus::Fate;
 use usb_fields::Speed;
@@ -111,7 +112,7 @@ impl fmt::Display for FatesFault {
 impl error::Error for FatesFault {}
 
 impl<T: Drop> From<AllocFailed<T>> for FatesFault {
-    ghost from_gives = { λ _ fault. fault ≡ Memory };
+    ghost from_gives = { λ _ fault. fault ≡ letters.Memory };
 
     fn from(_e: AllocFailed<T>) -> FatesFault {
         FatesFault::Memory
@@ -286,10 +287,14 @@ pub enum SettingsFault {
     SpeedAlone,
     /// Lines of a log are left out, and no log is asked for.
     BriefAlone,
+    /// A text names no changes of bits.
+    Damages,
+    /// Bits change, and a log is asked for, which shows none of that.
+    DamageLogged,
 }
 
 impl SettingsFault {
-    /// The fault's number, 1 to 7 without 6: of the first three a lower one is tested first.
+    /// The fault's number, 1 to 9 without 6: of the first three a lower one is tested first.
     ///
     /// ```rust
     /// assert_eq!(rt; SettingsFault::Speed.number(), 2);
@@ -304,6 +309,8 @@ impl SettingsFault {
             SettingsFault::Memory => 4,
             SettingsFault::SpeedAlone => 5,
             SettingsFault::BriefAlone => 7,
+            SettingsFault::Damages => 8,
+            SettingsFault::DamageLogged => 9,
         }
     }
 
@@ -336,6 +343,8 @@ impl SettingsFault {
             SettingsFault::Memory => "there was not enough memory",
             SettingsFault::SpeedAlone => "a speed is for remarks: check --remarks --speed full",
             SettingsFault::BriefAlone => "a log is brief: enumerate --log --brief",
+            SettingsFault::Damages => "damage is TRANSACTION:PACKET:BIT,..;.. with packets 1 to 3",
+            SettingsFault::DamageLogged => "a log doesn't show damage",
         }
     }
 }
@@ -352,6 +361,8 @@ impl fmt::Display for SettingsFault {
             SettingsFault::Memory => f.write_str("usbdesc: out of memory"),
             SettingsFault::SpeedAlone => f.write_str("usbdesc: --speed without --remarks"),
             SettingsFault::BriefAlone => f.write_str("usbdesc: --brief without --log"),
+            SettingsFault::Damages => f.write_str("usbdesc: bad damages"),
+            SettingsFault::DamageLogged => f.write_str("usbdesc: --damage with --log"),
         }
     }
 }
@@ -366,5 +377,21 @@ impl From<FatesFault> for SettingsFault {
             FatesFault::Letter => SettingsFault::Fates,
             FatesFault::Memory => SettingsFault::Memory,
         }
+    }
+}
+
+impl<T: Drop> From<AllocFailed<T>> for SettingsFault {
+    ghost from_gives = { λ _ fault. fault ≡ faults.Memory };
+
+    fn from(_e: AllocFailed<T>) -> SettingsFault {
+        SettingsFault::Memory
+    }
+}
+
+impl From<AllocError> for SettingsFault {
+    ghost from_gives = { λ _ fault. fault ≡ faults.Memory };
+
+    fn from(_e: AllocError) -> SettingsFault {
+        SettingsFault::Memory
     }
 }

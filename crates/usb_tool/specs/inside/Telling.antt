@@ -48,7 +48,7 @@ CutsFragment m heading b = CutsAfter (WithoutMemory true heading) m.look.utf8 (f
 -- a device with these descriptors was enumerated, and its log was written where one is asked for
 pub record MakesRun (c : Conditions) (f : DescriptorFile) (held holds : Held) (run : Run) : Type 0 where
   pub log : List ℕ
-  pub enumerated : IsRun c.flags.log c f run log
+  pub enumerated : IsRun c f run log
   pub written : Appends held holds log
 
 -- a log is asked for, and a step of the enumeration broke it

@@ -1,4 +1,4 @@
-use Rattle.std.proofs.Common.{◌≡◌, ap, inl, subst}
+use Rattle.std.proofs.Common.{◌≡◌, [], ap, inl, subst}
 use Rattle.std.specs.Prelude.{IfErr, IfOk}
 use Rattle.usb_tool.specs.Enumerations.{Conditions, EnumerateFails, EnumeratedTo, under}
 use Rattle.usb_tool.proofs.Running.{enumeration_ends}
@@ -7,12 +7,12 @@ use Rattle.usb_tool.proofs.program.enumerate_with.Goals as goal
 pub returns-in-Ok : goal.returns-in-Ok
 returns-in-Ok g c =
     let s = c.in-Ok.settings in
-    let taken = under s.limits s.speed s.fates.items c.args.flags in
+    let taken = under s.limits s.speed s.fates.items [] c.args.flags in
     let from = g.R.Read.remaining c.args.r.now in
     let to = g.R.Read.remaining c.run_enumeration-outcome.new.r in
     let held = g.W.Write.contents c.args.w.now in
     let holds = g.W.Write.contents c.run_enumeration-outcome.new.w in
-    let same : under s.limits s.speed c.deref.result.now c.args.flags ≡ taken = ap (λ fates. under s.limits s.speed fates c.args.flags) c.deref.ensures.value in
+    let same : under s.limits s.speed c.deref.result.now [] c.args.flags ≡ taken = ap (λ fates. under s.limits s.speed fates [] c.args.flags) c.deref.ensures.value in
     inl (record {
       settings = s;
       settled = c.in-Ok.ensures.ok;
