@@ -45,7 +45,7 @@ class Table:
     causes: list = field(default_factory=list)
 
     def rules(self):
-        return [(cause, rule) for cause in self.causes for rule in cause.rules]
+        return [rule for cause in self.causes for rule in cause.rules]
 
 
 def rule_of(number, line, sections):
@@ -117,29 +117,27 @@ def found_in(report):
 
 def faults_of_causes(table, found):
     """Each difference that has no cause or two, and each rule that has no difference."""
-    known = {rule.line: 0 for _, rule in table.rules()}
+    met = set()
     for where, how in sorted(found):
-        rules = [rule for _, rule in table.rules() if rule.has(*where.split(": ")) and how in rule.hows]
-        for rule in rules:
-            known[rule.line] += 1
+        rules = [it for it in table.rules() if it.has(*where.split(": ")) and how in it.hows]
+        met |= {it.line for it in rules}
         if len(rules) != 1:
-            yield f"{'no cause' if not rules else 'causes of lines ' + ' and '.join(str(it.line) for it in rules)}: {where}: {how}"
-    for line in sorted(it for it, count in known.items() if not count):
-        yield f"no difference by line {line}"
+            yield f"{'causes of lines ' + ' and '.join(str(it.line) for it in rules) if rules else 'no cause'}: {where}: {how}"
+    yield from (f"no difference by line {it.line}" for it in table.rules() if it.line not in met)
 
 
-def faults_of_talk(table, found, asked, undefined):
-    """Each request of a device's talk that a rule has and that doesn't differ so, and each that is not specified and told as if it
-    were, or the other way round."""
-    hows = {}
-    for where, how in found:
-        hows.setdefault(where, set()).add(how)
+def faults_of_talk(table, found, asked):
+    """Each request of a device's talk that a rule has, and that doesn't differ so."""
     for where in sorted(asked):
-        for _, rule in table.rules():
-            if rule.has(*where.split(": ")) and not hows.get(where, set()) & set(rule.hows):
-                yield f"not found: {where}: {'|'.join(rule.hows)}"
-    for where in sorted(asked | undefined | set(hows)):
+        hows = {how for place, how in found if place == where}
+        yield from (f"not found: {where}: {'|'.join(it.hows)}" for it in table.rules() if it.has(*where.split(": ")) and not hows & set(it.hows))
+
+
+def faults_of_unspecified(found, asked, undefined):
+    """Each request that is not specified and told as if it were, or the other way round; of these none may differ."""
+    differing = {where for where, _ in found}
+    for where in sorted(asked | undefined | differing):
         state, request = where.split(": ")
         is_open = STATES[state] is not None and is_unspecified(STATES[state], bytes.fromhex(request[:16]))
-        if is_open != (where in undefined) or (is_open and where in hows):
+        if is_open != (where in undefined) or (is_open and where in differing):
             yield f"{'not ' if is_open else ''}specified: {where}"
