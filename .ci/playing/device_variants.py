@@ -129,10 +129,19 @@ class Deaf(SmallDevice):
 
 
 class KeepsWakeup(SmallDevice):
-    """A reset leaves its remote wakeup, and so does CLEAR_FEATURE."""
+    """CLEAR_FEATURE leaves its remote wakeup."""
 
     def answer(self, q):
         return (lambda: None) if q[:3] == b"\0\x01\x01" and super().answer(q) else super().answer(q)
+
+
+class WakesAfterReset(SmallDevice):
+    """A reset leaves its remote wakeup."""
+
+    def reset(self):
+        was = getattr(self, "wakes", 0)
+        super().reset()
+        self.wakes = was
 
 
 class NoSecondSetup(SmallDevice):
@@ -149,5 +158,5 @@ class NoSecondSetup(SmallDevice):
 WRONG = {
     AnyConfiguration: ("Address: 0009", "Configured: 0009"), LosesConfiguration: ("Configured: 8008000000000100",), OneAddress: ("Address: 0005010000000000", "Address: 00055d0000000000", "Address: 0005000000000000"),
     KeepsHalts: ("Configured: 8200000081000200",), AnyEndpoint: ("Configured: 820000008f000200", "Configured: 820000000f000200"), Deaf: ("Configured: 800f000000000100", "Address: 800f000000000100"),
-    KeepsWakeup: ("Address: 8000000000000200", "Configured: 8000000000000200"), NoSecondSetup: ("Configured: 8008000000000100",),
+    KeepsWakeup: ("Address: 8000000000000200", "Configured: 8000000000000200"), WakesAfterReset: ("Address: 8000000000000200",), NoSecondSetup: ("Configured: 8008000000000100",),
 }

@@ -11,7 +11,7 @@ const unsigned char stack_speed = 2;
 void USB_COM_vect(void);
 struct nzg_bench_device device_under_test(void);
 }
-extern volatile uint8_t _usbConfiguration, _usbCurrentStatus;
+extern volatile uint8_t _usbConfiguration;
 
 InterruptFlags UEINTX;
 Fifo UEDATX;
@@ -78,7 +78,7 @@ static void go_on() {
 static void reset(void *) {
     memset(&bank, 0, sizeof bank);
     is_running = false;
-    _usbConfiguration = _usbCurrentStatus = 0; /* as USB_GEN_vect does at the end of a reset */
+    _usbConfiguration = 0; /* as USB_GEN_vect does at the end of a reset, and nothing else of what is here */
 }
 
 static void take_setup(const nzg_transaction *sent) {

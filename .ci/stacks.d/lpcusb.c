@@ -1,6 +1,6 @@
 /* LPCUSB (usbcontrol.c, usbstdreq.c, usbinit.c) with the descriptors of the Ubertooth (ubertooth_usb.c), all as they are, over the
  * bench's controller in place of usbhw_lpc.c. Of the LPC17xx's controller, by its manual: an address is taken after the status stage;
- * a SETUP ends a stall and drops the packet of IN; SELECT ENDPOINT and the configuration of an endpoint end its stall. */
+ * a SETUP ends a stall and drops the packet of IN; SELECT ENDPOINT tells of a stall, and the configuration of an endpoint ends it. */
 #include "stack.h"
 #include "usbapi.h"
 #include "usbhw_lpc.h"

@@ -255,7 +255,7 @@ static void configured(struct talk *t, const struct found *f, const uint8_t *fil
     ask_cut(t, 1, FROM, GET_DESCRIPTOR, 0x100, 0, 18), configuration(t);
 }
 
-/* A setting and a halt, then a reset: of both nothing is left. */
+/* A setting, a halt and remote wakeup, then a reset: of each nothing is left. */
 static void after_a_reset(struct talk *t, const struct found *f) {
     const struct setting *other = NULL;
     const struct endpoint *halted = NULL;
@@ -264,7 +264,7 @@ static void after_a_reset(struct talk *t, const struct found *f) {
     select(t, f->sets[0].value);
     if (other) choose(t, other->number, other->alternate);
     if (halted) feature(t, TO_ENDPOINT, true, HALT, halted->address);
-    reset(t), move_to(t, AT), configuration(t), select(t, f->sets[0].value);
+    feature(t, TO_DEVICE, true, WAKEUP, 0), reset(t), move_to(t, AT), configuration(t), status(t), select(t, f->sets[0].value);
     if (other) chosen(t, other->number);
     if (halted) status_of(t, halted->address);
 }
