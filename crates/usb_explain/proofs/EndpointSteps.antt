@@ -1,5 +1,5 @@
 -- Addresses of endpoints, descriptor by descriptor.
-use Rattle.std.proofs.Common.{◌≡◌, ℕ, List, [], ◌∷◌, true, false, Option, Some, None, refl, slice_index}
+use Rattle.std.proofs.Common.{◌≡◌, ℕ, List, [], ◌∷◌, true, false, Some, None, refl, slice_index}
 use Rattle.usb_explain.specs.EndpointAddresses.{another, is_another}
 
 pub none_other : (one other : ℕ) (ds : List (List ℕ)) → ds ≡ [] → another one other ds ≡ None

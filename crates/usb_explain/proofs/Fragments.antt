@@ -1,5 +1,5 @@
 -- On the descriptors of a fragment.
-use Rattle.std.proofs.Common.{◌≡◌, ◌≤◌, ◌<◌, ℕ, zero, suc, Bool, true, false, if◌then◌else◌, ◌+◌, ◌-◌, List, [], ◌∷◌, ◌++◌, codes, slice_index, length, take, drop, flat_map, map, Option, Some, None, refl, sym, ap, subst, ◌∙◌, arith, append_assoc, length-append, length-drop}
+use Rattle.std.proofs.Common.{◌≡◌, ◌≤◌, ◌<◌, ℕ, zero, suc, Bool, true, false, if◌then◌else◌, ◌+◌, List, [], ◌∷◌, ◌++◌, codes, slice_index, length, take, drop, flat_map, map, Option, Some, None, refl, sym, ap, subst, ◌∙◌, arith, append_assoc, length-append}
 use Rattle.std.proofs.lemmas.List.{length-take-le, take-append-drop}
 use Rattle.usb_fields.specs.Bytes.{little_endian_at}
 use Rattle.usb_text.specs.Output.{Held}
@@ -11,7 +11,7 @@ use Rattle.usb_explain.specs.declared.fragment.FragmentPosition.{FragmentPositio
 use Rattle.usb_explain.specs.declared.manner.Manner.{Manner}
 use Rattle.usb_explain.specs.declared.speed.SetSpeed.{SetSpeed}
 use Rattle.usb_explain.specs.Descriptors.{lines_of}
-use Rattle.usb_explain.specs.Fragments.{AllFragmentBytesOnce, FragmentBytesOnce, described_alone, descriptors_lines, fragment, fragment_from, fragment_lines, fragment_start, is_setup, position_past, setup_field, setup_fields, setup_lines}
+use Rattle.usb_explain.specs.Fragments.{AllFragmentBytesOnce, described_alone, descriptors_lines, fragment, fragment_from, fragment_lines, fragment_start, is_setup, position_past, setup_field, setup_fields, setup_lines}
 use Rattle.usb_explain.specs.Explanations.{first_line}
 use Rattle.usb_explain.specs.Laws.{Follow, span_of}
 use Rattle.usb_explain.specs.Outline.{Described, bytes_of}

@@ -1,5 +1,5 @@
 -- Whether the sets of a device or a qualifier have associations (their ECN).
-use Rattle.std.specs.Prelude.{ℕ, zero, suc, ◌-◌, List, slice_index, length, take, drop, Bool, true, false, nat_le, nat_lt, ◌&&◌, Option, Some, None, if◌then◌else◌}
+use Rattle.std.specs.Prelude.{ℕ, zero, suc, List, slice_index, length, drop, Bool, true, false, nat_le, nat_lt, ◌&&◌, Option, Some, None, if◌then◌else◌}
 use Rattle.std.specs.List.{list_any}
 use Rattle.usb_fields.specs.Bytes.{little_endian_at}
 use Rattle.usb_walk.specs.declared.role.Role.{Role}

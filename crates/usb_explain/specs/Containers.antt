@@ -3,7 +3,7 @@ use Rattle.std.specs.Prelude.{ℕ, zero, suc, ◌+◌, ◌*◌, ◌%◌, ◌==�
 use Rattle.hex.specs.Hex.{hex_digit_value}
 use Rattle.usb_explain.specs.declared.container.Container.{Container}
 use Rattle.usb_explain.specs.declared.container.Container.TheVariants as containers
-use Rattle.usb_text.specs.Shown.{Shown, Bytes, End}
+use Rattle.usb_text.specs.Shown.{Shown, Bytes}
 
 abbrev pub begins_with : ℕ → ℕ → ℕ → ℕ → List ℕ → Bool
 begins_with c d e f b = (slice_index b 0 == c) && (slice_index b 1 == d) && (slice_index b 2 == e) && (slice_index b 3 == f)

@@ -1,13 +1,11 @@
 -- What is known of a descriptor at its place beside its bytes.
-use Rattle.std.specs.Prelude.{ℕ, List, length, slice_index, Bool, true, false, nat_le, ◌-◌, ◌==◌, take, Option, Some, None, if◌then◌else◌, option_and_then, unwrap_or}
+use Rattle.std.specs.Prelude.{ℕ, List, slice_index, Bool, true, false, Option, Some, None, if◌then◌else◌, option_and_then, unwrap_or}
 use Rattle.std.specs.Option.{option_or}
 use Rattle.usb_fields.specs.Bytes.{little_endian_at}
-use Rattle.usb_names.specs.declared.codes.ClassCodes.{ClassCodes}
 use Rattle.usb_explain.specs.declared.speed.SetSpeed.{SetSpeed}
 use Rattle.usb_explain.specs.declared.speed.SetSpeed.TheVariants.{FullOrHigh, Super}
 use Rattle.usb_walk.specs.declared.role.Role.{Role}
-use Rattle.usb_walk.specs.declared.role.Role.TheVariants.{Device, Qualifier, Configuration, Association, Interface, Endpoint, Raw}
-use Rattle.usb_walk.specs.declared.position.Position.{Position}
+use Rattle.usb_walk.specs.declared.role.Role.TheVariants.{Device, Qualifier}
 use Rattle.usb_explain.specs.declared.standing.Standing.{Standing}
 use Rattle.usb_explain.specs.SetSpeeds.{high_beside, high_side, is_super_device, one_speed, other_speed}
 

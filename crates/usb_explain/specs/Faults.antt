@@ -1,5 +1,5 @@
 -- The lines of the fault of a broken input: what is wrong, and what its bytes look like.
-use Rattle.std.specs.Prelude.{ℕ, List, [], ◌∷◌, ◌++◌, Bool, true, false, Option, Some, None}
+use Rattle.std.specs.Prelude.{ℕ, List, [], ◌∷◌, ◌++◌, Bool, true, Option, Some, None}
 use Rattle.usb_set.specs.Numbers.{why_number as set_why_number}
 use Rattle.usb_file_data.specs.declared.fault.InputFault.{InputFault}
 use Rattle.usb_file_data.specs.declared.fault.InputFault.TheVariants as faults

@@ -1,7 +1,7 @@
 -- What is remarked of a descriptor: what can't be at the speed of its set, values that the standard reserves (USB 2.0,
 -- 5.5.3, 5.6.3, 5.7.3, 5.8.3, 9.6.5 and 9.6.6; the association's ECN), the length that a class header has, and what the standards
 -- of devices, settings and classes ask for.
-use Rattle.std.specs.Prelude.{ℕ, ◌+◌, List, [], ◌++◌, slice_index, Bool, true, false, nat_le, nat_lt, not, ◌==◌, ◌&&◌, ◌||◌, ◌/◌, ◌%◌, Option, Some, None, option_and_then, if◌then◌else◌, ◌≡◌, is_some}
+use Rattle.std.specs.Prelude.{ℕ, ◌+◌, List, ◌++◌, slice_index, Bool, true, false, nat_le, nat_lt, not, ◌==◌, ◌&&◌, ◌||◌, ◌/◌, ◌%◌, Option, Some, None, option_and_then, if◌then◌else◌, ◌≡◌, is_some}
 use Rattle.std.specs.Option.{option_or}
 use Rattle.usb_fields.specs.Bytes.{little_endian_at}
 use Rattle.usb_set.specs.declared.endpoint.TransferType.{TransferType}

@@ -1,5 +1,5 @@
 -- What a walk keeps.
-use Rattle.std.specs.Prelude.{◌≡◌, ◌≢◌, slice_index, ℕ, List, Bool, ◌==◌, ◌||◌, ◌<◌, ◌∷◌, if◌then◌else◌, length, Option, map, Some, None}
+use Rattle.std.specs.Prelude.{◌≡◌, ◌≢◌, slice_index, ℕ, List, Bool, ◌==◌, ◌||◌, ◌<◌, if◌then◌else◌, length, Option, map, Some, None}
 use Rattle.std.specs.List.{list_any}
 use Rattle.usb_explain.specs.SetSpeeds.{excludes_low, hints_low_or_full, is_companion, proves_full, proves_high}
 use Rattle.usb_explain.specs.declared.speed_evidence.Evidence.{Evidence}

@@ -1,4 +1,4 @@
-use Rattle.std.proofs.Common.{◌≡◌, ◌∙◌, ℕ, List, ap, arith, inl, inr, length, refl}
+use Rattle.std.proofs.Common.{◌∙◌, ℕ, List, ap, arith, inl, inr, length, refl}
 use Rattle.usb_fields.proofs.Exits.{exit_err}
 use Rattle.usb_text.specs.Shown.{showing_all}
 use Rattle.usb_text.specs.declared.output.OutFault.TheVariants.{Memory}

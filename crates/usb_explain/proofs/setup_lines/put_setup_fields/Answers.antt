@@ -1,4 +1,4 @@
-use Rattle.std.proofs.Common.{◌≡◌, ◌∙◌}
+use Rattle.std.proofs.Common.{◌∙◌}
 use Rattle.std.proofs.lemmas.Result.{on_ok_weaker}
 use Rattle.usb_explain.proofs.Fragments.{setup_shown}
 use Rattle.usb_explain.proofs.setup_lines.put_setup_fields.Goals as goal
