@@ -1,8 +1,9 @@
 //! Hexadecimal texts in the forms in which people have bytes.
-ghost use Rattle.std.specs.Prelude.{◌≡◌, ◌&&◌, slice_index, true};
-ghost use Rattle.usb_hex.specs.Columns.{after_all};
+ghost use Rattle.std.specs.Prelude.{◌≡◌, ◌&&◌, count_by, slice_index, true};
+ghost use Rattle.usb_hex.specs.Columns.{after_all, at_start, is_named};
 ghost use Rattle.usb_hex.specs.HexItems.{is_gap};
 ghost use Rattle.usb_hex.specs.inside.NoItems.{begins_no_item};
+ghost use Rattle.usb_hex.specs.inside.Unmarked.{is_other};
 ghost use Rattle.usb_hex.specs.SourceItems.{is_decimal};
 ghost use Rattle.std.specs.List.{list_all};
 ghost use Rattle.usb_hex.specs.Hexadecimal.{array_style, bare_style, has_long_number, has_prefix, has_suffix, has_three_digits, is_of_decimals, is_of_source, is_source, line_style, number_style, style_of};
@@ -113,7 +114,7 @@ fn read_source(alloc: Global, text: &[u8]) -> Result<Vec<u8>, HexFault>
         Some(form) => read_in(alloc, form, text, text),
         None => {
             let code = uncommented(alloc, text)?;
-            let code = unlabelled(alloc, &code)?;
+            let code = unlabelled(alloc, code)?;
             let bracket = bracket_of(&code);
             let inner = inner_of(alloc, bracket, code)?;
             let form = if has_two_readings(text) {
@@ -143,13 +144,21 @@ pub(crate) fn named_form(text: &[u8]) -> Option<Form>
     match literal_of(text) {
         Some(literal) => Some(Form::Literal(first_character(literal))),
         None => {
-            if is_named(at_start(text)) {
+            if begins_named(text) {
                 Some(Form::Named)
             } else {
                 None
             }
         }
     }
+}
+
+/// Whether `Data (HexDump)` begins the first line of a text. Without its first letter none does.
+#[tactic(auto, using(crate::proofs::Unmarked::not_named))]
+fn begins_named(text: &[u8]) -> bool
+    ensures { result ≡ is_named (at_start text.now) }
+{
+    has(b'D', text) && is_named(at_start(text))
 }
 
 /// The first character of a text.
@@ -173,11 +182,25 @@ fn inner_of(alloc: Global, bracket: Option<Bracket>, code: Vec<u8>) -> Result<Ve
     }
 }
 
-/// Whether the characters are those of a source.
+/// Whether the characters are those of a source. All are counted, since that looks at several at once.
+#[tactic(auto, using(crate::proofs::Sources::none_counted))]
 pub(crate) fn is_source(text: &[u8]) -> bool
     ensures { result ≡ is_source text.now }
 {
-    text.iter().all(|c| is_of_source(*c))
+    others_in(text) == 0
+}
+
+/// How many characters are in no source.
+fn others_in(text: &[u8]) -> usize
+    ensures { result ≡ count_by is_other text.now }
+{
+    let mut count = 0;
+    for c in text {
+        if !is_of_source(*c) {
+            count += 1;
+        }
+    }
+    count
 }
 
 /// Whether the character is printable, one beyond ASCII, a tab or the end of a line.
