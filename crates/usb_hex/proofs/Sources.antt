@@ -1,19 +1,24 @@
--- A text is a source where it has no character of none.
-use Rattle.std.proofs.Common.{◌≡◌, ℕ, ◌+◌, ◌==◌, ◌&&◌, Bool, true, false, not, cond, List, [], ◌∷◌, count_by, refl, arith}
-use Rattle.std.proofs.lemmas.List.Sums.{sum_by-cons}
-use Rattle.usb_hex.specs.Hexadecimal.{is_of_source, is_source}
-use Rattle.usb_hex.specs.inside.Unmarked.{is_other}
+-- What the table of a source's characters says.
+use Rattle.std.proofs.Common.{◌≡◌, ℕ, ◌<◌, ◌==◌, ◌&&◌, ◌||◌, Bool, true, false, not, slice_index, refl}
+use Rattle.usb_hex.specs.Hexadecimal.{is_of_source}
+use Rattle.usb_hex.specs.declared.hexadecimal.TheConstants.{SOURCES}
+use Rattle.usb_text.proofs.Printables.{all_below, all_below-at}
 
-not_none : (count : ℕ) → (1 + count == 0) ≡ false
-not_none count = grind arith
+abbrev same : Bool → Bool → Bool
+same true b = b
+same false b = not b
 
-nothing_more : (count : ℕ) → 0 + count ≡ count
-nothing_more count = omega arith
+abbrev agrees : ℕ → Bool
+agrees c = same (slice_index SOURCES c == 35) (is_of_source c)
 
-pub none_counted : (text : List ℕ) → (count_by is_other text == 0) ≡ is_source text
-none_counted [] = refl
-none_counted (c ∷ text) = rw (sum_by-cons (λ y. cond (is_other y) 1 0) c text) (by (is_of_source c) (count_by is_other text) (none_counted text))
-  where
-    by : (b : Bool) (count : ℕ) → (count == 0) ≡ is_source text → (cond (not b) 1 0 + count == 0) ≡ (b && is_source text)
-    by true count later = rw (nothing_more count) later
-    by false count later = not_none count
+all_agree : all_below agrees 256 ≡ true
+all_agree = refl
+
+are_same : (a b : Bool) → same a b ≡ true → a ≡ b
+are_same true true e = refl
+are_same true false e = cc
+are_same false true e = cc
+are_same false false e = refl
+
+pub says : (c : ℕ) → c < 256 → (slice_index SOURCES c == 35) ≡ is_of_source c
+says c lt = are_same (slice_index SOURCES c == 35) (is_of_source c) (all_below-at agrees 256 c all_agree lt)

@@ -1,9 +1,8 @@
 //! Hexadecimal texts in the forms in which people have bytes.
-ghost use Rattle.std.specs.Prelude.{◌≡◌, ◌&&◌, count_by, slice_index, true};
+ghost use Rattle.std.specs.Prelude.{◌≡◌, ◌&&◌, slice_index, true};
 ghost use Rattle.usb_hex.specs.Columns.{after_all, at_start, is_named};
 ghost use Rattle.usb_hex.specs.HexItems.{is_gap};
 ghost use Rattle.usb_hex.specs.inside.NoItems.{begins_no_item};
-ghost use Rattle.usb_hex.specs.inside.Unmarked.{is_other};
 ghost use Rattle.usb_hex.specs.SourceItems.{is_decimal};
 ghost use Rattle.std.specs.List.{list_all};
 ghost use Rattle.usb_hex.specs.Hexadecimal.{array_style, bare_style, has_long_number, has_prefix, has_suffix, has_three_digits, is_of_decimals, is_of_source, is_source, line_style, number_style, style_of};
@@ -182,32 +181,34 @@ fn inner_of(alloc: Global, bracket: Option<Bracket>, code: Vec<u8>) -> Result<Ve
     }
 }
 
-/// Whether the characters are those of a source. All are counted, since that looks at several at once.
-#[tactic(auto, using(crate::proofs::Sources::none_counted))]
+/// Whether the characters are those of a source.
 pub(crate) fn is_source(text: &[u8]) -> bool
     ensures { result ≡ is_source text.now }
 {
-    others_in(text) == 0
+    text.iter().all(|c| is_of_source(*c))
 }
 
-/// How many characters are in no source.
-fn others_in(text: &[u8]) -> usize
-    ensures { result ≡ count_by is_other text.now }
+/// All characters, those of no source as dots.
+const SOURCES: [u8; 256] = *b".........##..#..................################################\
+    ###############################################################.\
+    ################################################################\
+    ################################################################";
+
+/// What a table says of a character. It is apart, since an index straight into the constant stalls the proof.
+#[inline(always)]
+fn at(kinds: &[u8; 256], c: u8) -> u8
+    ensures { result ≡ slice_index kinds.now c }
 {
-    let mut count = 0;
-    for c in text {
-        if !is_of_source(*c) {
-            count += 1;
-        }
-    }
-    count
+    kinds[usize::from(c)]
 }
 
 /// Whether the character is printable, one beyond ASCII, a tab or the end of a line.
+#[inline(always)]
+#[tactic(auto, using(crate::proofs::Sources::says))]
 fn is_of_source(c: u8) -> bool
     ensures { result ≡ is_of_source c }
 {
-    (c >= 32 && c != 127) || c == b'\t' || c == b'\n' || c == b'\r'
+    at(&SOURCES, c) == b'#'
 }
 
 /// How a text has its bytes.

@@ -1,12 +1,8 @@
--- Texts in which nothing is left out, and characters of no source.
+-- Texts in which nothing is left out.
 use Rattle.std.specs.Prelude.{ℕ, ◌||◌, Bool, false, not, if◌then◌else◌, List, slice_index, Option, None}
 use Rattle.usb_hex.specs.Brackets.{has}
-use Rattle.usb_hex.specs.Hexadecimal.{is_of_source}
 use Rattle.usb_hex.specs.Literals.{literal_in}
 use Rattle.usb_hex.specs.SourceItems.{is_decimal}
-
-abbrev pub is_other : ℕ → Bool
-is_other c = not (is_of_source c)
 
 -- no mark of a comment, a quoted mail or a fence, and no byte of a byte order mark
 abbrev pub has_no_mark : List ℕ → Bool
