@@ -1,7 +1,8 @@
 -- Where columns begin, line by line.
 use Rattle.std.proofs.Common.{◌≡◌, ℕ, ◌+◌, ◌<◌, ◌==◌, ◌&&◌, ◌||◌, Bool, true, false, nat_le, not, if◌then◌else◌, List, [], ◌∷◌, Option, Some, None, length, slice_index, refl, subst, sym, arith}
 use Rattle.std.proofs.lemmas.Bool.{eqb-true, leb-true}
-use Rattle.usb_hex.specs.Columns.{after_all, after_one, at_start, begins_columns, columns_of, is_empty_line, is_heading, is_in_line}
+use Rattle.hex.specs.Hex.{is_hex_digit}
+use Rattle.usb_hex.specs.Columns.{after_all, after_one, at_start, begins_columns, columns_of, is_empty_line, is_heading, is_in_line, is_offset}
 use Rattle.usb_hex.specs.TwoReadings.{has_offset_after}
 
 -- in a line columns begin no more
@@ -77,7 +78,11 @@ empty_is_left_out (c ∷ rest) is = by (c == 10) refl (c == 13) refl is
     by false feed true e some = subst LeftOut (sym (eqb-true c 13 e)) (at_return rest)
     by false feed false e some = cc
 
-pub empty_has_no_offset : (count : ℕ) (text : List ℕ) → (slice_index text 0 == 10) ≡ true → false ≡ has_offset_after count text
+no_number : (start : List ℕ) (more : Bool) → (slice_index start 0 == 10) ≡ true → false ≡ (is_offset start (after_all is_hex_digit start) && more)
 unfolding after_all
-empty_has_no_offset count [] is = cc
-empty_has_no_offset count (c ∷ rest) is = subst (λ (d : ℕ). false ≡ has_offset_after count (d ∷ rest)) (sym (eqb-true c 10 is)) (rw (short (10 ∷ rest)) refl)
+no_number [] more is = cc
+no_number (c ∷ rest) more is =
+    subst (λ (d : ℕ). false ≡ (is_offset (d ∷ rest) (after_all is_hex_digit (d ∷ rest)) && more)) (sym (eqb-true c 10 is)) (rw (short (10 ∷ rest)) refl)
+
+pub empty_has_no_offset : (count : ℕ) (text : List ℕ) → (slice_index (at_start text) 0 == 10) ≡ true → false ≡ has_offset_after count text
+empty_has_no_offset count text is = no_number (at_start text) _ is

@@ -11,3 +11,5 @@ pub mod ColumnLines
 pub mod EmptyLines
 pub mod NoItems
 pub mod Runs
+pub mod Unmarked
+pub mod Sources

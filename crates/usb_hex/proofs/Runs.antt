@@ -1,6 +1,7 @@
 -- A text without four digits in a row has no columns.
-use Rattle.std.proofs.Common.{◌≡◌, ℕ, ◌+◌, ◌<◌, ◌==◌, ◌&&◌, ◌||◌, Bool, true, false, nat_le, not, if◌then◌else◌, List, [], ◌∷◌, Option, Some, None, length, slice_index, refl, sym, ◌∙◌, arith}
+use Rattle.std.proofs.Common.{◌≡◌, ℕ, ◌+◌, ◌-◌, ◌<◌, ◌≤◌, ◌==◌, ◌&&◌, ◌||◌, Bool, true, false, nat_le, not, if◌then◌else◌, List, [], ◌∷◌, Option, Some, None, drop, length, slice_index, take, refl, sym, ◌∙◌, arith}
 use Rattle.std.proofs.lemmas.Bool.{leb-true}
+use Rattle.std.proofs.lemmas.List.{take_all}
 use Rattle.hex.specs.Hex.{is_hex_digit}
 use Rattle.usb_hex.specs.Columns.{after_all, after_mark, after_one, at_start, begins_columns, columns_of, is_heading, is_offset, is_zero}
 use Rattle.usb_hex.specs.inside.Runs.{has_run}
@@ -12,6 +13,10 @@ later_of false b e = e
 first_of : (a b : Bool) → (a || b) ≡ false → a ≡ false
 first_of true b e = cc
 first_of false b e = refl
+
+never : (b : Bool) → (b && false) ≡ false
+never true = refl
+never false = refl
 
 -- so it is of what is left after some characters
 rest_has_none : (c : ℕ) (rest : List ℕ) → has_run (c ∷ rest) ≡ false → has_run rest ≡ false
@@ -30,6 +35,21 @@ after_has_none test (c ∷ rest) none = by (test c) (after_has_none test rest (r
 one_has_none : (text : List ℕ) → has_run text ≡ false → has_run (after_one text) ≡ false
 one_has_none [] none = none
 one_has_none (c ∷ rest) none = rest_has_none c rest none
+
+-- four characters of which the last is no digit begin no run
+four_before : (a b c d : ℕ) (rest : List ℕ) → is_hex_digit d ≡ false → has_run (a ∷ b ∷ c ∷ d ∷ rest) ≡ has_run rest
+unfolding has_run
+four_before a b c d rest none =
+    rw (none, never (is_hex_digit a && is_hex_digit b && is_hex_digit c), never (is_hex_digit b && is_hex_digit c), never (is_hex_digit c)) refl
+
+pub four_on : (text : List ℕ) → 4 ≤ length text → is_hex_digit (slice_index text 3) ≡ false
+    → has_run (take (length text - 4) (drop 4 text)) ≡ has_run text
+four_on [] le none = absurd (omega (arith, le))
+four_on (a ∷ []) le none = absurd (omega (arith, le))
+four_on (a ∷ b ∷ []) le none = absurd (omega (arith, le))
+four_on (a ∷ b ∷ c ∷ []) le none = absurd (omega (arith, le))
+four_on (a ∷ b ∷ c ∷ d ∷ rest) le none =
+    rw (take_all (length (a ∷ b ∷ c ∷ d ∷ rest) - 4) rest (omega arith)) (sym (four_before a b c d rest none))
 
 mark_has_none : (text : List ℕ) → has_run text ≡ false → has_run (after_mark text) ≡ false
 mark_has_none text none = by ((slice_index text 0 == 48) && (slice_index text 1 == 120)) (one_has_none (after_one text) (one_has_none text none))

@@ -1,2 +1,3 @@
 pub mod NoItems
 pub mod Runs
+pub mod Unmarked

@@ -345,9 +345,23 @@ fn has_run(text: &[u8]) -> bool
         if digit(*c).is_some() && begins_three_digits(tail) {
             return true;
         }
-        rest = tail;
+        rest = after_no_run(rest, tail);
     }
     false
+}
+
+/// What is left after four characters of which the last is no digit, since none of them begins four digits; else the tail.
+#[inline(always)]
+fn after_no_run<'a>(text: &'a [u8], tail: &'a [u8]) -> &'a [u8]
+    requires tail { has_run tail.now ≡ has_run text.now }
+    requires less { length tail.now < length text.now }
+    ensures is { has_run result.now ≡ has_run text.now }
+    ensures less { length result.now < length text.now }
+{
+    match text {
+        [_, _, _, d, rest @ ..] if digit(*d).is_none() => rest,
+        _ => tail,
+    }
 }
 
 /// The text from its first offset on, where only headings are before that.

@@ -4,7 +4,9 @@ ghost use Rattle.usb_hex.specs.Comments.{after, after_code, after_start, begins_
 ghost use Rattle.usb_hex.specs.Columns.{is_before_line, is_fence, is_order_mark};
 ghost use Rattle.std.specs.Prelude.{IfErr, IfOk};
 ghost use Rattle.usb_hex.specs.Comments.{uncommented};
+ghost use Rattle.usb_hex.specs.inside.Unmarked.{has_no_mark};
 
+use crate::bracket::has;
 use crate::column::after_blanks;
 use crate::hex_text::HexFault;
 use crate::reading::keep;
@@ -28,9 +30,48 @@ pub(crate) enum Place {
     Closing,
 }
 
-/// A text with spaces for what is no code in it. Its lines and columns are those of the text.
-#[tactic(auto, unfolding(crate::specs::Comments::uncommented))]
+/// A text with spaces for what is no code in it. Its lines and columns are those of the text. One without any mark of such is
+/// copied at once.
+#[tactic(auto, using(crate::proofs::Unmarked::all_code))]
 pub(crate) fn uncommented(alloc: Global, text: &[u8]) -> Result<Vec<u8>, HexFault>
+    ensures ok { IfOk result (λ code. code.items ≡ uncommented Place.Start text.now) }
+    ensures err { IfErr result (λ fault. fault ≡ HexFault.Memory) }
+{
+    if has_no_mark(text) {
+        copied(alloc, text)
+    } else {
+        without_comments(alloc, text)
+    }
+}
+
+/// Whether no mark of a comment, a quoted mail or a fence is in a text, and no byte of a byte order mark.
+fn has_no_mark(text: &[u8]) -> bool
+    ensures { result ≡ has_no_mark text.now }
+{
+    !(has(b'/', text)
+        || has(b'#', text)
+        || has(b'`', text)
+        || has(b'>', text)
+        || has(0xef, text)
+        || has(0xbb, text)
+        || has(0xbf, text))
+}
+
+/// A copy of a text.
+fn copied(alloc: Global, text: &[u8]) -> Result<Vec<u8>, HexFault>
+    ensures ok { IfOk result (λ copy. copy.items ≡ text.now) }
+    ensures err { IfErr result (λ fault. fault ≡ HexFault.Memory) }
+{
+    let mut copy = Vec::new(alloc);
+    match copy.extend_from_slice(text) {
+        Ok(()) => Ok(copy),
+        Err(_) => Err(HexFault::Memory),
+    }
+}
+
+/// A text with spaces for what is no code in it, character by character.
+#[tactic(auto, unfolding(crate::specs::Comments::uncommented))]
+fn without_comments(alloc: Global, text: &[u8]) -> Result<Vec<u8>, HexFault>
     ensures ok { IfOk result (λ code. code.items ≡ uncommented Place.Start text.now) }
     ensures err { IfErr result (λ fault. fault ≡ HexFault.Memory) }
 {
@@ -151,6 +192,7 @@ fn after_code(c: u8, rest: &[u8]) -> Place
 }
 
 /// Whether two slashes are here, or a number sign and a space that begin no directive.
+#[inline(always)]
 fn begins_line_comment(c: u8, rest: &[u8]) -> bool
     ensures { result ≡ begins_line_comment c rest.now }
 {

@@ -1,6 +1,6 @@
 //! Hexadecimal texts in the forms in which people have bytes.
 ghost use Rattle.std.specs.Prelude.{◌≡◌, ◌&&◌, slice_index, true};
-ghost use Rattle.usb_hex.specs.Columns.{after_all};
+ghost use Rattle.usb_hex.specs.Columns.{after_all, at_start, is_named};
 ghost use Rattle.usb_hex.specs.HexItems.{is_gap};
 ghost use Rattle.usb_hex.specs.inside.NoItems.{begins_no_item};
 ghost use Rattle.usb_hex.specs.SourceItems.{is_decimal};
@@ -113,7 +113,7 @@ fn read_source(alloc: Global, text: &[u8]) -> Result<Vec<u8>, HexFault>
         Some(form) => read_in(alloc, form, text, text),
         None => {
             let code = uncommented(alloc, text)?;
-            let code = unlabelled(alloc, &code)?;
+            let code = unlabelled(alloc, code)?;
             let bracket = bracket_of(&code);
             let inner = inner_of(alloc, bracket, code)?;
             let form = if has_two_readings(text) {
@@ -143,13 +143,21 @@ pub(crate) fn named_form(text: &[u8]) -> Option<Form>
     match literal_of(text) {
         Some(literal) => Some(Form::Literal(first_character(literal))),
         None => {
-            if is_named(at_start(text)) {
+            if begins_named(text) {
                 Some(Form::Named)
             } else {
                 None
             }
         }
     }
+}
+
+/// Whether `Data (HexDump)` begins the first line of a text. Without its first letter none does.
+#[tactic(auto, using(crate::proofs::Unmarked::not_named))]
+fn begins_named(text: &[u8]) -> bool
+    ensures { result ≡ is_named (at_start text.now) }
+{
+    has(b'D', text) && is_named(at_start(text))
 }
 
 /// The first character of a text.
@@ -180,11 +188,27 @@ pub(crate) fn is_source(text: &[u8]) -> bool
     text.iter().all(|c| is_of_source(*c))
 }
 
+/// All characters, those of no source as dots.
+const SOURCES: [u8; 256] = *b".........##..#..................################################\
+    ###############################################################.\
+    ################################################################\
+    ################################################################";
+
+/// What a table says of a character. It is apart, since an index straight into the constant stalls the proof.
+#[inline(always)]
+fn at(kinds: &[u8; 256], c: u8) -> u8
+    ensures { result ≡ slice_index kinds.now c }
+{
+    kinds[usize::from(c)]
+}
+
 /// Whether the character is printable, one beyond ASCII, a tab or the end of a line.
+#[inline(always)]
+#[tactic(auto, using(crate::proofs::Sources::says))]
 fn is_of_source(c: u8) -> bool
     ensures { result ≡ is_of_source c }
 {
-    (c >= 32 && c != 127) || c == b'\t' || c == b'\n' || c == b'\r'
+    at(&SOURCES, c) == b'#'
 }
 
 /// How a text has its bytes.

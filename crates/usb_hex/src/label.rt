@@ -4,7 +4,9 @@ ghost use Rattle.usb_hex.specs.Columns.{after_all};
 ghost use Rattle.usb_hex.specs.SourceItems.{is_decimal, is_quote};
 ghost use Rattle.usb_hex.specs.Labels.{after_dot, are_pairs, begins_declaration, begins_hexadecimal, begins_name, begins_pairs, begins_two_digits, declares, ends_declaration, is_beyond_digits, is_comma, is_declaration, goes_on_below, is_directive, is_either_case, is_in_directive, is_label, is_of_radix, is_radix_letter, names_bytes, next_part, part_at, part_of_line, shown_part, unlabelled};
 ghost use Rattle.usb_hex.specs.Columns.{is_blank};
+ghost use Rattle.usb_hex.specs.inside.Unmarked.{has_no_label};
 
+use crate::bracket::has;
 use crate::column::{
     after_blanks, after_hex_digits, after_one, begins_blank, begins_feed, is_blank,
 };
@@ -30,9 +32,35 @@ pub(crate) enum Part {
     Bytes,
 }
 
-/// A text with spaces for the labels of its lines. Its lines and columns are those of the text.
+/// A text with spaces for the labels of its lines. Its lines and columns are those of the text. One with no character that a
+/// label must have is handed back.
+#[tactic(auto, using(crate::proofs::Unmarked::all_bytes))]
+pub(crate) fn unlabelled(alloc: Global, text: Vec<u8>) -> Result<Vec<u8>, HexFault>
+    ensures ok { IfOk result (λ bytes. bytes.items ≡ unlabelled Part.Start text.items) }
+    ensures err { IfErr result (λ fault. fault ≡ HexFault.Memory) }
+{
+    if has_no_label(&text) {
+        Ok(text)
+    } else {
+        without_labels(alloc, &text)
+    }
+}
+
+/// Whether a text has no character of those of which a label, a directive or a declaration has one, and no backslash.
+fn has_no_label(text: &[u8]) -> bool
+    ensures { result ≡ has_no_label text.now }
+{
+    !(has(b':', text)
+        || has(b'\'', text)
+        || has(b'"', text)
+        || has(b'\\', text)
+        || has(b'b', text)
+        || has(b'B', text))
+}
+
+/// A text with spaces for the labels of its lines, character by character.
 #[tactic(auto, unfolding(crate::specs::Labels::unlabelled))]
-pub(crate) fn unlabelled(alloc: Global, text: &[u8]) -> Result<Vec<u8>, HexFault>
+fn without_labels(alloc: Global, text: &[u8]) -> Result<Vec<u8>, HexFault>
     ensures ok { IfOk result (λ bytes. bytes.items ≡ unlabelled Part.Start text.now) }
     ensures err { IfErr result (λ fault. fault ≡ HexFault.Memory) }
 {

@@ -1,20 +1,34 @@
 //! Literals of Python and Rust, in which a printable character is its own byte.
 ghost use Rattle.std.specs.Prelude.{◌≡◌, ◌<◌, ◌≤◌, IfSome, MatchOption, None, Some, false, length};
 ghost use Rattle.usb_hex.specs.Columns.{after_all};
+ghost use Rattle.usb_hex.specs.inside.Unmarked.{literal_at};
 ghost use Rattle.usb_hex.specs.Literals.{after_literal, after_opening, begins_literal, escaped, hex_escape, is_space, literal_escape, literal_in, literal_item, literal_of, reopened};
 
+use crate::bracket::has;
 use crate::column::{after_one, at_start};
 use crate::hex_digit::byte_of;
 use crate::label::{begins_decimal, ends_declaration};
 use crate::source_item::closing_item;
 use crate::symbol::{is_of_word, is_quote};
 
-/// The text from the quote of its literal on, where it has one.
+/// The text from the quote of its literal on, where it has one. Without a backslash it has none.
+#[tactic(auto, using(crate::proofs::Unmarked::no_literal))]
 pub(crate) fn literal_of(text: &[u8]) -> Option<&[u8]>
     ensures is { MatchOption result (literal_of text.now ≡ None) (λ rest. literal_of text.now ≡ Some rest.now) }
     ensures within { IfSome result (λ rest. length rest.now ≤ length text.now) }
 {
-    let start = at_start(text);
+    if has(b'\\', text) {
+        literal_at(at_start(text))
+    } else {
+        None
+    }
+}
+
+/// The same at the start of a text, which no number begins.
+fn literal_at(start: &[u8]) -> Option<&[u8]>
+    ensures is { MatchOption result (literal_at start.now ≡ None) (λ rest. literal_at start.now ≡ Some rest.now) }
+    ensures within { IfSome result (λ rest. length rest.now ≤ length start.now) }
+{
     if begins_decimal(start) {
         None
     } else {

@@ -8,6 +8,7 @@ use crate::hex_text::{Form, HexFault, fault_at, item};
 use crate::literal::after_opening;
 use crate::named::after_label;
 use crate::offset::after_offset;
+use crate::source_item::Style;
 use std::alloc::Global;
 
 /// What is left after the start of the first line with bytes.
@@ -42,6 +43,7 @@ pub(crate) fn read_in(
         Form::Plain => read_items(alloc, Form::Plain, text, shown),
         Form::Colons => read_items(alloc, Form::Colons, text, shown),
         Form::Spaces => read_items(alloc, Form::Spaces, text, shown),
+        Form::Source(Style::Pairs) => { read_items(alloc, Form::Source(Style::Pairs), text, shown) }
         Form::Source(style) => read_items(alloc, Form::Source(style), text, shown),
         _ => read_items(alloc, form, text, shown),
     }

@@ -208,6 +208,7 @@ fn after_width(text: &[u8]) -> &[u8]
 }
 
 /// The item among bytes of two digits.
+#[inline(always)]
 #[tactic(auto, unfolding(crate::specs::SourceItems::pair_item))]
 fn pair_item(text: &[u8]) -> Option<(Option<u8>, &[u8])>
     ensures is { MatchOption result (pair_item text.now ≡ None) (λ p. pair_item text.now ≡ Some (p.0, p.1.now)) }

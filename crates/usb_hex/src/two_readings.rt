@@ -105,10 +105,10 @@ fn is_counted(radix: u8, text: &[u8]) -> bool
 pub(crate) fn has_offset_after(count: usize, text: &[u8]) -> bool
     ensures { result ≡ has_offset_after count text.now }
 {
-    if begins_feed(text) {
+    let start = at_start(text);
+    if begins_feed(start) {
         return false;
     }
-    let start = at_start(text);
     is_offset(start, after_hex_digits(start)) && (begins_offset(start) || is_count(count, start))
 }
 
