@@ -18,18 +18,15 @@ use Rattle.usb_device.specs.declared.acceptance.DescriptionFault.{DescriptionFau
 use Rattle.usb_device.specs.declared.acceptance.DescriptionFault.TheVariants as refusals
 use Rattle.usb_bus.specs.DamagedRuns.{IsDamagedEnumeration}
 use Rattle.usb_bus.specs.declared.enumeration.Run.{Run}
-use Rattle.usb_bus.specs.declared.fate.Fate.{Fate}
 use Rattle.usb_bus.specs.declared.wire.change.BitChange.{BitChange}
-use Rattle.usb_host.specs.Limits.{LimitView}
 use Rattle.usb_host.specs.declared.step.Trouble.{Trouble}
-use Rattle.usb_tool.specs.Enumerations.{Conditions, IsNotTaken, IsRun, IsRunOver, IsTaken, RefusesToEnumerate, StopsShort, Tells, WritesResult, WritesResultFront, under, run_text, refused_line, success_line, trouble_line}
+use Rattle.usb_tool.specs.Enumerations.{Conditions, IsNotTaken, IsRun, IsRunOver, IsTaken, RefusesToEnumerate, StopsShort, Tells, WritesResult, WritesResultFront, run_text, refused_line, success_line, trouble_line}
 use Rattle.usb_tool.specs.EnumerationEnds.{end_of}
 use Rattle.usb_tool.specs.declared.enumeration_end.EnumerationEnd.{EnumerationEnd}
 use Rattle.usb_tool.specs.declared.enumeration_end.EnumerationEnd.TheVariants as ends
 use Rattle.usb_tool.specs.Faults.{fault_of_output}
-use Rattle.usb_tool.specs.inside.Telling.{BreaksRun, EndsWith, IsCutShort, MakesRun}
+use Rattle.usb_tool.specs.inside.Telling.{BreaksRun, EndsWith, IsCutShort}
 use Rattle.usb_tool.specs.declared.fault.ToolFault.{ToolFault}
-use Rattle.usb_tool.specs.declared.settings.EnumerateFlags.{EnumerateFlags}
 use Rattle.usb_tool.specs.declared.fault.ToolFault.TheVariants as faults
 
 -- eight texts, joined from the left or from the right
@@ -92,12 +89,6 @@ changed_over (change ∷ more) c f run some made = (made, refl)
 
 pub changed_run : (c : Conditions) (f : DescriptorFile) (run : Run) → c.changes ≢ [] → IsDamagedEnumeration f c.speed c.limits c.fates c.changes run → IsRun c f run []
 changed_run c f run some made = changed_over c.changes c f run some made
-
--- and one on which none do is one over a bus that loses packets alone
-pub unchanged_run : (r : Result Run ToolFault) (limits : LimitView) (speed : Speed) (fates : List Fate) (changes : List BitChange) (flags : EnumerateFlags) (f : DescriptorFile) (held holds : Held)
-    → changes ≡ [] → IfOk r (MakesRun (under limits speed fates [] flags) f held holds) → IfOk r (MakesRun (under limits speed fates changes flags) f held holds)
-unchanged_run r limits speed fates changes flags f held holds none made =
-    subst (λ cs. IfOk r (MakesRun (under limits speed fates cs flags) f held holds)) (sym none) made
 
 -- a text that was not written to its end
 pub cut_by : (o : OutFault) (text : List ℕ) (held holds : Held) → AppendsLess held holds text → IsCutShort text held holds (fault_of_output o)
