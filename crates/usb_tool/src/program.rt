@@ -3,8 +3,9 @@ ghost use Rattle.std.specs.Prelude.{◌≡◌, true, false};
 ghost use Rattle.std.specs.IoError.{error_kind};
 ghost use Rattle.usb_tool.specs.Faults.{words_line, words_status};
 ghost use Rattle.usb_tool.specs.CommandLine.{no_flags};
+ghost use Rattle.usb_tool.specs.Enumerations.{under};
 ghost use Rattle.usb_tool.specs.Faults.{fault_line, meaning_line, status_of};
-ghost use Rattle.usb_tool.specs.Runs.{Answers, EndsChecking, EndsDamaged, EndsEnumeration, EndsExplanation, EndsHex, EndsLine, EndsRemarks, Runs, ReportsLines, ReportsEnd, ReportsEnded, ReportsOutcome, any_hint, build_hint, ended_status, enumerate_hint, line_status};
+ghost use Rattle.usb_tool.specs.Runs.{Answers, EndsChecking, EndsDamaged, EndsEnumeration, EndsExplanation, EndsHex, EndsLine, EndsRemarks, EndsUnder, Runs, ReportsLines, ReportsEnd, ReportsEnded, ReportsOutcome, any_hint, build_hint, ended_status, enumerate_hint, line_status};
 ghost use Rattle.usb_tool.specs.OptionFaults.{settings_line, settings_meaning, settings_status};
 
 use crate::build::{run_build, run_build_commented};
@@ -12,7 +13,7 @@ use crate::check::{run_check, run_check_any};
 use crate::check_remarks::run_check_remarks;
 use crate::checking::{Checking, running_speed};
 use crate::command_line::{Line, read_line};
-use crate::damages::damage_settings;
+use crate::damages::{DamageSettings, damage_settings};
 use crate::enumeration::run_enumeration;
 use crate::enumeration_end::{EnumerationEnd, TroubleMeaning, refusal_hint, trouble_hint};
 use crate::explanation::explain_as;
@@ -344,14 +345,27 @@ fn enumerate_damaged<R: Read, W: Write, E: Write>(
     ensures { EndsDamaged person options.now flags text.now (R.remaining r.old) (R.remaining r.new) (W.contents w.old) (W.contents w.new) (E.contents e.old) (E.contents e.new) result }
 {
     match damage_settings(alloc, options, flags, text) {
-        Ok(damaged) => {
-            let (l, s) = (damaged.settings.limits, damaged.settings.speed);
-            let fates = &damaged.settings.fates;
-            let outcome = run_enumeration(alloc, r, w, l, s, fates, &damaged.changes, flags);
-            report_end(&outcome, person, flags, e)
-        }
+        Ok(damaged) => enumerate_under(alloc, &damaged, flags, person, r, w, e),
         Err(fault) => refuse(fault, person, e),
     }
+}
+
+/// Enumerates under these settings.
+fn enumerate_under<R: Read, W: Write, E: Write>(
+    alloc: Global,
+    damaged: &DamageSettings,
+    flags: EnumerateFlags,
+    person: bool,
+    r: &mut R,
+    w: &mut W,
+    e: &mut E,
+) -> u8
+    ensures { EndsUnder person (under damaged.now.settings.limits damaged.now.settings.speed damaged.now.settings.fates.items damaged.now.changes.items flags) (R.remaining r.old) (R.remaining r.new) (W.contents w.old) (W.contents w.new) (E.contents e.old) (E.contents e.new) result }
+{
+    let (l, s) = (damaged.settings.limits, damaged.settings.speed);
+    let fates = &damaged.settings.fates;
+    let outcome = run_enumeration(alloc, r, w, l, s, fates, &damaged.changes, flags);
+    report_end(&outcome, person, flags, e)
 }
 
 /// The exit status of options that are refused, after the line of their fault.
