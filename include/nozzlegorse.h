@@ -11,8 +11,8 @@
  *  - A text or bytes go into the caller's buffer whole, or the buffer is as it was: then the status is NZG_NO_ROOM, and
  *    `length` is what is wanted. A room of 0 asks for it. No NUL is written after a text.
  *  - A handle is a struct with one pointer, begun as {0}. `_open` puts something there and frees what was there; `_close`
- *    frees it and leaves {0}, also where nothing is held. It is not copied, nor looked into, nor used by two calls at once,
- *    and stays on its thread.
+ *    frees it and leaves {0}, also where nothing is held. It is not copied, nor looked into, nor used by two calls at once.
+ *    It may move between threads, one call at a time.
  *  - There is no runtime, no global state, no thread and no file. memcpy, memmove and memset, and the three functions for
  *    memory below, are all that the library calls. */
 #ifndef NOZZLEGORSE_H
