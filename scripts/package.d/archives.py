@@ -259,8 +259,9 @@ def wheel(made):
     for library in ("libnozzlegorse.so", "libnozzlegorse_bench.so"):
         files[f"nozzlegorse/{library}"] = read(f"{made.room}/{library}"), 0o644
     files[f"{name}.data/scripts/usbdesc"] = read(f"{made.room}/usbdesc"), 0o755
-    files |= {f"{name}.data/data/{path}": it for path, it in shared().items()}
-    files[f"{name}.data/data/include/nozzlegorse.h"] = read(f"{made.room}/nozzlegorse.h"), 0o644
+    # In the package's folder, which pip removes whole.
+    files |= {f"nozzlegorse/{path}": it for path, it in shared().items()}
+    files["nozzlegorse/include/nozzlegorse.h"] = read(f"{made.room}/nozzlegorse.h"), 0o644
     files[f"{info}/METADATA"] = metadata(made).encode(), 0o644
     files[f"{info}/WHEEL"] = f"Wheel-Version: 1.0\nGenerator: nozzlegorse\nRoot-Is-Purelib: false\nTag: {WHEEL}\n".encode(), 0o644
     files[f"{info}/LICENSE"] = read(f"{ROOT}/LICENSE"), 0o644
