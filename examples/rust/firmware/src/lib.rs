@@ -5,8 +5,7 @@
 pub const DEVICE: [u8; 18] = [
     18, 1, // bLength, DEVICE
     0x00, 0x02, // bcdUSB 2.00
-    0, 0, 0, // class, subclass and protocol: those of the interfaces
-    64, // bMaxPacketSize0
+    0, 0, 0, 64, // class, subclass and protocol of each interface; bMaxPacketSize0
     0x09, 0x12, 0x01, 0x00, // idVendor, idProduct
     0x00, 0x01, // bcdDevice 1.00
     0, 0, 0, // no strings
