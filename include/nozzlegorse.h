@@ -66,7 +66,7 @@ struct nzg_answer {
 };
 
 /* The three functions by which the library takes memory. A block is aligned as asked for, at most to 16. Where `ok` is
- * false, `at` is any pointer but NULL, and the old block stays. */
+ * false, `at` is any pointer but NULL, and the old block stays. Where several threads call the library, several call these. */
 struct nzg_block { bool ok; unsigned char *at; };
 struct nzg_block rattle_alloc(nzg_size length, nzg_size align);
 struct nzg_block rattle_realloc(unsigned char *at, nzg_size kept, nzg_size length, nzg_size align);

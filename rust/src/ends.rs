@@ -162,24 +162,42 @@ macro_rules! handles {
 }
 
 handles! {
-    /// A device with the descriptors of a file. It is `Send`, and neither `Clone` nor `Sync`.
+    /// A device with the descriptors of a file. It is `Send`, and neither `Clone` nor `Sync`: what one thread opened another one goes
+    /// on with, and closes.
     ///
     /// ```
-    /// use nozzlegorse::{Action, Decoder, Host, Speed};
+    /// use nozzlegorse::{Device, Reply, Speed, Stage, Transaction};
     ///
-    /// fn may_move<T: Send>(it: T) -> T {
-    ///     it
-    /// }
-    /// // What one thread opened another one goes on with, and closes.
-    /// let mut host = may_move(Host::open(1, 16, 3, Speed::Full)?);
+    /// let device = [18, 1, 0, 2, 0, 0, 0, 64, 9, 18, 1, 0, 0, 1, 0, 0, 0, 1];
+    /// let set = [9, 2, 18, 0, 1, 1, 0, 0x80, 50, 9, 4, 0, 0, 0, 0xff, 0, 0, 0];
+    /// let mut device = Device::open(&[device, set].concat(), Speed::Full)?;
+    /// let reply = std::thread::spawn(move || {
+    ///     let setup = Stage::Setup([0x80, 6, 0, 1, 0, 0, 18, 0]);
+    ///     device.serve(&Transaction { address: 0, stage: setup }, true)
+    /// });
+    /// assert_eq!(reply.join().unwrap(), Reply::Ack);
+    /// # Ok::<(), nozzlegorse::Fault>(())
+    /// ```
+    Device nzg_device nzg_device_close
+    /// A host that enumerates one device. It is `Send`, and neither `Clone` nor `Sync`.
+    ///
+    /// ```
+    /// use nozzlegorse::{Action, Host, Speed};
+    ///
+    /// let mut host = Host::open(1, 16, 3, Speed::Full)?;
     /// assert_eq!(host.due(), Action::Reset);
     /// let due = std::thread::spawn(move || {
     ///     host.reset_done();
     ///     host.due()
     /// });
     /// assert!(matches!(due.join().unwrap(), Action::Send(_)));
+    /// # Ok::<(), nozzlegorse::Fault>(())
+    /// ```
+    Host nzg_host nzg_host_close
+    /// A set that comes in pieces. It is `Send`, and neither `Clone` nor `Sync`.
     ///
-    /// let mut decoder = may_move(Decoder::open()?);
+    /// ```
+    /// let mut decoder = nozzlegorse::Decoder::open()?;
     /// assert_eq!(decoder.feed(&[9, 2])?, (false, 2));
     /// let listed = std::thread::spawn(move || {
     ///     decoder.feed(&[9, 0, 0, 1, 0, 0x80, 50])?;
@@ -188,10 +206,6 @@ handles! {
     /// assert!(listed.join().unwrap()?.starts_with("configuration "));
     /// # Ok::<(), nozzlegorse::Fault>(())
     /// ```
-    Device nzg_device nzg_device_close
-    /// A host that enumerates one device. It is `Send`, and neither `Clone` nor `Sync`.
-    Host nzg_host nzg_host_close
-    /// A set that comes in pieces. It is `Send`, and neither `Clone` nor `Sync`.
     Decoder nzg_decoder nzg_decoder_close
 }
 
