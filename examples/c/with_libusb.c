@@ -1,5 +1,5 @@
 /* with_libusb: explains each device of this machine: its bytes by libusb, their meaning by nozzlegorse. It ends in 1 where a device
- * can't be read whole, and in 2 where libusb doesn't start. */
+ * can't be read whole or its bytes are no descriptors, and in 2 where libusb doesn't start. */
 #include <libusb.h>
 #include <nozzlegorse.h>
 #include <stdio.h>
