@@ -11,8 +11,8 @@
  *  - A text or bytes go into the caller's buffer whole, or the buffer is as it was: then the status is NZG_NO_ROOM, and
  *    `length` is what is wanted. A room of 0 asks for it. No NUL is written after a text.
  *  - A handle is a struct with one pointer, begun as {0}. `_open` puts something there and frees what was there; `_close`
- *    frees it and leaves {0}, also where nothing is held. It is not copied, nor looked into, nor used by two calls at once,
- *    and stays on its thread.
+ *    frees it and leaves {0}, also where nothing is held. It is not copied, nor looked into, nor used by two calls at once.
+ *    It may move between threads, one call at a time.
  *  - There is no runtime, no global state, no thread and no file. memcpy, memmove and memset, and the three functions for
  *    memory below, are all that the library calls. */
 #ifndef NOZZLEGORSE_H
@@ -66,7 +66,7 @@ struct nzg_answer {
 };
 
 /* The three functions by which the library takes memory. A block is aligned as asked for, at most to 16. Where `ok` is
- * false, `at` is any pointer but NULL, and the old block stays. */
+ * false, `at` is any pointer but NULL, and the old block stays. Where several threads call the library, several call these. */
 struct nzg_block { bool ok; unsigned char *at; };
 struct nzg_block rattle_alloc(nzg_size length, nzg_size align);
 struct nzg_block rattle_realloc(unsigned char *at, nzg_size kept, nzg_size length, nzg_size align);

@@ -12,6 +12,20 @@ NAMES = {"at": "held", "NzgDescriptor.kind": "type", "Position.interface": "inte
          "NzgPacket.bytes": "data", "Position.at": "next"}
 
 
+# What the program in Rust begins with: `offset_of` of the standard library is younger than the oldest Rust that is served.
+RUST = """#![allow(dead_code)]
+mod sys;
+use std::{mem::size_of, ptr::addr_of};
+macro_rules! offset_of {
+    ($name:ty, $field:ident) => {{
+        let it = <$name>::default();
+        addr_of!(it.$field) as usize - addr_of!(it) as usize
+    }};
+}
+fn main() {
+"""
+
+
 def text_of(path):
     with open(path, encoding="utf-8") as it:
         return it.read()
@@ -91,8 +105,8 @@ def asserts(structs, form, size, place):
 
 
 def of_compilers(structs):
-    """A text of C and one of Rust that compile where each size and offset is that of Python."""
+    """A text of C that compiles, and one of Rust that ends in 0, where each size and offset is that of Python."""
     c = asserts(structs, "_Static_assert({what} == {number}, \"\");", "sizeof(struct nzg_{name})", "offsetof(struct nzg_{name}, {field})")
-    rust = asserts(structs, "const _: () = assert!({what} == {number});", "size_of::<sys::nzg_{name}>()", "offset_of!(sys::nzg_{name}, {field})")
+    rust = asserts(structs, "    assert_eq!({what}, {number});", "size_of::<sys::nzg_{name}>()", "offset_of!(sys::nzg_{name}, {field})")
     return ("#include <nozzlegorse.h>\n#define offsetof(type, field) __builtin_offsetof(type, field)\n" + "\n".join(c) + "\n",
-            "#![allow(dead_code)]\nuse std::mem::{offset_of, size_of};\nmod sys;\n" + "\n".join(rust).replace(", type)", ", r#type)") + "\nfn main() {}\n")
+            RUST + "\n".join(rust).replace(", type)", ", r#type)") + "\n}\n")

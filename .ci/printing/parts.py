@@ -20,7 +20,7 @@ def fenced(lines, language=""):
 def of_file(path, most=None):
     """A file, or its first lines."""
     lines = sources.text_of(path).splitlines()
-    return fenced(lines[: int(most)] if most else lines, "rs" if path.endswith(".rt") else "")
+    return fenced(lines[: int(most)] if most else lines, {".rt": "rs", ".c": "c"}.get(os.path.splitext(path)[1], ""))
 
 
 def of_contract(call):

@@ -1,6 +1,6 @@
 //! mouse_in < FILE: the interrupt IN endpoint of the mouse.
-use nozzlegorse::{Endpoint, TransferType, descriptors};
-use std::io::{Read, stdin};
+use nozzlegorse::{descriptors, Endpoint, TransferType};
+use std::io::{stdin, Read};
 
 fn main() {
     let mut bytes = Vec::new();

@@ -1,5 +1,5 @@
 //! strings < FILE: all strings.
-use nozzlegorse::{Role, descriptors};
+use nozzlegorse::{descriptors, Role};
 use std::{error::Error, io::Read};
 
 fn main() -> Result<(), Box<dyn Error>> {

@@ -1,6 +1,8 @@
 //! texts COMMAND [FATES] < FILE: what the crate makes of the bytes; a fault on standard error, as `usbdesc` says it.
-use nozzlegorse::{Fault, Options, Speed, build, check, descriptors, enumerate, explain, remarks, show, with_strings};
-use std::io::{Read, Write, stdin, stdout};
+use nozzlegorse::{
+    build, check, configurations, descriptors, enumerate, explain, remarks, show, with_strings, Fault, Options, Speed,
+};
+use std::io::{stdin, stdout, Read, Write};
 
 fn walk(bytes: &[u8]) -> String {
     let line = |it: nozzlegorse::Descriptor| {
@@ -15,6 +17,21 @@ fn walk(bytes: &[u8]) -> String {
             + &format!("{class} {subclass} {protocol} {language} {index}{fields}\n")
     };
     descriptors(bytes).map(line).collect()
+}
+
+/// A line for each configuration and each setting, interface after interface.
+fn tree(bytes: &[u8]) -> String {
+    let mut lines = String::new();
+    let places = |it: &nozzlegorse::Descriptor| it.extras().map(|it| format!(" {}", it.place())).collect::<String>();
+    for configuration in configurations(bytes) {
+        lines += &format!("{:?} {}:{}\n", configuration.part(), configuration.value(), places(&configuration));
+        for setting in configuration.interfaces().flat_map(|it| it.alternates()) {
+            let endpoint = |it: nozzlegorse::Endpoint| format!(" {:02x}{}", it.address(), places(&it));
+            let endpoints: String = setting.endpoints().map(endpoint).collect();
+            lines += &format!("{}.{}:{}{endpoints}\n", setting.interface(), setting.alternate(), places(&setting));
+        }
+    }
+    lines
 }
 
 fn made(command: &str, fates: &str, bytes: &[u8]) -> Result<Vec<u8>, Fault> {
@@ -32,6 +49,7 @@ fn made(command: &str, fates: &str, bytes: &[u8]) -> Result<Vec<u8>, Fault> {
         "build" | "build-" => build(bytes, command == "build-")?,
         "with_strings" => with_strings(bytes)?,
         "walk" => walk(bytes).into(),
+        "tree" => tree(bytes).into(),
         "enumerate" => {
             let it = enumerate(bytes, Speed::Full, 16, 3, fates.as_bytes())?;
             format!("{it}\n{}", it.read.as_deref().unwrap_or("")).into()

@@ -1,11 +1,13 @@
 //! Descriptors, their fields and the rules that they break, as values.
-use crate::fault::{Fault, done};
+use crate::fault::{done, Fault};
 use crate::sys::{self, nzg_descriptor, nzg_field, nzg_finding, nzg_remark};
-use crate::{Speed, into, text_of};
+use crate::{into, text_of, Speed};
+use std::hash::{Hash, Hasher};
 use std::{fmt, iter::FusedIterator, ops::Deref};
 
 /// What bytes are.
 #[derive(Clone, Copy, Debug, PartialEq, Eq, Hash)]
+#[non_exhaustive]
 pub enum Input {
     /// One configuration set.
     Set,
@@ -27,6 +29,7 @@ pub fn judge(bytes: &[u8]) -> Result<Input, Fault> {
 
 /// What a descriptor is at its place.
 #[derive(Clone, Copy, Debug, PartialEq, Eq, Hash)]
+#[non_exhaustive]
 pub enum Role {
     /// A device descriptor.
     Device = 1,
@@ -86,11 +89,26 @@ impl Part {
     }
 }
 
-/// A descriptor where it is in its input. A number that doesn't apply is 0.
+/// A descriptor where it is in its input. A number that doesn't apply is 0. Two are equal where all of these numbers and their bytes
+/// are.
 #[derive(Clone, Copy)]
 pub struct Descriptor<'a> {
     at: nzg_descriptor,
     input: &'a [u8],
+}
+
+impl PartialEq for Descriptor<'_> {
+    fn eq(&self, other: &Descriptor<'_>) -> bool {
+        self.at == other.at && self.bytes() == other.bytes()
+    }
+}
+
+impl Eq for Descriptor<'_> {}
+
+impl Hash for Descriptor<'_> {
+    fn hash<H: Hasher>(&self, state: &mut H) {
+        (self.at, self.bytes()).hash(state);
+    }
 }
 
 impl fmt::Debug for Descriptor<'_> {
@@ -166,16 +184,37 @@ impl<'a> Descriptor<'a> {
         text_of(into(|out, room| unsafe { sys::nzg_text(bytes, len, &self.at, out, room) }))
     }
     /// Its fields, in the order of the bytes.
-    pub fn fields(&self) -> impl Iterator<Item = Field> {
-        (0..).map_while(|n| {
+    pub fn fields(&self) -> impl Iterator<Item = Field> + 'a {
+        let it = *self;
+        (0..).map_while(move |n| {
             let mut field = nzg_field::default();
-            unsafe { sys::nzg_field(self.input.as_ptr(), self.input.len(), &self.at, n, &mut field) }.then_some(Field(field))
+            unsafe { sys::nzg_field(it.input.as_ptr(), it.input.len(), &it.at, n, &mut field) }.then_some(Field(field))
         })
+    }
+    /// Of a configuration, an interface at a setting and an endpoint: the descriptors of a class or a vendor, and the associations,
+    /// that belong to it.
+    pub fn extras(&self) -> impl Iterator<Item = Descriptor<'a>> + 'a {
+        let role = self.role();
+        self.contents().filter(move |it| it.owner() == Some(role))
+    }
+    /// Whether it is in a set, after its configuration.
+    pub(crate) fn is_in_a_set(&self) -> bool {
+        self.at.depth > 1
+    }
+    /// The descriptors after it, to the end of the input.
+    pub(crate) fn later(&self) -> Descriptors<'a> {
+        Descriptors { at: self.at, input: self.input }
+    }
+    /// The descriptors after it in its set, up to the next of its kind, or of the kind that contains it.
+    pub(crate) fn contents(&self) -> impl Iterator<Item = Descriptor<'a>> + 'a {
+        let role = self.at.role;
+        let ends = move |it: &Descriptor<'_>| matches!(it.role(), Role::Interface | Role::Endpoint) && it.at.role <= role;
+        self.later().take_while(move |it| it.is_in_a_set() && !ends(it))
     }
 }
 
 /// A field of a descriptor.
-#[derive(Clone, Copy)]
+#[derive(Clone, Copy, PartialEq, Eq, Hash)]
 pub struct Field(nzg_field);
 
 impl Field {
@@ -217,7 +256,7 @@ pub enum TransferType {
 }
 
 /// An endpoint descriptor.
-#[derive(Clone, Copy, Debug)]
+#[derive(Clone, Copy, Debug, PartialEq, Eq, Hash)]
 pub struct Endpoint<'a>(Descriptor<'a>);
 
 impl<'a> Deref for Endpoint<'a> {

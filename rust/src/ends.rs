@@ -1,7 +1,7 @@
 //! Both ends of endpoint zero, transaction by transaction, and a set in pieces.
-use crate::fault::{Fault, Kind, Step, done};
+use crate::fault::{done, Fault, Kind, Step};
 use crate::sys::{self, nzg_packet, nzg_setup, nzg_state, nzg_step, nzg_transaction, nzg_trouble};
-use crate::{Speed, into, text_of};
+use crate::{into, text_of, Speed};
 
 /// The data toggle of a packet.
 #[derive(Clone, Copy, Debug, PartialEq, Eq, Hash)]
@@ -14,7 +14,11 @@ pub enum Toggle {
 
 impl Toggle {
     fn of(number: u8) -> Toggle {
-        if number == 0 { Toggle::Data0 } else { Toggle::Data1 }
+        if number == 0 {
+            Toggle::Data0
+        } else {
+            Toggle::Data1
+        }
     }
 }
 
@@ -99,6 +103,7 @@ impl Reply {
 
 /// How a device under test differs from one that has its descriptors: docs/bench.md.
 #[derive(Clone, Copy, Debug, PartialEq, Eq, Hash)]
+#[non_exhaustive]
 pub enum Difference {
     /// No ACK of a SETUP (USB 2.0, 8.4.6.4).
     Setup,
@@ -127,7 +132,7 @@ impl Difference {
 }
 
 /// What a device under test has answered in the transfer of a request that is open to it: [`Device::judge`].
-#[derive(Clone, Debug, Default)]
+#[derive(Clone, Debug, Default, PartialEq, Eq, Hash)]
 pub struct OpenTransfer(sys::nzg_open_transfer);
 
 impl OpenTransfer {
@@ -137,12 +142,16 @@ impl OpenTransfer {
     }
 }
 
-// Each handle is closed by the library when it is dropped. The raw pointer in it makes it neither `Send` nor `Sync`.
+// Each handle is closed by the library when it is dropped. It may move between threads: the library has no global state and none of
+// a thread. Each call takes it as `&mut`, so two never have it at once.
 macro_rules! handles {
     ($($(#[$words:meta])* $name:ident $of:ident $close:ident)*) => {$(
         $(#[$words])*
         #[derive(Debug)]
         pub struct $name(sys::$of);
+
+        // SAFETY: as the header says, a handle may be used and closed by any thread, in one call at a time.
+        unsafe impl Send for $name {}
 
         impl Drop for $name {
             fn drop(&mut self) {
@@ -153,24 +162,63 @@ macro_rules! handles {
 }
 
 handles! {
-    /// A device with the descriptors of a file. It is neither `Clone` nor `Send`.
+    /// A device with the descriptors of a file. It is `Send`, and neither `Clone` nor `Sync`: what one thread opened another one goes
+    /// on with, and closes.
+    ///
+    /// ```
+    /// use nozzlegorse::{Device, Reply, Speed, Stage, Transaction};
+    ///
+    /// let device = [18, 1, 0, 2, 0, 0, 0, 64, 9, 18, 1, 0, 0, 1, 0, 0, 0, 1];
+    /// let set = [9, 2, 18, 0, 1, 1, 0, 0x80, 50, 9, 4, 0, 0, 0, 0xff, 0, 0, 0];
+    /// let mut device = Device::open(&[device, set].concat(), Speed::Full)?;
+    /// let reply = std::thread::spawn(move || {
+    ///     let setup = Stage::Setup([0x80, 6, 0, 1, 0, 0, 18, 0]);
+    ///     device.serve(&Transaction { address: 0, stage: setup }, true)
+    /// });
+    /// assert_eq!(reply.join().unwrap(), Reply::Ack);
+    /// # Ok::<(), nozzlegorse::Fault>(())
+    /// ```
     Device nzg_device nzg_device_close
-    /// A host that enumerates one device. It is neither `Clone` nor `Send`.
+    /// A host that enumerates one device. It is `Send`, and neither `Clone` nor `Sync`.
+    ///
+    /// ```
+    /// use nozzlegorse::{Action, Host, Speed};
+    ///
+    /// let mut host = Host::open(1, 16, 3, Speed::Full)?;
+    /// assert_eq!(host.due(), Action::Reset);
+    /// let due = std::thread::spawn(move || {
+    ///     host.reset_done();
+    ///     host.due()
+    /// });
+    /// assert!(matches!(due.join().unwrap(), Action::Send(_)));
+    /// # Ok::<(), nozzlegorse::Fault>(())
+    /// ```
     Host nzg_host nzg_host_close
-    /// A set that comes in pieces. It is neither `Clone` nor `Send`.
+    /// A set that comes in pieces. It is `Send`, and neither `Clone` nor `Sync`.
+    ///
+    /// ```
+    /// let mut decoder = nozzlegorse::Decoder::open()?;
+    /// assert_eq!(decoder.feed(&[9, 2])?, (false, 2));
+    /// let listed = std::thread::spawn(move || {
+    ///     decoder.feed(&[9, 0, 0, 1, 0, 0x80, 50])?;
+    ///     decoder.list()
+    /// });
+    /// assert!(listed.join().unwrap()?.starts_with("configuration "));
+    /// # Ok::<(), nozzlegorse::Fault>(())
+    /// ```
     Decoder nzg_decoder nzg_decoder_close
 }
 
 /// One control transfer at the host's end, without data for the device: that is [`Write`]. A copy is a place to come back to.
-#[derive(Clone, Copy, Debug)]
+#[derive(Clone, Copy, Debug, PartialEq, Eq, Hash)]
 pub struct Transfer(sys::nzg_transfer);
 
 /// One control transfer with data to the device. A copy is a place to come back to.
-#[derive(Clone, Copy, Debug)]
+#[derive(Clone, Copy, Debug, PartialEq, Eq, Hash)]
 pub struct Write(sys::nzg_write);
 
 /// What a device keeps.
-#[derive(Clone, Copy, Debug, PartialEq, Eq)]
+#[derive(Clone, Copy, Debug, PartialEq, Eq, Hash)]
 pub struct State {
     /// Its address.
     pub address: u8,
@@ -328,7 +376,7 @@ impl Write {
 }
 
 /// What a host does next.
-#[derive(Clone, Debug, PartialEq, Eq)]
+#[derive(Clone, Debug, PartialEq, Eq, Hash)]
 pub enum Action {
     /// It resets the bus.
     Reset,

@@ -30,6 +30,7 @@ pub enum Kind {
 
 /// A step of an enumeration.
 #[derive(Clone, Copy, Debug, PartialEq, Eq, Hash)]
+#[non_exhaustive]
 pub enum Step {
     /// The first bytes of the device descriptor.
     First,

@@ -1,37 +1,28 @@
-//! USB 2.0 descriptors, and both ends of the control pipe, by a proved library.
-//!
-//! ```
-//! let set = [9, 2, 16, 0, 0, 1, 0, 0x80, 50, 7, 0x24, 1, 2, 3, 4, 5];
-//! for descriptor in nozzlegorse::descriptors(&set) {
-//!     println!("{:?} at {}", descriptor.role(), descriptor.place());
-//! }
-//! for finding in nozzlegorse::check(&set)? {
-//!     println!("{finding}");
-//! }
-//! # Ok::<(), nozzlegorse::Fault>(())
-//! ```
+#![doc = include_str!("../README.md")]
 #![warn(missing_docs)]
 mod descriptor;
 mod ends;
 mod fault;
 mod packet;
 mod sys;
+mod tree;
 
 pub use descriptor::{
-    Descriptor, Descriptors, Endpoint, Field, Finding, Input, Part, Remark, Role, TransferType, check, descriptors, judge,
-    remarks,
+    check, descriptors, judge, remarks, Descriptor, Descriptors, Endpoint, Field, Finding, Input, Part, Remark, Role,
+    TransferType,
 };
 pub use ends::{
     Action, Decoder, Device, Difference, Host, OpenTransfer, Reply, Stage, State, Toggle, Transaction, Transfer, Write,
 };
 use fault::done;
 pub use fault::{Fault, Kind, Step};
-pub use packet::{Damage, DataKind, Handshake, Packet, TokenKind, crc5, crc16};
+pub use packet::{crc16, crc5, Damage, DataKind, Handshake, Packet, TokenKind};
 use std::fmt;
 use sys::{nzg_answer, nzg_outcome};
+pub use tree::{configurations, Configuration, Interface, Setting};
 
 // SAFETY, of each call in this crate: a slice is a pointer that is not null and its length, lent for the call; a `&mut`
-// overlaps nothing else; a handle is null or what the library put there, has one owner and stays on its thread. The library
+// overlaps nothing else; a handle is null or what the library put there, has one owner and is in one call at a time. The library
 // asks for nothing else.
 
 /// Calls with a buffer that grows to what is wanted.
@@ -54,6 +45,7 @@ fn text_of((answer, out): (nzg_answer, Vec<u8>)) -> Result<String, Fault> {
 
 /// The speed of a bus.
 #[derive(Clone, Copy, Debug, PartialEq, Eq, Hash)]
+#[non_exhaustive]
 pub enum Speed {
     /// 1.5 Mb/s.
     Low = 1,
@@ -66,7 +58,7 @@ pub enum Speed {
 }
 
 /// How `explain` writes.
-#[derive(Clone, Copy, Debug, Default, PartialEq, Eq)]
+#[derive(Clone, Copy, Debug, Default, PartialEq, Eq, Hash)]
 pub struct Options {
     /// A line for each descriptor, without its fields.
     pub brief: bool,
@@ -107,7 +99,7 @@ pub fn explain(bytes: &[u8], how: Options) -> (String, Option<Fault>) {
 }
 
 /// What came of an enumeration. It is shown as the line of `usbdesc enumerate`.
-#[derive(Clone, Debug, PartialEq, Eq)]
+#[derive(Clone, Debug, PartialEq, Eq, Hash)]
 pub struct Enumeration {
     /// How often the host began.
     pub attempts: u8,

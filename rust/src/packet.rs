@@ -1,5 +1,5 @@
 //! Packets of the bus, from their PID to their CRC, and both CRCs.
-use crate::fault::{Fault, done};
+use crate::fault::{done, Fault};
 use crate::into;
 use crate::sys::{self, nzg_packet_fields};
 use std::{error, fmt};

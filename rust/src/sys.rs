@@ -5,7 +5,7 @@ use std::ffi::c_void;
 macro_rules! structs {
     ($($name:ident { $($kind:ty: $($field:ident)*;)* })*) => {$(
         #[repr(C)]
-        #[derive(Clone, Copy, Debug)]
+        #[derive(Clone, Copy, Debug, PartialEq, Eq, Hash)]
         pub struct $name { $($(pub $field: $kind,)*)* }
 
         impl Default for $name {
@@ -47,7 +47,7 @@ structs! {
     nzg_decoder { *mut c_void: held; }
 }
 
-unsafe extern "C" {
+extern "C" {
     pub fn nzg_show(bytes: *const u8, len: usize, any: bool, text: *mut u8, room: usize) -> nzg_answer;
     pub fn nzg_explain(bytes: *const u8, len: usize, options: u32, speed: u8, text: *mut u8, room: usize) -> nzg_answer;
     pub fn nzg_build(text: *const u8, len: usize, comments: bool, bytes: *mut u8, room: usize) -> nzg_answer;

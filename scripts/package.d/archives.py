@@ -2,6 +2,7 @@
 target of a link as text, and its mode."""
 
 import base64
+import email.utils
 import glob
 import gzip
 import hashlib
@@ -9,6 +10,7 @@ import io
 import os
 import re
 import tarfile
+import textwrap
 import time
 import zipfile
 from typing import NamedTuple
@@ -17,6 +19,9 @@ import pages
 from playing.built import ROOT, TARGET
 
 SUMMARY = "USB 2.0 descriptors, and both ends of the control pipe, by a proved library"
+# What is tried on the bench of C, and what of examples is in no package: the first has lines for the top of the repository.
+ON_BENCH = ("tiny.c", "tiny_host.c", "tiny_stack.c", "hosted.h")
+UNPACKED = ("README.md", "rust/firmware/Cargo.lock", "rust/firmware/.gitignore")
 # Python's installers know of no glibc before this one.
 WHEEL = "py3-none-manylinux_2_17_x86_64"
 CONFIG = """prefix={prefix}
@@ -30,33 +35,59 @@ Version: {version}
 Libs: -L${{libdir}} -lnozzlegorse
 Cflags: -I${{includedir}}
 """
+MAINTAINER = "Nozzlegorse maintainers <maintainers@users.noreply.nozzlegorse.example>"
 CONTROL = """Package: nozzlegorse
 Version: {version}
 Architecture: amd64
-Maintainer: the Nozzlegorse authors
+Maintainer: {maintainer}
 Installed-Size: {size}
 Depends: libc6 (>= 2.14)
 Section: utils
 Priority: optional
-Description: {summary}
- The program usbdesc, and the library for C with header, archive and pkg-config.
+{homepage}Description: {summary}
+ The program usbdesc explains, checks, lists and builds the descriptors of a
+ USB device, and reads them as a host does over a bus that loses packets.
+ .
+ The library has the same calls for C, and both ends of the control pipe,
+ transaction by transaction. Its header, archive and pkg-config file are in
+ this package, and so is the bench, which tries the control pipe of another
+ device or host beside the proved one.
+"""
+# Which package has a library of this name and number.
+SHLIBS = """libnozzlegorse {number} nozzlegorse (>= {version})
+libnozzlegorse_bench {number} nozzlegorse (>= {version})
 """
 METADATA = """Metadata-Version: 2.1
 Name: nozzlegorse
 Version: {version}
 Summary: {summary}
-License: MIT
+Author: the Nozzlegorse authors
+{homepage}License: MIT
+Keywords: usb,descriptor,firmware,driver,verified
+Classifier: Development Status :: 4 - Beta
+Classifier: Intended Audience :: Developers
+Classifier: License :: OSI Approved :: MIT License
+Classifier: Operating System :: POSIX :: Linux
+Classifier: Programming Language :: Python :: 3
+Classifier: Topic :: Software Development :: Embedded Systems
+Classifier: Topic :: Software Development :: Testing
+Classifier: Topic :: System :: Hardware :: Universal Serial Bus (USB)
+Classifier: Typing :: Typed
 Requires-Python: >=3.10
-"""
+Description-Content-Type: text/markdown
+
+{description}"""
 
 
 class Made(NamedTuple):
-    """What is packed: its version, the folder that it was built in, the program's help, and the time that files get."""
+    """What is packed: its version, the folder that it was built in, the program's help, the time that files get, and the address of
+    the sources, where one was named."""
 
     version: str
     room: str
     help: pages.Help
     epoch: int
+    repository: str = ""
 
     def for_python(self):
         """The version as Python's installers have it, by which what precedes a release is older than that."""
@@ -91,8 +122,35 @@ def bench():
     return [it for kind in "ch" for it in sorted(glob.glob(f"{ROOT}/callers/c/nozzlegorse_*.{kind}"))]
 
 
+def examples():
+    """Each example by its path: those of C, Python, Rust and USB/IP, the firmwares, and what is tried on the bench of C."""
+    for folder, _, names in sorted(os.walk(f"{ROOT}/examples")):
+        if not {"target", "__pycache__"} & set(folder.split("/")):
+            yield from ((os.path.relpath(f"{folder}/{it}", f"{ROOT}/examples"), f"{folder}/{it}") for it in sorted(names))
+    yield from ((f"rust/{os.path.basename(it)}", it) for it in sorted(glob.glob(f"{ROOT}/rust/examples/*.rs")))
+    yield from ((f"bench/{it}", f"{ROOT}/callers/c/{it}") for it in ON_BENCH)
+
+
+def unlinked(name, content):
+    """A file of an example as it is outside of the repository: without links into that, or a path to the crate."""
+    if name.endswith("README.md"):
+        return re.sub(rb"\[([^]]*)\]\([^)]*\)", rb"\1", content)
+    return re.sub(rb"^nozzlegorse = .*\n", b"", content, flags=re.M) if name.endswith("Cargo.toml") else content
+
+
+def shared():
+    """What each package has at the same places: the bench for C, and all examples."""
+    files = {f"share/nozzlegorse/bench/{os.path.basename(it)}": (read(it), 0o644) for it in bench()}
+    for name, path in examples():
+        if name not in UNPACKED:
+            mode = 0o755 if os.access(path, os.X_OK) else 0o644
+            files[f"share/doc/nozzlegorse/examples/{name}"] = unlinked(name, read(path)), mode
+    return files
+
+
 def rust_crate():
-    return [it for kind in ("Cargo.toml", "build.rs", "src/*.rs", "examples/*.rs") for it in sorted(glob.glob(f"{ROOT}/rust/{kind}"))]
+    kinds = ("Cargo.toml", "build.rs", "README.md", "src/*.rs", "examples/*.rs")
+    return [it for kind in kinds for it in sorted(glob.glob(f"{ROOT}/rust/{kind}"))]
 
 
 def installed(made, libdir, prefix):
@@ -116,7 +174,7 @@ def installed(made, libdir, prefix):
         "share/zsh/vendor-completions/_usbdesc": (pages.zsh(made.help).encode(), 0o644),
         "share/fish/vendor_completions.d/usbdesc.fish": (pages.fish(made.help).encode(), 0o644),
         "share/doc/nozzlegorse/copyright": (read(f"{ROOT}/LICENSE"), 0o644),
-        **{f"share/nozzlegorse/bench/{os.path.basename(it)}": (read(it), 0o644) for it in bench()},
+        **shared(),
     }
 
 
@@ -145,21 +203,53 @@ def plain(made):
 def crate(made):
     top = f"nozzlegorse-{made.version}"
     files = {os.path.relpath(it, f"{ROOT}/rust"): (with_version(it, made), 0o644) for it in rust_crate()}
+    if made.repository:
+        manifest = files["Cargo.toml"][0].replace(b'\nreadme = ', f'\nrepository = "{made.repository}"\nreadme = '.encode())
+        files["Cargo.toml"] = manifest, 0o644
+    files |= shared() | {"include/nozzlegorse.h": (read(f"{made.room}/nozzlegorse.h"), 0o644)}
     files[f"lib/{TARGET}/libnozzlegorse.a"] = read(f"{made.room}/libnozzlegorse.a"), 0o644
     files["LICENSE"] = read(f"{ROOT}/LICENSE"), 0o644
     return f"{top}.crate", packed({f"{top}/{path}": it for path, it in files.items()}, made.epoch)
 
 
+def changelog(made):
+    """What CHANGELOG.md says of this version, as Debian has it: its headings between brackets, and lines of at most 79 columns."""
+    newest = re.split(r"^## .*$", read(f"{ROOT}/CHANGELOG.md").decode(), flags=re.M)[1]
+    lines = [f"nozzlegorse ({made.for_debian()}) unstable; urgency=medium"]
+    for line in re.findall(r"^(?:### .*|- .*)$", newest, re.M):
+        plain_text = re.sub(r"\[([^]]*)\]\([^)]*\)|[`*]", r"\1", line)
+        if line.startswith("#"):
+            lines += ["", f"  [ {plain_text.lstrip('# ')} ]"]
+        else:
+            lines += textwrap.wrap(plain_text[2:], 79, initial_indent="  * ", subsequent_indent="    ", break_on_hyphens=False)
+    date = email.utils.formatdate(made.epoch)
+    return "\n".join([*lines, "", f" -- {MAINTAINER}  {date.replace('-0000', '+0000')}", ""]).encode()
+
+
 def debian(made):
     """An archive of ar with three members, each at an even place."""
     files = {f"./usr/{path}": it for path, it in installed(made, f"lib/{TARGET.replace('-unknown', '')}", "/usr").items()}
-    size = sum(len(content) for content, _ in files.values()) // 1024
-    control = CONTROL.format(version=made.for_debian(), size=size, summary=SUMMARY).encode()
-    about = {"./control": (control, 0o644), "./triggers": (b"activate-noawait ldconfig\n", 0o644)}
+    files["./usr/share/doc/nozzlegorse/changelog.gz"] = gzip.compress(changelog(made), 9, mtime=0), 0o644
+    regular = {path: content for path, (content, _) in sorted(files.items()) if isinstance(content, bytes)}
+    homepage = f"Homepage: {made.repository}\n" * bool(made.repository)
+    of_package = {"version": made.for_debian(), "maintainer": MAINTAINER, "homepage": homepage, "summary": SUMMARY}
+    texts = {
+        "control": CONTROL.format(**of_package, size=sum(map(len, regular.values())) // 1024),
+        "md5sums": "".join(f"{hashlib.md5(content).hexdigest()}  {path[2:]}\n" for path, content in regular.items()),
+        "shlibs": SHLIBS.format(version=made.for_debian(), number=made.version.partition(".")[0]),
+        "triggers": "activate-noawait ldconfig\n",
+    }
+    about = {f"./{name}": (text.encode(), 0o644) for name, text in texts.items()}
     whole = b"!<arch>\n"
     for name, data in (("debian-binary", b"2.0\n"), ("control.tar.gz", packed(about, made.epoch)), ("data.tar.gz", packed(files, made.epoch))):
         whole += f"{name:<16}{made.epoch:<12}{0:<6}{0:<6}{'100644':<8}{len(data):<10}`\n".encode() + data + b"\n" * (len(data) % 2)
     return f"nozzlegorse_{made.for_debian()}_amd64.deb", whole
+
+
+def metadata(made):
+    homepage = f"Project-URL: Source, {made.repository}\n" * bool(made.repository)
+    description = read(f"{ROOT}/python/README.md").decode()
+    return METADATA.format(version=made.for_python(), summary=SUMMARY, homepage=homepage, description=description)
 
 
 def wheel(made):
@@ -169,7 +259,10 @@ def wheel(made):
     for library in ("libnozzlegorse.so", "libnozzlegorse_bench.so"):
         files[f"nozzlegorse/{library}"] = read(f"{made.room}/{library}"), 0o644
     files[f"{name}.data/scripts/usbdesc"] = read(f"{made.room}/usbdesc"), 0o755
-    files[f"{info}/METADATA"] = METADATA.format(version=made.for_python(), summary=SUMMARY).encode(), 0o644
+    # In the package's folder, which pip removes whole.
+    files |= {f"nozzlegorse/{path}": it for path, it in shared().items()}
+    files["nozzlegorse/include/nozzlegorse.h"] = read(f"{made.room}/nozzlegorse.h"), 0o644
+    files[f"{info}/METADATA"] = metadata(made).encode(), 0o644
     files[f"{info}/WHEEL"] = f"Wheel-Version: 1.0\nGenerator: nozzlegorse\nRoot-Is-Purelib: false\nTag: {WHEEL}\n".encode(), 0o644
     files[f"{info}/LICENSE"] = read(f"{ROOT}/LICENSE"), 0o644
     digests = {path: base64.urlsafe_b64encode(hashlib.sha256(data).digest()).rstrip(b"=").decode() for path, (data, _) in files.items()}

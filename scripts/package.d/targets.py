@@ -81,10 +81,11 @@ def linker(room, name):
 
 
 def plain_package(made, target, version, room, epoch):
-    """Header and archive, as a folder for a cross compiler."""
+    """Header, archive, bench and examples, as a folder for a cross compiler."""
     top = f"nozzlegorse-{version}-{target}"
     files = {"include/nozzlegorse.h": f"{room}/nozzlegorse.h", "lib/libnozzlegorse.a": library(made, target, room), "share/doc/copyright": f"{ROOT}/LICENSE"}
-    return f"{top}.tar.gz", archives.packed({f"{top}/{path}": (archives.read(it), 0o644) for path, it in files.items()}, epoch)
+    whole = {path: (archives.read(it), 0o644) for path, it in files.items()} | archives.shared()
+    return f"{top}.tar.gz", archives.packed({f"{top}/{path}": it for path, it in whole.items()}, epoch)
 
 
 def wasm(made, room):
