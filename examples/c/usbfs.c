@@ -36,7 +36,7 @@ struct plugged {
     const char *name;
     int file;
     uint8_t speed, selected; /* bConfigurationValue of the set that the kernel has selected */
-    bool disturbs;
+    bool disturbs, is_detached, is_awake; /* what was asked for, and once no driver has it; whether remote wakeup was set */
     uint8_t packet;          /* bMaxPacketSize0, and 0 until it is read */
     uint8_t toggle;
     int error;               /* 0 or the errno that the transfer ended with */
@@ -78,7 +78,7 @@ static void write_request(char text[120], const uint8_t q[8], bool is_in_address
     if (q[1] == SET_CONFIGURATION || q[1] == SET_INTERFACE) snprintf(what, sizeof what, " %u", value);
     const char *name = q[1] <= SYNCH_FRAME ? REQUESTS[q[1]] : NULL;
     int at = name ? snprintf(text, 120, "%s%s of %s", name, what, whom) : snprintf(text, 120, "request %u of %s", q[1], whom);
-    if (q[1] == GET_DESCRIPTOR || !name) at += snprintf(text + at, 120 - (size_t)at, ", %u bytes", length);
+    if (q[1] == GET_DESCRIPTOR || !name) at += snprintf(text + at, 120 - (size_t)at, ", %u byte%s", length, length == 1 ? "" : "s");
     if (is_in_address) snprintf(text + at, 120 - (size_t)at, ", in Address");
 }
 
@@ -107,7 +107,7 @@ static bool may_be_sent(const struct plugged *p, const uint8_t q[8]) {
     bool is_standard = !(q[0] & 0x60) && q[1] != SET_ADDRESS && q[1] != SET_DESCRIPTOR;
     bool tests = q[1] == SET_FEATURE && word(q + 2) == TEST_MODE, halts_zero = q[1] == SET_FEATURE && (q[0] & 0x1f) == 2 && !(q[4] & 0x0f);
     bool reads = q[0] & 0x80 && q[1] != CLEAR_FEATURE && q[1] != SET_FEATURE && q[1] != SET_CONFIGURATION && q[1] != SET_INTERFACE;
-    return is_standard && !tests && !halts_zero && (reads || (p->disturbs && !word(q + 6)));
+    return is_standard && !tests && !halts_zero && (reads || (p->is_detached && !word(q + 6)));
 }
 
 static bool is_gone(const struct plugged *p) { return p->error == ENODEV || p->error == ESHUTDOWN; }
@@ -121,6 +121,7 @@ static void make_transfer(struct plugged *p, const uint8_t q[8]) {
     if (!may_be_sent(p, q)) p->kept_back = p->error = EPERM;
     else if (ioctl(p->file, USBDEVFS_SUBMITURB, &urb)) p->kept_back = p->error = errno;
     if (p->kept_back) return;
+    if ((q[0] & 0x1f) == 0 && word(q + 2) == WAKEUP && (q[1] == SET_FEATURE || q[1] == CLEAR_FEATURE)) p->is_awake = q[1] == SET_FEATURE;
     int ready, failed;
     while ((ready = poll(&done, 1, LIMIT)) < 0 && errno == EINTR && !is_stopped) continue;
     if (ready <= 0) ioctl(p->file, USBDEVFS_DISCARDURB, &urb);
@@ -128,6 +129,12 @@ static void make_transfer(struct plugged *p, const uint8_t q[8]) {
     /* ENOENT is of a transfer that was given up: after 5 s, or since the device is gone. */
     p->error = failed ? errno : urb.status != -ENOENT ? -urb.status : ready > 0 ? ENODEV : ETIMEDOUT;
     if (!failed && urb.actual_length > 0) p->came = (size_t)urb.actual_length;
+}
+
+/* No remote wakeup is left, which SET_CONFIGURATION doesn't end. */
+static void sleep_again(struct plugged *p) {
+    const uint8_t off[8] = {0, CLEAR_FEATURE, WAKEUP};
+    if (p->is_awake && !is_gone(p)) make_transfer(p, off);
 }
 
 /* --- the adapter ----------------------------------------------------------------------------------------------------- */
@@ -140,17 +147,17 @@ static void note_part(struct plugged *p) {
     struct part it = {q[3], q[2], (uint16_t)word(q + 4), p->came};
     size_t i = 0;
     if (q[1] != GET_DESCRIPTOR || p->error) return;
+    if (!p->packet && it.type == 1 && it.length >= 8) p->packet = q[8 + 7];
     while (i < p->part_count && (p->parts[i].type != it.type || p->parts[i].index != it.index || p->parts[i].language != it.language)) i++;
     if (i == PARTS || (i < p->part_count && p->parts[i].length >= it.length)) return;
     p->parts[i] = it;
     if (i == p->part_count) p->part_count++;
-    if (!p->packet && it.type == 1 && it.length >= 8) p->packet = q[8 + 7];
 }
 
 /* A SETUP: the transfer is made here. What the kernel has done is answered as done. */
 static void begin(struct plugged *p, const uint8_t q[8]) {
     p->given = 0, p->toggle = 1;
-    if (q[1] == SET_ADDRESS || (q[1] == SET_CONFIGURATION && !p->disturbs)) {
+    if (q[1] == SET_ADDRESS || (q[1] == SET_CONFIGURATION && !p->is_detached)) {
         memcpy(p->bytes, q, 8);
         p->error = p->kept_back = 0, p->came = 0;
         return;
@@ -248,10 +255,9 @@ static int read_device(struct plugged *p) {
     size_t len;
     uint8_t *file = read_file(p, &len);
     if (!file) return STATUS_BAD;
-    bool is_written = fwrite(file, 1, len, stdout) == len && !fflush(stdout);
-    if (!is_written) tell(p, "standard output: %s\n", strerror(errno));
+    fwrite(file, 1, len, stdout);
     free(file);
-    return is_written ? 0 : STATUS_BAD;
+    return 0;
 }
 
 /* --- drivers ----------------------------------------------------------------------------------------------------------- */
@@ -286,12 +292,12 @@ static bool claim(const struct plugged *p, struct interface all[INTERFACES]) {
 
 /* The kernel selects the set again, where the device was disturbed, so that both ends agree on toggles and settings; then each driver
  * gets its interface. */
-static void give_back(const struct plugged *p, const struct interface all[INTERFACES], bool is_disturbed) {
+static void give_back(const struct plugged *p, const struct interface all[INTERFACES]) {
     unsigned selected = p->selected;
     for (unsigned i = 0; i < INTERFACES; i++)
         if (all[i].is_ours) ioctl(p->file, USBDEVFS_RELEASEINTERFACE, &i);
     if (!p->disturbs || is_gone(p)) return;
-    if (is_disturbed && ioctl(p->file, USBDEVFS_SETCONFIGURATION, &selected)) tell(p, "configuration %u is not selected again: %s\n", selected, strerror(errno));
+    if (p->is_detached && ioctl(p->file, USBDEVFS_SETCONFIGURATION, &selected)) tell(p, "configuration %u is not selected again: %s\n", selected, strerror(errno));
     for (unsigned i = 0; i < INTERFACES; i++) {
         struct usbdevfs_ioctl it = {(int)i, USBDEVFS_CONNECT, NULL};
         if (all[i].is_ours && all[i].driver[0] && ioctl(p->file, USBDEVFS_IOCTL, &it) < 0 && errno != EBUSY) tell(p, "interface %u: %s is not attached again: %s\n", i, all[i].driver, strerror(errno));
@@ -342,19 +348,11 @@ static bool ask_proved(struct test *t, const uint8_t q[8], size_t *len) {
     return transfer.stage == NZG_FAILED;
 }
 
-/* No remote wakeup is left, which SET_CONFIGURATION doesn't end. */
-static void sleep_again(struct test *t) {
-    const uint8_t off[8] = {0, CLEAR_FEATURE, WAKEUP};
-    struct nzg_state state;
-    nzg_device_state(&t->proved, &state);
-    if (state.wakeup) make_transfer(t->at, off);
-}
-
 /* Leads the proved device, or both, to a state: with an address, this set selected and nothing else. */
 static bool lead(struct test *t, bool are_both) {
     const uint8_t select[8] = {0, SET_CONFIGURATION, t->wanted}, move[8] = {0, SET_ADDRESS, AT};
     size_t len;
-    if (are_both) sleep_again(t);
+    if (are_both) sleep_again(t->at);
     if (are_both) make_transfer(t->at, select);
     if (are_both && t->at->error) return false;
     nzg_device_reset(&t->proved);
@@ -375,8 +373,8 @@ static void follow_settings(struct test *t, const struct interface all[INTERFACE
     }
 }
 
-/* Plays the transfer at the proved device, which judges each packet of the adapter: the number of a difference, or 0. Where one
- * device does what the other may refuse, they are apart. */
+/* Plays the transfer at the proved device, which judges each packet of the adapter: the number of a difference, or 0; no answer within
+ * 5 s is one. Where one device does what the other may refuse, they are apart. */
 static uint8_t judge(struct test *t, const struct nzg_setup *request) {
     struct nzg_transfer transfer;
     struct nzg_transaction next;
@@ -395,7 +393,7 @@ static uint8_t judge(struct test *t, const struct nzg_setup *request) {
         }
         nzg_transfer_take(&transfer, back.kind, back.toggle, back.data, back.len);
     }
-    return 0;
+    return t->at->error == ETIMEDOUT ? NZG_ADDRESS : 0;
 }
 
 /* Bytes, or of many how many and the first that are others. */
@@ -453,6 +451,7 @@ static void ask(struct test *t, const struct nzg_bench_request *it) {
     bool is_in_address = !t->wanted;
     enum why why = why_not(t, it, is_in_address);
     if (!why && t->is_apart && !lead(t, true)) why = UNREACHED;
+    if (is_stopped || is_gone(t->at)) return;
     /* SET_CONFIGURATION may lead both there again. */
     if (why == UNREACHED && q[1] == SET_CONFIGURATION) t->wanted = q[2];
     if (!why && !t->at->disturbs && was_asked(t, &it->setup)) return;
@@ -493,10 +492,10 @@ static bool write_junit(const struct test *t, const char *why, const char *name)
         char words[120];
         write_request(words, t->asked[i].setup.bytes, t->asked[i].is_in_address);
         fprintf(out, "  <testcase classname=\"nozzlegorse.usbfs.%s\" name=\"%s\"", t->at->name, words);
-        if (t->asked[i].text[0]) fprintf(out, "><failure message=\"%s\"/></testcase>\n", t->asked[i].text);
+        if (t->asked[i].text[0]) fprintf(out, ">\n    <failure message=\"%s\"/>\n  </testcase>\n", t->asked[i].text);
         else fprintf(out, "/>\n");
     }
-    if (why) fprintf(out, "  <testcase classname=\"nozzlegorse.usbfs.%s\" name=\"the rest\"><error message=\"%s\"/></testcase>\n", t->at->name, why);
+    if (why) fprintf(out, "  <testcase classname=\"nozzlegorse.usbfs.%s\" name=\"the rest\">\n    <error message=\"%s\"/>\n  </testcase>\n", t->at->name, why);
     fprintf(out, "</testsuite>\n");
     return !fclose(out);
 }
@@ -535,22 +534,21 @@ static int tell_findings(const struct plugged *p, const uint8_t *file, size_t le
 static int run_talk(struct test *t, const uint8_t *file, size_t len, const char *junit) {
     struct interface all[INTERFACES] = {{0}};
     struct nzg_bench_request *requests = calloc(NZG_BENCH_TALK, sizeof *requests);
-    bool is_ready = false;
     int status = STATUS_BAD;
     t->packet = file[7], t->wanted = t->at->selected, t->asked = calloc(NZG_BENCH_TALK, sizeof *t->asked);
     find_interfaces(t->at, file, len, all);
     if (!requests || !t->asked) tell(t->at, "out of memory\n");
-    else if ((is_ready = claim(t->at, all))) {
+    else if (claim(t->at, all)) {
+        t->at->is_detached = t->at->disturbs;
         lead(t, false);
         follow_settings(t, all);
         t->is_apart = t->at->disturbs;
         talk(t, requests, nzg_bench_talk(file, len, requests));
         status = end_test(t, junit);
     }
-    fflush(stdout);
     signal(SIGINT, SIG_IGN), signal(SIGTERM, SIG_IGN), signal(SIGHUP, SIG_IGN);
-    if (is_ready && t->at->disturbs && !is_gone(t->at)) sleep_again(t);
-    give_back(t->at, all, is_ready);
+    sleep_again(t->at);
+    give_back(t->at, all);
     free(requests), free(t->asked);
     return status;
 }
@@ -626,10 +624,15 @@ int main(int count, char **words) {
     if (tests) {
         const int numbers[] = {SIGINT, SIGTERM, SIGHUP};
         for (int i = 0; i < 3; i++) sigaction(numbers[i], &(struct sigaction){.sa_handler = stop}, NULL);
-        signal(SIGPIPE, SIG_IGN);
     }
+    /* Where nobody reads what is printed, drivers are still to be attached. */
+    signal(SIGPIPE, SIG_IGN);
     tell(&p, "resets%s SET_ADDRESS%s are not sent: the kernel has made them, and selected configuration %u\n", p.disturbs ? " and" : ",", p.disturbs ? "" : " and SET_CONFIGURATION", p.selected);
     int status = tests ? test_device(&p, *junit ? junit : NULL) : read_device(&p);
     close(p.file);
+    if (fflush(stdout)) {
+        tell(&p, "standard output: %s\n", strerror(errno));
+        status = STATUS_BAD;
+    }
     return is_stopped ? STATUS_STOPPED : status;
 }

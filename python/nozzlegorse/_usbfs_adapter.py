@@ -14,8 +14,8 @@ _ENDS = {0: ACK, errno.EPIPE: STALL, errno.ETIMEDOUT: NAK}
 
 
 class Adapter:
-    """A SETUP makes the whole transfer, and its packets are given out one by one. SET_ADDRESS, and where nothing disturbs
-    SET_CONFIGURATION, are answered as done: the kernel has done that. `parts` are the descriptors that were read, and their lengths."""
+    """A SETUP makes the whole transfer, and its packets are given out one by one. SET_ADDRESS, and while drivers may
+    have it SET_CONFIGURATION, are answered as done: the kernel has done that. `parts` are the descriptors that were read, and their lengths."""
 
     def __init__(self, plugged: Plugged):
         self.plugged, self.packet, self.parts = plugged, 0, {}
@@ -37,7 +37,7 @@ class Adapter:
 
     def _begin(self, q: bytes) -> None:
         plugged, self._toggle = self.plugged, 1
-        if q[1] == SET_ADDRESS or (q[1] == SET_CONFIGURATION and not plugged.disturbs):
+        if q[1] == SET_ADDRESS or (q[1] == SET_CONFIGURATION and not plugged.is_detached):
             plugged.error, plugged.kept_back, plugged.data = 0, False, b""
         else:
             plugged.transfer(q)

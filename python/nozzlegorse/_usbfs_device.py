@@ -9,7 +9,7 @@ import select
 import sys
 from ctypes import Structure, c_char, c_int, c_ubyte, c_uint, c_void_p
 
-from ._usbfs_words import CLEAR_FEATURE, SET_ADDRESS, SET_CONFIGURATION, SET_DESCRIPTOR, SET_FEATURE, SET_INTERFACE, TEST_MODE, word
+from ._usbfs_words import CLEAR_FEATURE, SET_ADDRESS, SET_CONFIGURATION, SET_DESCRIPTOR, SET_FEATURE, SET_INTERFACE, TEST_MODE, WAKEUP, word
 
 # In milliseconds (9.2.6), and the most interfaces that usbfs claims.
 LIMIT, INTERFACES = 5000, 64
@@ -62,12 +62,13 @@ class Refused(Exception):
 
 
 class Plugged:
-    """A device at usbfs. `selected` is bConfigurationValue of the set that the kernel has selected; `error` is 0 or the errno that the
+    """A device at usbfs. `selected` is bConfigurationValue of the set that the kernel has selected; once it `is_detached` no driver has it,
+    and it may be disturbed; `error` is 0 or the errno that the
     transfer that was made last ended with, `kept_back` whether the kernel didn't make it, and `data` what came."""
 
     def __init__(self, name: str, disturbs: bool = False):
-        self.name, self.disturbs = name, disturbs
-        self.error, self.kept_back, self.data = 0, False, b""
+        self.name, self.disturbs, self.is_detached = name, disturbs, False
+        self.error, self.kept_back, self.data, self._is_awake = 0, False, b"", False
         bus, number, speed = self.said_number("busnum"), self.said_number("devnum"), self._said("speed")
         if not bus:
             raise Refused("no such device; /sys/bus/usb/devices has those that are plugged in, as 1-1")
@@ -85,7 +86,6 @@ class Plugged:
 
     def tell(self, line: str) -> None:
         """A line of this device to standard error."""
-        sys.stdout.flush()
         print(f"usbfs: {self.name}: {line}", file=sys.stderr, flush=True)
 
     def close(self) -> None:
@@ -114,7 +114,7 @@ class Plugged:
         if q[0] & 0x60 or q[1] in (SET_ADDRESS, SET_DESCRIPTOR) or (q[1] == SET_FEATURE and word(q, 2) == TEST_MODE) or halts_zero(q):
             return False
         reads = q[0] & 0x80 and q[1] not in (CLEAR_FEATURE, SET_FEATURE, SET_CONFIGURATION, SET_INTERFACE)
-        return bool(reads) or (self.disturbs and not word(q, 6))
+        return bool(reads) or (self.is_detached and not word(q, 6))
 
     def transfer(self, q: bytes) -> None:
         """One control transfer, which takes at most 5 s (9.2.6)."""
@@ -129,6 +129,8 @@ class Plugged:
         except OSError as fault:
             self.error, self.kept_back = fault.errno, True
             return
+        if not q[0] & 0x1F and word(q, 2) == WAKEUP and q[1] in (SET_FEATURE, CLEAR_FEATURE):
+            self._is_awake = q[1] == SET_FEATURE
         done = select.poll()
         done.register(self._file, select.POLLOUT)
         is_late = not done.poll(LIMIT)
@@ -139,6 +141,11 @@ class Plugged:
             # ENOENT is of a transfer that was given up: after 5 s, or since the device is gone.
             self.error = -it.urb.status if it.urb.status != -errno.ENOENT else errno.ETIMEDOUT if is_late else errno.ENODEV
             self.data = bytes(it.bytes[8:8 + max(it.urb.actual_length, 0)])
+
+    def sleep_again(self) -> None:
+        """No remote wakeup is left, which SET_CONFIGURATION doesn't end."""
+        if self._is_awake and not self.is_gone:
+            self.transfer(bytes([0, CLEAR_FEATURE, WAKEUP, 0, 0, 0, 0, 0]))
 
     def _reaped(self) -> int:
         """Waits for the transfer to end."""

@@ -11,7 +11,7 @@ from ._bench_in_c import unspecified
 from ._talk import Request
 from ._usbfs_adapter import Adapter
 from ._usbfs_device import halts_zero
-from ._usbfs_words import CLEAR_FEATURE, SET_ADDRESS, SET_CONFIGURATION, SET_INTERFACE, WAKEUP, bytes_words, ending_words, request_words, section_of, word
+from ._usbfs_words import SET_ADDRESS, SET_CONFIGURATION, SET_INTERFACE, bytes_words, ending_words, request_words, section_of, word
 from .ends import KINDS, Device, Reply, Transaction, Transfer, _request
 
 AT = 1
@@ -96,14 +96,9 @@ class PluggedTest:
             if setting := self.plugged.said_number("bAlternateSetting", f":{self.plugged.selected}.{it}"):
                 self.ask_proved(bytes([1, SET_INTERFACE, setting, 0, it, 0, 0, 0]))
 
-    def sleep_again(self) -> None:
-        """No remote wakeup is left, which SET_CONFIGURATION doesn't end."""
-        if self.proved.state().wakeup:
-            self.plugged.transfer(bytes([0, CLEAR_FEATURE, WAKEUP, 0, 0, 0, 0, 0]))
-
     def _lead(self) -> bool:
         """Leads both to a state: with an address, this set selected and nothing else. False where the plugged one refuses that."""
-        self.sleep_again()
+        self.plugged.sleep_again()
         self.plugged.transfer(bytes([0, SET_CONFIGURATION, self.wanted, 0, 0, 0, 0, 0]))
         if not self.plugged.error:
             self._lead_proved()
@@ -112,8 +107,8 @@ class PluggedTest:
     # --- a request
 
     def _judge(self, q: bytes) -> int:
-        """Plays the transfer at the proved device, which judges each packet of the adapter: the number of a difference, or 0. Where
-        one device does what the other may refuse, they are apart."""
+        """Plays the transfer at the proved device, which judges each packet of the adapter: the number of a difference, or 0;
+        no answer within 5 s is one. Where one device does what the other may refuse, they are apart."""
         transfer = Transfer(q, AT, self._packet)
         while due := transfer.next():
             reply = self.adapter.answer(due)
@@ -127,7 +122,7 @@ class PluggedTest:
                 self.proved.acked()
                 c.lib.nzg_judge_acked(self._open)
             transfer.take(reply)
-        return 0
+        return int(self.plugged.error == errno.ETIMEDOUT)
 
     def _judged(self, q: bytes, due: Transaction, reply: Reply) -> tuple[int, int]:
         """The number of a difference, or 0, and the reply of the proved device."""
@@ -167,6 +162,8 @@ class PluggedTest:
             why = "unreached"
             # SET_CONFIGURATION may lead both there again.
             self.wanted = q[2] if q[1] == SET_CONFIGURATION else self.wanted
+        if self.is_stopped() or plugged.is_gone:
+            return
         if not why and not plugged.disturbs and any(q == asked for asked, _ in report.asked):
             return
         difference = 0 if why else self._judge(q)

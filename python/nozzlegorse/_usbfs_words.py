@@ -37,7 +37,7 @@ def request_words(q: bytes, is_in_address: bool) -> str:
         what = f" {value}"
     text = f"{REQUESTS[code][0]}{what} of {whom}" if code in REQUESTS else f"request {code} of {whom}"
     if code == GET_DESCRIPTOR or code not in REQUESTS:
-        text += f", {word(q, 6)} bytes"
+        text += f", {word(q, 6)} byte{'s' * (word(q, 6) != 1)}"
     return text + ", in Address" * is_in_address
 
 

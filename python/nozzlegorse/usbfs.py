@@ -47,23 +47,31 @@ class _Stop:
         self.is_there = True
 
 
-def _read(plugged: Plugged) -> int:
-    file = read_file(Adapter(plugged))
-    try:
-        sys.stdout.buffer.write(file)
-        sys.stdout.buffer.flush()
-    except OSError as fault:
-        plugged.tell(f"standard output: {fault.strerror}")
-        os.dup2(os.open(os.devnull, os.O_WRONLY), sys.stdout.fileno())
-        return _BAD
-    return 0
+class _Out:
+    """Standard output. Why it fails is kept, since drivers are still to be attached then."""
+
+    def __init__(self):
+        self.failed = ""
+
+    def write(self, data: bytes) -> None:
+        """Bytes, at once."""
+        try:
+            sys.stdout.buffer.write(data)
+            sys.stdout.buffer.flush()
+        except OSError as fault:
+            self.failed = fault.strerror
+            os.dup2(os.open(os.devnull, os.O_WRONLY), sys.stdout.fileno())
+
+    def say(self, line: str) -> None:
+        """A line."""
+        self.write(f"{line}\n".encode())
 
 
-def _findings(plugged: Plugged, file: bytes) -> int:
+def _findings(plugged: Plugged, file: bytes, out: _Out) -> int:
     """What breaks the rules of chapter 9, where no device has these descriptors."""
     for it in check(file):
-        print(f"descriptors: V{it.rule} at {it.place}: {it.message}")
-    print(f"{plugged.name}: no device of this speed has these descriptors, so nothing was asked")
+        out.say(f"descriptors: V{it.rule} at {it.place}: {it.message}")
+    out.say(f"{plugged.name}: no device of this speed has these descriptors, so nothing was asked")
     return _DIFFERS
 
 
@@ -79,31 +87,23 @@ def _claim(plugged: Plugged, drivers: dict[int, str], claimed: list[int]) -> Non
             raise Refused(f"interface {it}: {'another program has it' if error == errno.EBUSY else os.strerror(error)}")
 
 
-def _give_back(plugged: Plugged, drivers: dict[int, str], claimed: list[int], is_disturbed: bool) -> None:
+def _give_back(plugged: Plugged, drivers: dict[int, str], claimed: list[int]) -> None:
     """What is claimed is released; where the device was disturbed the kernel selects its set again; each driver gets its interface."""
     for it in claimed:
         plugged.release(it)
     if not plugged.disturbs or plugged.is_gone:
         return
-    if is_disturbed and (error := plugged.select_again()):
+    if plugged.is_detached and (error := plugged.select_again()):
         plugged.tell(f"configuration {plugged.selected} is not selected again: {os.strerror(error)}")
     for it in claimed:
         if drivers[it] and (error := plugged.attach(it)) not in (0, errno.EBUSY):
             plugged.tell(f"interface {it}: {drivers[it]} is not attached again: {os.strerror(error)}")
 
 
-def _say(line: str) -> None:
-    """A line to standard output; nothing where nobody reads it, since drivers are still to be attached."""
-    try:
-        print(line)
-    except BrokenPipeError:
-        os.dup2(os.open(os.devnull, os.O_WRONLY), sys.stdout.fileno())
-
-
 def _end(plugged: Plugged, test: PluggedTest, junit: str | None) -> int:
     report = test.report
     for line in report.ending():
-        _say(line)
+        test.say(line)
     if report.why:
         plugged.tell(f"{report.why}; asked so far: {report.requests}")
     if junit:
@@ -119,28 +119,27 @@ def _end(plugged: Plugged, test: PluggedTest, junit: str | None) -> int:
 def _talk(plugged: Plugged, test: PluggedTest, file: bytes, junit: str | None) -> int:
     settings = [it for set_ in read(file).configurations if set_["bConfigurationValue"] == plugged.selected for it in set_.interfaces]
     drivers = {it: plugged.driver_of(it) for it in sorted({setting.interface for setting in settings}) if it < INTERFACES}
-    claimed, is_disturbed = [], False
+    claimed = []
     try:
         _claim(plugged, drivers, claimed)
-        is_disturbed = plugged.disturbs
+        plugged.is_detached = plugged.disturbs
         test.follow_settings(list(drivers))
         test.run(talk_of(file))
         return _end(plugged, test, junit)
     finally:
-        if is_disturbed and not plugged.is_gone:
-            test.sleep_again()
-        _give_back(plugged, drivers, claimed, is_disturbed)
+        plugged.sleep_again()
+        _give_back(plugged, drivers, claimed)
 
 
-def _test(plugged: Plugged, junit: str | None, stop: _Stop) -> int:
+def _test(plugged: Plugged, junit: str | None, stop: _Stop, out: _Out) -> int:
     adapter = Adapter(plugged)
     file = read_file(adapter, stop)
     if stop():
         return _STOPPED
     try:
-        test = PluggedTest(adapter, file, stop, _say)
+        test = PluggedTest(adapter, file, stop, out.say)
     except Fault:
-        return _findings(plugged, file)
+        return _findings(plugged, file, out)
     with test.proved:
         return _talk(plugged, test, file, junit)
 
@@ -159,14 +158,14 @@ def _words(words: list[str] | None) -> argparse.Namespace:
     parser.add_argument("--disturb", action="store_true", help="asks what disturbs a device at work too: its drivers are detached, and attached again")
     parser.add_argument("--junit", metavar="FILE", help="writes the report there as JUnit has it")
     given = parser.parse_args(words)
-    if len(given.device) > 63 or given.device[:1] in ("", ".") or "/" in given.device or (given.command == "read" and (given.disturb or given.junit is not None)):
+    if len(given.device) > 63 or given.device[:1] in ("", ".", "-") or "/" in given.device or (given.command == "read" and (given.disturb or given.junit is not None)):
         parser.error("")
     return given
 
 
 def main(words: list[str] | None = None) -> int:
     """The program: 0, or 1 where something differs, 2 where nothing can be said, 130 after Ctrl-C."""
-    given, stop = _words(words), _Stop()
+    given, stop, out, status = _words(words), _Stop(), _Out(), _BAD
     try:
         plugged = Plugged(given.device, given.disturb)
     except Refused as why:
@@ -177,12 +176,18 @@ def main(words: list[str] | None = None) -> int:
             stop.listen()
         unsent = "resets and SET_ADDRESS" if given.disturb else "resets, SET_ADDRESS and SET_CONFIGURATION"
         plugged.tell(f"{unsent} are not sent: the kernel has made them, and selected configuration {plugged.selected}")
-        return _test(plugged, given.junit, stop) if given.command == "test" else _read(plugged)
+        if given.command == "test":
+            status = _test(plugged, given.junit, stop, out)
+        else:
+            out.write(read_file(Adapter(plugged)))
+            status = 0
     except Refused as why:
         plugged.tell(str(why))
-        return _BAD
     finally:
         plugged.close()
+    if out.failed:
+        plugged.tell(f"standard output: {out.failed}")
+    return _STOPPED if stop() else _BAD if out.failed else status
 
 
 if __name__ == "__main__":
