@@ -522,8 +522,8 @@ static int end_test(const struct test *t, const char *junit) {
 
 /* What breaks the rules of chapter 9, where no device has these descriptors. */
 static int tell_findings(const struct plugged *p, const uint8_t *file, size_t len) {
-    struct nzg_finding found[100];
-    struct nzg_answer all = nzg_findings(file, len, found, 100);
+    static struct nzg_finding found[1000];
+    struct nzg_answer all = nzg_findings(file, len, found, 1000);
     uint8_t words[300];
     for (size_t i = 0; all.status == NZG_DONE && i < all.length; i++)
         printf("descriptors: V%u at %zu: %.*s\n", found[i].rule, found[i].place, (int)nzg_rule(found[i].rule, words, sizeof words).length, (char *)words);
@@ -560,7 +560,8 @@ static int test_device(struct plugged *p, const char *junit) {
     if (!file) return STATUS_BAD;
     t.at = p;
     struct nzg_answer opened = nzg_device_open(&t.proved, file, len, p->speed);
-    int status = opened.status == NZG_DONE ? run_talk(&t, file, len, junit) : tell_findings(p, file, len);
+    int status = opened.status == NZG_DONE ? run_talk(&t, file, len, junit) : opened.status == NZG_DESCRIPTION_FAULT ? tell_findings(p, file, len) : STATUS_BAD;
+    if (opened.status == NZG_NO_MEMORY) tell(p, "out of memory\n");
     nzg_device_close(&t.proved);
     free(file);
     return status;
