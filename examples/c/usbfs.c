@@ -396,10 +396,11 @@ static uint8_t judge(struct test *t, const struct nzg_setup *request) {
     return t->at->error == ETIMEDOUT ? NZG_ADDRESS : 0;
 }
 
-/* Bytes, or of many how many and the first that are others. */
+/* Bytes, or of many how many and the first that are others, where others are known. */
 static void write_bytes(char text[120], const uint8_t *bytes, size_t len, const uint8_t *others, size_t other_len) {
     size_t first = 0, at = 0;
     bool is_short = len <= 18 && other_len <= 18;
+    if (!is_short && !other_len) first = len;
     while (!is_short && first < len && first < other_len && bytes[first] == others[first]) first++;
     if (!is_short || !len) at = (size_t)snprintf(text, 120, "%zu bytes", len);
     if (!is_short && first < len) at += (size_t)snprintf(text + at, 120 - at, ", at %zu", first);

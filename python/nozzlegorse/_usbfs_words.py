@@ -47,11 +47,11 @@ def section_of(q: bytes) -> str:
 
 
 def bytes_words(data: bytes, other: bytes) -> str:
-    """Bytes, or of many how many and the first that are others."""
+    """Bytes, or of many how many and the first that are others, where others are known."""
     if len(data) <= _SHORT and len(other) <= _SHORT:
         return data.hex(" ") or "0 bytes"
     first = next((at for at, (one, two) in enumerate(zip(data, other)) if one != two), min(len(data), len(other)))
-    return f"{len(data)} bytes" + (f", at {first} {data[first:first + _SHORT].hex(' ')}" if first < len(data) else "")
+    return f"{len(data)} bytes" + (f", at {first} {data[first:first + _SHORT].hex(' ')}" if other and first < len(data) else "")
 
 
 def ending_words(error: int, count: int) -> str:
