@@ -57,22 +57,35 @@ def told(what, device, *rest):
     print(f"usbfs: {device} {said(device, 'idVendor')}:{said(device, 'idProduct')} at {said(device, 'speed')} Mbit/s: {what}", *rest, flush=True)
 
 
-def read_and_test(device, file=None):
-    """Both programs read the same file, in which the kernel's descriptors are, and test it alike; then each driver is there again."""
+def read(device, file=None):
+    """Both programs read the same file, in which the kernel's descriptors are."""
     came = [ran(it, device, "read") for it in PROGRAMS]
     data, kernels = came[0][1], bytes_of(f"/sys/bus/usb/devices/{device}/descriptors")
     if came[0] != came[1] or came[0][0] or not data.startswith(kernels) or file not in (None, data):
         return told("FAULT: read", device, came)
-    told(f"{len(data)} bytes are read", device)
+    return told(f"{len(data)} bytes are read", device)
+
+
+def test(device):
+    """Both programs test a device alike, and each driver is there again."""
     before = drivers(device)
     for words in (("test",), ("test", "--disturb")):
         status, out, errors = ran(PROGRAMS[0], device, *words)
         after = settled(lambda: drivers(device))
         by_python = ran(PROGRAMS[1], device, *words)
-        is_right = status in (0, 1) and (status, out, errors) == by_python and after == before == settled(lambda: drivers(device)) and (file is None or not status)
-        told("" if is_right else "FAULT: ", device, " ".join(words), "" if is_right else (status, errors, by_python, before, after))
+        is_right = status in (0, 1) and (status, out, errors) == by_python and after == before == settled(lambda: drivers(device))
+        told(" ".join(words), device, *([] if is_right else ["FAULT:", status, errors, by_python, before, after]))
         print(out.decode(), end="", flush=True)
-    return None
+
+
+def test_of_bridge(device):
+    """USB/IP carries no port reset, and the bridge takes GET_DESCRIPTOR with wLength 64 for one. Its device differs from then on in what a
+    reset ends, and in nothing else."""
+    status, out, errors = ran(PROGRAMS[0], device, "test")
+    lines = [it for it in out.decode().splitlines() if "; due is " in it]
+    is_right = status in (0, 1) and not errors.count("\n", errors.find("\n") + 1) and all(re.match("GET_(CONFIGURATION|STATUS|INTERFACE) of ", it) for it in lines)
+    told("test", device, *([] if is_right else ["FAULT:", status, errors]))
+    print(out.decode(), end="", flush=True)
 
 
 def served(name):
@@ -95,11 +108,13 @@ def main():
     with open("/proc/sys/kernel/printk", "w", encoding="ascii") as it:
         it.write("1")
     for device in sorted(settled(plugged)):
-        read_and_test(device)
+        read(device)
+        test(device)
     for name in FILES:
         bridge, names = served(name)
         for device in names:
-            read_and_test(device, bytes_of(name))
+            read(device, bytes_of(name))
+            test_of_bridge(device)
         bridge.kill()
         settled(plugged)
     print("usbfs: all were tried", flush=True)
