@@ -1,4 +1,4 @@
-/* What the bench has in common with its talk: what USB 2.0 leaves open. No program includes it. */
+/* What the bench has in common with its talk: what USB 2.0 leaves open. A program includes it only to make a talk by itself. */
 #ifndef NOZZLEGORSE_TALK_H
 #define NOZZLEGORSE_TALK_H
 #include "nozzlegorse_bench.h"

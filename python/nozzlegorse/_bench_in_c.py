@@ -3,7 +3,7 @@ from __future__ import annotations
 
 import ctypes
 import functools
-from ctypes import CFUNCTYPE, POINTER, Structure, c_bool, c_char, c_char_p, c_size_t, c_uint, c_uint8, c_uint16, c_ulong, c_void_p
+from ctypes import CFUNCTYPE, POINTER, Structure, c_bool, c_char, c_char_p, c_int, c_size_t, c_uint, c_uint8, c_uint16, c_ulong, c_void_p
 
 from ._library import load, structs
 
@@ -85,6 +85,12 @@ def library() -> ctypes.PyDLL:
     """libnozzlegorse_bench, which lies where libnozzlegorse does."""
     it = load("libnozzlegorse_bench")
     it.nzg_bench_talk.restype, it.nzg_bench_talk.argtypes = c_size_t, [c_char_p, c_size_t, POINTER(Request)]
+    it.nzg_bench_unspecified.restype, it.nzg_bench_unspecified.argtypes = c_char_p, [c_int, c_char_p]
     for call, device in ((it.nzg_bench_try, Device), (it.nzg_bench_try_packets, Packets)):
         call.restype, call.argtypes = c_bool, [POINTER(Bench), POINTER(device), POINTER(Report)]
     return it
+
+
+def unspecified(state: str, request: bytes) -> str:
+    """The section by which a device's behaviour is not specified, where a request comes in this state; else ''."""
+    return (library().nzg_bench_unspecified(STATES.index(state) - 1, request) or b"").decode()

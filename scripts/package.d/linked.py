@@ -56,7 +56,7 @@ def libraries(made, version, out):
     run(AR, "rcsD", f"{name}.a", *objects, memory)
     shared("libnozzlegorse", major, "nzg_*", [*objects, memory], out)
     of_bench = [compiled(f"{ROOT}/callers/c/{it}.c", f"{out}/{it}.o", "-I", f"{ROOT}/callers/c") for it in OF_BENCH]
-    shared("libnozzlegorse_bench", major, "nzg_bench_try; nzg_bench_try_packets; nzg_bench_talk", [*of_bench, f"{name}.so"], out)
+    shared("libnozzlegorse_bench", major, "nzg_bench_try; nzg_bench_try_packets; nzg_bench_talk; nzg_bench_unspecified", [*of_bench, f"{name}.so"], out)
     for it in (memory, *of_bench):
         os.remove(it)
 
