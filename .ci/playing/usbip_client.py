@@ -37,12 +37,17 @@ def bytes_of(path):
         return file.read()
 
 
+def takes_ctrl_c():
+    """Where this runs in the background of a shell, Ctrl-C is ignored, and so it would be by the program."""
+    signal.signal(signal.SIGINT, signal.SIG_DFL)
+
+
 class Served:
     """A program that serves devices, its ports, and what it has printed so far. It is ended by Ctrl-C, which must be quiet."""
 
     def __init__(self, words, program=("-m", "nozzlegorse.usbip")):
         self.out = tempfile.NamedTemporaryFile()
-        self.program = subprocess.Popen([sys.executable, *program, *words, "--port", "0", "--feed", "0"], stdout=self.out, stderr=subprocess.PIPE)
+        self.program = subprocess.Popen([sys.executable, *program, *words, "--port", "0", "--feed", "0"], stdout=self.out, stderr=subprocess.PIPE, preexec_fn=takes_ctrl_c)
         attach = self.printed(r"sudo usbip --tcp-port (\d+) attach -r ([\d.]+) -b [\d-]+\n")
         self.port, self.address = int(attach[1]), attach[2]
         self.feed = int(self.printed(r"taken at port (\d+)\n")[1])
