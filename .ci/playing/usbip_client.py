@@ -14,6 +14,8 @@ ROOT = os.path.join(os.path.dirname(os.path.abspath(__file__)), "../..")
 os.chdir(ROOT)
 # Else it would not show that a line isn't flushed.
 os.environ.pop("PYTHONUNBUFFERED", None)
+# In the background of a shell Ctrl-C is ignored, and so it would be by the programs that are begun here.
+signal.signal(signal.SIGINT, signal.default_int_handler)
 MOUSE, MOUSE_ANSWERS = "testdata/files/qemu-usb-mouse.file", "testdata/answers/qemu-usb-mouse.high.txt"
 LIST, IMPORT = bytes.fromhex("01118005 00000000"), bytes.fromhex("01118003 00000000")
 FIRST = "8006000100004000"
@@ -37,17 +39,12 @@ def bytes_of(path):
         return file.read()
 
 
-def takes_ctrl_c():
-    """Where this runs in the background of a shell, Ctrl-C is ignored, and so it would be by the program."""
-    signal.signal(signal.SIGINT, signal.SIG_DFL)
-
-
 class Served:
     """A program that serves devices, its ports, and what it has printed so far. It is ended by Ctrl-C, which must be quiet."""
 
     def __init__(self, words, program=("-m", "nozzlegorse.usbip")):
         self.out = tempfile.NamedTemporaryFile()
-        self.program = subprocess.Popen([sys.executable, *program, *words, "--port", "0", "--feed", "0"], stdout=self.out, stderr=subprocess.PIPE, preexec_fn=takes_ctrl_c)
+        self.program = subprocess.Popen([sys.executable, *program, *words, "--port", "0", "--feed", "0"], stdout=self.out, stderr=subprocess.PIPE)
         attach = self.printed(r"sudo usbip --tcp-port (\d+) attach -r ([\d.]+) -b [\d-]+\n")
         self.port, self.address = int(attach[1]), attach[2]
         self.feed = int(self.printed(r"taken at port (\d+)\n")[1])
