@@ -13,22 +13,13 @@ enum Form {
     Spaces,
 }
 
-const NONE: u8 = 255;
-
-/// The values of the digits.
-static DIGITS: [u8; 256] = {
-    let (mut table, lower, upper) = ([NONE; 256], b"0123456789abcdef", b"0123456789ABCDEF");
-    let mut value = 0;
-    while value < 16 {
-        table[lower[value] as usize] = value as u8;
-        table[upper[value] as usize] = value as u8;
-        value += 1;
+fn digit(c: u8) -> Option<u8> {
+    match c {
+        b'0'..=b'9' => Some(c - b'0'),
+        b'a'..=b'f' => Some(c - b'a' + 10),
+        b'A'..=b'F' => Some(c - b'A' + 10),
+        _ => None,
     }
-    table
-};
-
-fn digit(c: u8) -> u8 {
-    DIGITS[usize::from(c)]
 }
 
 fn form_of(text: &[u8]) -> Form {
@@ -42,7 +33,7 @@ fn form_of(text: &[u8]) -> Form {
 
 /// What is left of a line after its offset.
 fn after_offset(text: &[u8]) -> &[u8] {
-    let digits = text.iter().take_while(|it| digit(**it) != NONE).count();
+    let digits = text.iter().take_while(|it| digit(**it).is_some()).count();
     if digits < 4 {
         return text;
     }
@@ -68,14 +59,10 @@ fn fault_at(before: &[u8]) -> HexFault {
 pub fn read(text: &[u8]) -> Result<Vec<u8>, HexFault> {
     let form = form_of(text);
     let in_line = |text| if form == Form::Plain { text } else { after_offset(text) };
-    let mut bytes = Vec::with_capacity(text.len() / 2);
+    let mut bytes = Vec::new();
     let mut rest = in_line(text);
     loop {
         rest = match rest {
-            [high, low, more @ ..] if digit(*high) | digit(*low) < 16 => {
-                bytes.push(digit(*high) << 4 | digit(*low));
-                more
-            }
             [] => break,
             _ if has_characters(form, rest) => {
                 &rest[rest[1..].iter().position(|it| *it == b'\n').map_or(rest.len(), |it| it + 1)..]
@@ -83,6 +70,13 @@ pub fn read(text: &[u8]) -> Result<Vec<u8>, HexFault> {
             [b'\n', more @ ..] => in_line(more),
             [b'\t' | b'\r' | b' ' | b',', more @ ..] => more,
             [b'0' | b'\\', b'x', more @ ..] => more,
+            [high, low, more @ ..] => match (digit(*high), digit(*low)) {
+                (Some(high), Some(low)) => {
+                    bytes.push(high << 4 | low);
+                    more
+                }
+                _ => break,
+            },
             _ => break,
         };
     }
