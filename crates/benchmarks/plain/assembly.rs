@@ -32,9 +32,13 @@ static VALUES: [u16; 256] = {
     table
 };
 
+/// The number of two digits, above 255 where one is none.
+fn sum(high: u8, low: u8) -> u16 {
+    VALUES[usize::from(high)] * 16 + VALUES[usize::from(low)]
+}
+
 pub fn pair(high: u8, low: u8) -> Option<u8> {
-    let value = VALUES[usize::from(high)] * 16 + VALUES[usize::from(low)];
-    u8::try_from(value).ok()
+    u8::try_from(sum(high, low)).ok()
 }
 
 fn number(text: &[u8]) -> Option<(u16, &[u8])> {
@@ -42,25 +46,28 @@ fn number(text: &[u8]) -> Option<(u16, &[u8])> {
     Some((u16::from_be_bytes([pair(*a, *b)?, pair(*c, *d)?]), rest))
 }
 
-/// Reads fields of these widths, in bytes, to a place of the buffer; answers the next place, and the rest of the text.
+/// Reads fields of these widths, in bytes, to a place of the buffer; answers the next place, and the rest of the text. What is
+/// no field shows once all have been read.
 #[inline(always)]
 fn fields<'a>(buffer: &mut [u8; 255], start: usize, widths: &[u8], text: &'a [u8]) -> Option<(usize, &'a [u8])> {
-    let (mut at, mut rest) = (start, text);
+    let length = widths.iter().map(|width| 1 + 2 * usize::from(*width)).sum();
+    let (head, rest) = text.split_at_checked(length)?;
+    let (mut at, mut place, mut sums, mut is_spaced) = (start, 0, 0, true);
     for width in widths {
+        is_spaced &= head[place] == b' ';
+        let first = sum(head[place + 1], head[place + 2]);
+        sums |= first;
         if *width == 1 {
-            let Some(([b' ', high, low], after)) = rest.split_first_chunk() else {
-                return None;
-            };
-            buffer[at] = pair(*high, *low)?;
-            rest = after;
+            buffer[at] = first as u8;
         } else {
-            let (value, after) = number(rest.strip_prefix(b" ")?)?;
-            buffer[at..at + 2].copy_from_slice(&value.to_le_bytes());
-            rest = after;
+            let second = sum(head[place + 3], head[place + 4]);
+            sums |= second;
+            (buffer[at], buffer[at + 1]) = (second as u8, first as u8);
         }
         at += usize::from(*width);
+        place += 1 + 2 * usize::from(*width);
     }
-    Some((at, rest))
+    (is_spaced && sums < 256).then_some((at, rest))
 }
 
 /// Reads a tail to a place of the buffer; answers where it ends, and the next line.

@@ -1,6 +1,6 @@
 //! A device: its descriptors encoded once, and its end of the control transfers of endpoint zero.
 
-use crate::file::{DescriptorFile, has_declared_sets, has_named_strings, named, put_units};
+use crate::file::{DescriptorFile, Strings, has_declared_sets, has_named_strings, named, put_units};
 use crate::rules::{Finding, check};
 use crate::set::{CONFIGURATION, Configuration, OTHER_SPEED, QUALIFIER, STRING, Setting, encode_onto};
 use std::ops::Range;
@@ -98,14 +98,19 @@ impl Description {
             (QUALIFIER, Some(_), _) if index == 0 => Some(self.others),
             (OTHER_SPEED, Some(it), _) if number < it.sets.len() => Some(self.others + 1 + number),
             (STRING, _, Some(_)) if index == 0 => Some(self.strings),
-            (STRING, _, Some(strings)) => {
-                let row = strings.languages.iter().position(|it| *it == language)?;
-                let rank = self.ranks[number];
-                let place = self.strings + 1 + row * self.named + usize::from(rank);
-                (rank != ABSENT).then_some(place)
-            }
+            (STRING, _, Some(strings)) => self.find_string(strings, number, language),
             _ => None,
         }
+    }
+
+    #[inline(never)]
+    fn find_string(&self, strings: &Strings, index: usize, language: u16) -> Option<usize> {
+        let rank = self.ranks[index];
+        if rank == ABSENT {
+            return None;
+        }
+        let row = strings.languages.iter().position(|it| *it == language)?;
+        Some(self.strings + 1 + row * self.named + usize::from(rank))
     }
 }
 
@@ -381,9 +386,11 @@ pub struct Device<'d> {
     /// The descriptor that is sent, or none for the kept bytes.
     source: Option<&'d [u8]>,
     kept: [u8; ROOM],
-    count: usize,
-    limit: usize,
+    packet: usize,
     offset: usize,
+    end: usize,
+    /// Whether less is sent than was asked for, so that a packet that isn't full ends it.
+    is_short: bool,
     is_data1: bool,
     request: Setup,
     /// Whether the host knows of the rejection, or whether the request was carried out.
@@ -400,9 +407,10 @@ impl<'d> Device<'d> {
             stage: Stage::Idle,
             source: None,
             kept: [0; ROOM],
-            count: 0,
-            limit: 0,
+            packet: description.packet(),
             offset: 0,
+            end: 0,
+            is_short: false,
             is_data1: true,
             request: Setup::read([0; 8]),
             is_settled: false,
@@ -456,8 +464,8 @@ impl<'d> Device<'d> {
     }
 
     fn begin_sending(&mut self, count: usize, limit: usize) {
-        (self.stage, self.count, self.limit) = (Stage::Sending, count, limit);
-        (self.offset, self.is_data1) = (0, true);
+        (self.stage, self.offset, self.end) = (Stage::Sending, 0, count);
+        (self.is_short, self.is_data1) = (count < limit, true);
     }
 
     fn keep(&mut self, bytes: &[u8], limit: usize) {
@@ -472,8 +480,7 @@ impl<'d> Device<'d> {
             Stage::Sending => {
                 self.is_pending = true;
                 let bytes = self.source.unwrap_or(&self.kept);
-                let end = self.count.min(self.offset + self.description.packet());
-                Answer::Data(self.is_data1, &bytes[self.offset..end])
+                Answer::Data(self.is_data1, &bytes[self.offset..self.packet_end()])
             }
             Stage::StatusIn => {
                 if !self.is_settled && !self.is_set_address() {
@@ -484,6 +491,11 @@ impl<'d> Device<'d> {
             }
             _ => self.stall(),
         }
+    }
+
+    #[inline(always)]
+    fn packet_end(&self) -> usize {
+        self.end.min(self.offset + self.packet)
     }
 
     #[inline(always)]
@@ -506,7 +518,7 @@ impl<'d> Device<'d> {
             Stage::StatusIn if self.request.length > 0 => Answer::Ack,
             Stage::Receiving => {
                 let left = usize::from(self.request.length) - self.offset;
-                if bytes.len() != left.min(self.description.packet()) {
+                if bytes.len() != left.min(self.packet) {
                     return self.stall();
                 }
                 let end = self.offset + bytes.len();
@@ -558,12 +570,11 @@ impl<'d> Device<'d> {
             return;
         }
         if self.stage == Stage::Sending {
-            let packet = self.description.packet();
-            if self.count - self.offset < packet || self.limit - self.offset <= packet {
+            let end = self.packet_end();
+            let is_full = end - self.offset == self.packet;
+            (self.offset, self.is_data1) = (end, !self.is_data1);
+            if !is_full || end == self.end && !self.is_short {
                 self.stage = Stage::StatusOut;
-            } else {
-                self.offset += packet;
-                self.is_data1 = !self.is_data1;
             }
         } else if self.stage == Stage::StatusIn {
             if self.is_set_address() {

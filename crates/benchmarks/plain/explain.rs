@@ -2,7 +2,7 @@
 
 use crate::file::{DescriptorFile, named};
 use crate::names::{Field, Form, Row, bit_names, class_name, row_of, terminal_name};
-use crate::rules::{Finding, Part, check_by_rule};
+use crate::rules::{Finding, Part, RULES, check_input, starts};
 use crate::set::{ASSOCIATION, CONFIGURATION, Configuration, ENDPOINT, INTERFACE, OTHER_SPEED};
 use crate::speed::{Known, Speed, cut, right_intervals, right_sizes, side_of, speed_of};
 use crate::text::Text;
@@ -196,8 +196,9 @@ struct Explainer<'a> {
     bytes: &'a [u8],
     is_dump: bool,
     text: Text,
-    found: [Vec<Finding>; 13],
-    told: [usize; 13],
+    found: Vec<Finding>,
+    /// The next finding of each rule.
+    due: [usize; RULES],
     /// The strings of the first language by their indices.
     names: Vec<Option<&'a [u16]>>,
     device: Option<&'a [u8]>,
@@ -233,14 +234,14 @@ impl<'a> Explainer<'a> {
 
     /// Begins the line of a finding at this place, if there is one.
     fn finds(&mut self, depth: usize, rule: usize, place: (Part, usize, usize, usize)) -> bool {
-        let Some(next) = self.found[rule - 1].get(self.told[rule - 1]) else {
+        let Some(next) = self.found.get(self.due[rule - 1]) else {
             return false;
         };
         let its = (next.part, usize::from(next.set), usize::from(next.setting), usize::from(next.endpoint));
-        if its != place {
+        if usize::from(next.rule) != rule || its != place {
             return false;
         }
-        self.told[rule - 1] += 1;
+        self.due[rule - 1] += 1;
         self.text.spaces(2 * depth + 2);
         self.text.put("! V");
         self.text.number(rule);
@@ -1147,13 +1148,14 @@ fn names_of(file: &DescriptorFile) -> Vec<Option<&[u16]>> {
 
 /// The explanation of bytes that are this input.
 pub fn explain(bytes: &[u8], input: &Input) -> Vec<u8> {
+    let found = check_input(input);
     let mut explainer = Explainer {
         bytes,
         is_dump: matches!(input, Input::Dump(_)),
         // Most bytes take some thirty characters.
         text: Text(Vec::with_capacity(1024 + 36 * bytes.len())),
-        found: check_by_rule(input),
-        told: [0; 13],
+        due: starts(&found),
+        found,
         names: Vec::new(),
         device: None,
         qualifier: None,
@@ -1178,7 +1180,7 @@ pub fn explain(bytes: &[u8], input: &Input) -> Vec<u8> {
             explainer.of_file(file);
         }
     }
-    match explainer.found.iter().map(Vec::len).sum() {
+    match explainer.found.len() {
         0 => explainer.text.put("no findings"),
         count => explainer.text.count(count, "finding"),
     }

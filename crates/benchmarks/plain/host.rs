@@ -2,7 +2,7 @@
 
 use crate::device::{Answer, Setup, Speed, Token, Transaction};
 use crate::file::{DescriptorFile, Device, Other, Qualifier, Strings, named, read_units};
-use crate::set::{CONFIGURATION, Configuration, Decoder, OTHER_SPEED, Progress, QUALIFIER, STRING};
+use crate::set::{CONFIGURATION, Configuration, Decoder, OTHER_SPEED, QUALIFIER, STRING};
 
 #[derive(Clone, Copy, Debug, PartialEq, Eq)]
 pub enum Why {
@@ -21,7 +21,7 @@ pub enum Heard<'a> {
     Failed(Why),
 }
 
-#[derive(Clone, Copy)]
+#[derive(Clone, Copy, PartialEq, Eq)]
 enum Stage {
     Setup,
     DataIn,
@@ -29,7 +29,7 @@ enum Stage {
     StatusOut,
     StatusIn,
     Completed,
-    Failed(Why),
+    Failed,
 }
 
 pub struct Transfer {
@@ -38,6 +38,8 @@ pub struct Transfer {
     naks: u16,
     request: Setup,
     stage: Stage,
+    /// Where it has failed.
+    why: Why,
     is_data1: bool,
     kept: u16,
     strikes: u8,
@@ -52,6 +54,7 @@ impl Transfer {
             naks,
             request,
             stage: Stage::Setup,
+            why: Why::Unexpected,
             is_data1: true,
             kept: 0,
             strikes: 0,
@@ -75,58 +78,33 @@ impl Transfer {
                 Token::Out(self.is_data1, &left[..left.len().min(usize::from(self.packet))])
             }
             Stage::StatusOut => Token::Out(true, &[]),
-            Stage::Completed | Stage::Failed(_) => return None,
+            Stage::Completed | Stage::Failed => return None,
         };
         Some(Transaction { address: self.address, token })
     }
 
     #[inline(always)]
     pub fn take<'a>(&mut self, answer: Answer<'a>) -> Heard<'a> {
-        match self.stage {
-            Stage::Completed => Heard::Complete,
-            Stage::Failed(why) => Heard::Failed(why),
-            Stage::Setup => match answer {
-                Answer::Ack if self.request.length == 0 => self.go_on(Stage::StatusIn),
-                Answer::Ack if self.request.is_in() => self.go_on(Stage::DataIn),
-                Answer::Ack => self.go_on(Stage::DataOut),
-                Answer::Silence => self.strike(),
-                _ => self.fail(Why::Unexpected),
-            },
-            Stage::DataIn => match answer {
-                Answer::Data(is_data1, bytes) => self.take_data(is_data1, bytes),
-                Answer::Ack => self.fail(Why::Unexpected),
-                _ => self.take_other(answer),
-            },
-            Stage::DataOut => match answer {
-                Answer::Data(..) | Answer::Ack => self.fail(Why::Unexpected),
-                _ => self.take_other(answer),
-            },
-            Stage::StatusOut => match answer {
-                Answer::Ack => self.complete(),
-                Answer::Data(..) => self.fail(Why::Unexpected),
-                _ => self.take_other(answer),
-            },
-            Stage::StatusIn => match answer {
-                Answer::Data(_, [_, ..]) => self.fail(Why::TooLong),
-                Answer::Data(true, []) => self.complete(),
-                Answer::Data(false, []) => self.strike(),
-                Answer::Ack => self.fail(Why::Unexpected),
-                _ => self.take_other(answer),
-            },
-        }
-    }
-
-    /// NAK, STALL or silence after the SETUP.
-    #[inline(always)]
-    fn take_other(&mut self, answer: Answer<'_>) -> Heard<'static> {
-        match answer {
-            Answer::Nak if self.nak_count < self.naks => {
+        match (self.stage, answer) {
+            (Stage::DataIn, Answer::Data(is_data1, bytes)) => self.take_data(is_data1, bytes),
+            (Stage::Completed, _) => Heard::Complete,
+            (Stage::Failed, _) => Heard::Failed(self.why),
+            (_, Answer::Silence) => self.strike(),
+            (Stage::Setup, Answer::Ack) if self.request.length == 0 => self.go_on(Stage::StatusIn),
+            (Stage::Setup, Answer::Ack) if self.request.is_in() => self.go_on(Stage::DataIn),
+            (Stage::Setup, Answer::Ack) => self.go_on(Stage::DataOut),
+            (Stage::Setup, _) => self.fail(Why::Unexpected),
+            (_, Answer::Nak) if self.nak_count < self.naks => {
                 self.nak_count += 1;
                 Heard::Again
             }
-            Answer::Nak => self.fail(Why::Busy),
-            Answer::Stall => self.fail(Why::Stalled),
-            _ => self.strike(),
+            (_, Answer::Nak) => self.fail(Why::Busy),
+            (_, Answer::Stall) => self.fail(Why::Stalled),
+            (Stage::StatusOut, Answer::Ack) => self.complete(),
+            (Stage::StatusIn, Answer::Data(_, [_, ..])) => self.fail(Why::TooLong),
+            (Stage::StatusIn, Answer::Data(true, [])) => self.complete(),
+            (Stage::StatusIn, Answer::Data(false, [])) => self.strike(),
+            (_, Answer::Ack | Answer::Data(..)) => self.fail(Why::Unexpected),
         }
     }
 
@@ -139,13 +117,15 @@ impl Transfer {
         if is_data1 != self.is_data1 {
             return self.strike();
         }
-        if bytes.len() > usize::from(self.request.length - self.kept) {
+        let (kept, length) = (usize::from(self.kept) + bytes.len(), usize::from(self.request.length));
+        if kept > length {
             return self.fail(Why::TooLong);
         }
-        self.kept += bytes.len() as u16;
-        self.is_data1 = !self.is_data1;
-        let is_last = bytes.len() < packet || self.kept == self.request.length;
-        self.go_on(if is_last { Stage::StatusOut } else { Stage::DataIn });
+        (self.kept, self.is_data1) = (kept as u16, !is_data1);
+        (self.strikes, self.nak_count) = (0, 0);
+        if kept == length || bytes.len() < packet {
+            self.stage = Stage::StatusOut;
+        }
         Heard::Bytes(bytes)
     }
 
@@ -173,7 +153,7 @@ impl Transfer {
     }
 
     fn fail(&mut self, why: Why) -> Heard<'static> {
-        self.stage = Stage::Failed(why);
+        (self.stage, self.why) = (Stage::Failed, why);
         Heard::Failed(why)
     }
 }
@@ -229,11 +209,18 @@ pub struct Limits {
     pub attempts: u8,
 }
 
+#[derive(Clone, Copy, PartialEq, Eq)]
+enum Due {
+    Reset,
+    Transfer,
+    Nothing,
+}
+
 pub struct Host {
     limits: Limits,
     speed: Speed,
     attempts: u8,
-    reset_due: bool,
+    due: Due,
     outcome: Option<Result<(), Why>>,
     step: Step,
     transfer: Transfer,
@@ -241,9 +228,10 @@ pub struct Host {
     file: Option<DescriptorFile>,
     strings: Strings,
     named: Vec<u8>,
-    kept: Vec<u8>,
+    /// A read of at most 255 bytes.
+    kept: [u8; 255],
+    count: usize,
     decoder: Decoder,
-    has_more: bool,
 }
 
 fn getting(kind: u8, index: u8, language: u16, length: u16) -> Setup {
@@ -261,7 +249,7 @@ impl Host {
             limits,
             speed,
             attempts: 0,
-            reset_due: true,
+            due: Due::Reset,
             outcome: None,
             step: Step::First,
             transfer: Transfer::new(0, 8, limits.naks, getting(1, 0, 0, 8)),
@@ -269,28 +257,27 @@ impl Host {
             file: None,
             strings: Strings { languages: Vec::new(), texts: Vec::new() },
             named: Vec::new(),
-            kept: Vec::with_capacity(255),
+            kept: [0; 255],
+            count: 0,
             decoder: Decoder::new(),
-            has_more: false,
         }
     }
 
     #[inline(always)]
     pub fn next(&self) -> Action {
-        if self.reset_due {
-            return Action::Reset;
-        }
-        match self.transfer.next() {
-            Some(transaction) if self.outcome.is_none() => Action::Send(transaction),
-            _ => Action::Ended,
+        match self.due {
+            Due::Reset => Action::Reset,
+            Due::Transfer => self.transfer.next().map_or(Action::Ended, Action::Send),
+            Due::Nothing => Action::Ended,
         }
     }
 
     pub fn reset_done(&mut self) {
-        if self.reset_due {
-            let attempts = self.attempts + 1;
-            *self = Host::new(self.limits, self.speed);
-            (self.attempts, self.reset_due) = (attempts, false);
+        if self.due == Due::Reset {
+            self.attempts += 1;
+            (self.due, self.outcome, self.file) = (Due::Transfer, None, None);
+            self.strings = Strings { languages: Vec::new(), texts: Vec::new() };
+            self.begin(Step::First);
         }
     }
 
@@ -308,7 +295,7 @@ impl Host {
 
     #[inline(always)]
     pub fn take(&mut self, answer: Answer<'_>) {
-        if self.reset_due || self.outcome.is_some() {
+        if self.due != Due::Transfer {
             return;
         }
         match self.transfer.take(answer) {
@@ -333,36 +320,38 @@ impl Host {
     #[inline(always)]
     fn keep(&mut self, bytes: &[u8]) {
         if let Step::Set { .. } = self.step {
-            if let Ok(Progress::Done { used }) = self.decoder.feed(bytes) {
-                self.has_more |= used < bytes.len();
-            }
+            // Its faults are judged once the transfer has completed.
+            let _ = self.decoder.feed(bytes);
         } else {
-            self.kept.extend_from_slice(bytes);
+            let end = self.count + bytes.len();
+            self.kept[self.count..end].copy_from_slice(bytes);
+            self.count = end;
         }
     }
 
     fn go_on(&mut self, next: Result<Option<Step>, Why>) {
         match next {
-            Ok(Some(step)) => {
-                self.step = step;
-                self.kept.clear();
-                if let Step::Set { .. } = step {
-                    (self.decoder, self.has_more) = (Decoder::new(), false);
-                }
-                let (address, packet) = match step {
-                    Step::First => (0, 8),
-                    Step::Address => (0, self.first[7]),
-                    _ => (self.limits.address, self.first[7]),
-                };
-                self.transfer = Transfer::new(address, packet, self.limits.naks, self.request());
-            }
-            Ok(None) => self.outcome = Some(Ok(())),
+            Ok(Some(step)) => self.begin(step),
+            Ok(None) => (self.due, self.outcome) = (Due::Nothing, Some(Ok(()))),
             Err(why) => {
-                let may_retry = matches!(why, Why::NoAnswer | Why::Busy);
-                self.reset_due = may_retry && self.attempts < self.limits.attempts;
+                let may_retry = matches!(why, Why::NoAnswer | Why::Busy) && self.attempts < self.limits.attempts;
+                self.due = if may_retry { Due::Reset } else { Due::Nothing };
                 self.outcome = Some(Err(why));
             }
         }
+    }
+
+    fn begin(&mut self, step: Step) {
+        (self.step, self.count) = (step, 0);
+        if let Step::Set { .. } = step {
+            self.decoder.restart();
+        }
+        let (address, packet) = match step {
+            Step::First => (0, 8),
+            Step::Address => (0, self.first[7]),
+            _ => (self.limits.address, self.first[7]),
+        };
+        self.transfer = Transfer::new(address, packet, self.limits.naks, self.request());
     }
 
     /// The request of the step in work.
@@ -434,7 +423,7 @@ impl Host {
 
     /// Judges a read that has completed, and answers the next step, or none after the last.
     fn read(&mut self) -> Result<Option<Step>, Why> {
-        let bytes = &self.kept;
+        let bytes = &self.kept[..self.count];
         let next = match self.step {
             Step::First => self.read_first(),
             Step::Address => Some(Step::Device),
@@ -446,7 +435,7 @@ impl Host {
                 }
                 _ => None,
             },
-            Step::Header { kind } => match **bytes {
+            Step::Header { kind } => match *bytes {
                 [len, type_of, low, high, _, _, _, _, _] if len >= 9 && type_of == kind => {
                     let total = u16::from_le_bytes([low, high]);
                     (total >= u16::from(len)).then_some(Step::Set { kind, total })
@@ -463,6 +452,7 @@ impl Host {
             },
             Step::Languages => match read_units(bytes) {
                 Some(languages) if !languages.is_empty() => {
+                    self.strings.texts = Vec::with_capacity(languages.len() * self.named.len());
                     self.strings.languages = languages;
                     self.after_text()
                 }
@@ -481,7 +471,7 @@ impl Host {
     }
 
     fn read_first(&mut self) -> Option<Step> {
-        let first: [u8; 8] = self.kept.as_slice().try_into().ok()?;
+        let first: [u8; 8] = self.kept[..self.count].try_into().ok()?;
         let fits = match self.speed {
             Speed::Low => first[7] == 8,
             Speed::Full => matches!(first[7], 8 | 16 | 32 | 64),
@@ -492,11 +482,11 @@ impl Host {
     }
 
     fn read_set(&mut self, kind: u8, total: u16) -> Option<Step> {
-        let set = std::mem::replace(&mut self.decoder, Decoder::new()).finish().ok()?;
+        let is_of_header = self.decoder.total() == usize::from(total);
+        let set = self.decoder.take_set().ok()?;
         let file = self.file.as_mut()?;
         let is_first = kind == CONFIGURATION && file.sets.is_empty();
-        let is_whole = self.transfer.kept == total && !self.has_more && set.kind == kind;
-        if !is_whole || is_first && set.value == 0 {
+        if !is_of_header || set.kind != kind || is_first && set.value == 0 {
             return None;
         }
         match (&mut file.other, kind) {

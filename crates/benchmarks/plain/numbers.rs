@@ -24,14 +24,17 @@ impl Numbers {
         self.0.iter().map(|word| word.count_ones() as usize).sum()
     }
 
-    /// Whether all numbers from the first to one before the end are there.
-    pub fn has_all(&self, first: usize, end: usize) -> bool {
-        end <= 256
-            && (first / 64..end.div_ceil(64)).all(|word| {
-                let (from, to) = (first.max(64 * word) % 64, end.min(64 * word + 64) - 64 * word);
-                let mask = u64::MAX << from & u64::MAX >> (64 - to);
-                self.0[word] & mask == mask
-            })
+    /// The least number from this one on that isn't there, or 256.
+    pub fn next_absent(&self, first: u8) -> usize {
+        let mut at = usize::from(first);
+        while at < 256 {
+            let absent = !self.0[at / 64] >> (at % 64);
+            if absent != 0 {
+                return at + absent.trailing_zeros() as usize;
+            }
+            at = (at / 64 + 1) * 64;
+        }
+        256
     }
 
     /// The numbers, ascending.

@@ -163,15 +163,6 @@ impl Configuration {
             _ => None,
         }
     }
-
-    /// Each list of extras, in the order of the bytes.
-    pub fn extras(&self) -> impl Iterator<Item = &Extra> {
-        let of_settings = self
-            .settings
-            .iter()
-            .flat_map(|setting| setting.extras.iter().chain(setting.endpoints.iter().flat_map(|it| &it.extras)));
-        self.extras.iter().chain(of_settings)
-    }
 }
 
 /// What is wrong with a set's first descriptor, as far as its bytes are there.
@@ -226,33 +217,57 @@ pub struct Decoder {
     partial: Partial,
     fault: Option<SetFault>,
     held: usize,
+    /// How many bytes of the descriptor in work are missing, once it can have no fault; else 0.
+    missing: usize,
     buffer: [u8; 255],
 }
 
 impl Decoder {
     pub fn new() -> Decoder {
-        Decoder { partial: Partial { tree: None, total: 0, place: 0 }, fault: None, held: 0, buffer: [0; 255] }
+        let partial = Partial { tree: None, total: 0, place: 0 };
+        Decoder { partial, fault: None, held: 0, missing: 0, buffer: [0; 255] }
+    }
+
+    /// Begins again. What is held of an earlier set counts no more.
+    pub fn restart(&mut self) {
+        self.partial = Partial { tree: None, total: 0, place: 0 };
+        (self.fault, self.held, self.missing) = (None, 0, 0);
     }
 
     #[inline(always)]
     pub fn feed(&mut self, piece: &[u8]) -> Result<Progress, SetFault> {
+        if piece.len() < self.missing {
+            self.hold(piece);
+            self.missing -= piece.len();
+            return Ok(Progress::More);
+        }
+        self.feed_ends(piece)
+    }
+
+    /// A piece in which a descriptor may begin or end.
+    #[inline(never)]
+    fn feed_ends(&mut self, piece: &[u8]) -> Result<Progress, SetFault> {
         if let Some(fault) = self.fault {
             return Err(fault);
         }
         if self.partial.is_done() {
             return Ok(Progress::Done { used: 0 });
         }
-        let before = self.held;
-        if before >= 4 && before + piece.len() < usize::from(self.buffer[0]) {
-            self.hold(piece);
-            return Ok(Progress::More);
-        }
         let result = self.read(piece);
-        if let Err(fault) = result {
-            self.partial.tree = None;
-            self.fault = Some(fault);
+        match result {
+            Err(fault) => {
+                self.partial.tree = None;
+                (self.fault, self.missing) = (Some(fault), 0);
+            }
+            Ok(_) => self.missing = self.still_missing(),
         }
         result
+    }
+
+    /// All faults of a header show in its first four bytes, those of other descriptors in two.
+    fn still_missing(&self) -> usize {
+        let judged = if self.partial.tree.is_some() { 2 } else { 4 };
+        if self.held < judged { 0 } else { usize::from(self.buffer[0]) - self.held }
     }
 
     #[inline(always)]
@@ -298,15 +313,24 @@ impl Decoder {
         Ok(Progress::More)
     }
 
-    pub fn finish(self) -> Result<Configuration, SetFault> {
+    /// wTotalLength, once the first descriptor has been read.
+    pub fn total(&self) -> usize {
+        self.partial.total
+    }
+
+    pub fn finish(mut self) -> Result<Configuration, SetFault> {
+        self.take_set()
+    }
+
+    /// The set that was read, which is taken out where it lies.
+    pub fn take_set(&mut self) -> Result<Configuration, SetFault> {
         if let Some(fault) = self.fault {
             return Err(fault);
         }
         let at = self.partial.place + self.held;
-        match self.partial.tree {
-            Some(tree) if self.partial.place == self.partial.total => Ok(tree),
-            _ => Err(SetFault { at, why: SetWhy::Truncated }),
-        }
+        let is_whole = self.partial.place == self.partial.total;
+        let tree = if is_whole { self.partial.tree.take() } else { None };
+        tree.ok_or(SetFault { at, why: SetWhy::Truncated })
     }
 }
 

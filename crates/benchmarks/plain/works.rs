@@ -367,6 +367,7 @@ fn sent(device: &mut Device, transaction: &Transaction, is_ready: bool) -> usize
     }
 }
 
+#[inline(always)]
 fn read_packets(device: &mut Device, packets: u32) -> usize {
     let mut count = 0;
     for _ in 0..packets {
