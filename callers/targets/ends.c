@@ -97,13 +97,19 @@ static void take_written(struct nzg_device *device) {
 
 static void say_judged(struct nzg_device *device, const struct nzg_transaction *next, const uint8_t *data, uint32_t length) {
     struct nzg_setup request;
+    struct nzg_open_transfer open = {(uint16_t)any(130), (uint16_t)any(130), (uint8_t)any(66), (uint8_t)any(6)};
     struct nzg_packet came = {0}, has = {0};
     came.reply = (uint8_t)any(5);
     came.toggle = (uint8_t)any(2);
     came.length = (uint8_t)any(65);
     any_setup(request.bytes);
-    say_list("judged ", nzg_judge_device(device, &request, next, data, length, &came, &has));
+    say_list("judged ", nzg_judge_device(device, &open, &request, next, data, length, &came, &has));
     say_packet(&has);
+    if (one_in(2)) nzg_judge_acked(&open);
+    say_list(" open ", open.acknowledged);
+    say_list(" ", open.sent);
+    say_list(" ", open.last);
+    say_list(" ", open.stage);
     say("\n");
 }
 
