@@ -26,7 +26,8 @@ GROUPS = {
     "packets": r"packet_\w+|crc\d+",
     "everything": r"\w+",
 }
-# What none may be over, of the sources before a proof too: of thumbv7em, thumbv6m and riscv32imac.
+# What none may be over, of the sources before a proof too: of thumbv7em, thumbv6m and riscv32imac. Of proved code texts are larger,
+# since it has inlined what its sources say, and all else is smaller.
 BOUNDED = ("thumbv7em", "thumbv6m", "riscv32imac")
 BOUNDS = {
     "a device": (46_000, 58_000, 74_000),
@@ -40,8 +41,8 @@ BOUNDS = {
     "a walk with fields": (36_000, 37_000, 39_000),
     "findings": (34_000, 42_000, 55_000),
     "remarks": (41_000, 50_000, 64_000),
-    "texts": (164_000, 180_000, 208_000),
-    "everything": (215_000, 245_000, 290_000),
+    "texts": (206_000, 214_000, 260_000),
+    "everything": (256_000, 275_000, 337_000),
 }
 
 
