@@ -1,5 +1,5 @@
 -- What holds of the explanation of an input: a brief one leaves out the fields alone, and that of a fault has a line for it.
-use Rattle.std.specs.Prelude.{Bool, ◌≡◌, ℕ, true, false, ◌+◌, List, [], ◌∷◌, ◌++◌, Err}
+use Rattle.std.specs.Prelude.{Bool, ◌≡◌, ℕ, true, false, List, [], ◌∷◌, ◌++◌, Err}
 use Rattle.usb_file_data.specs.declared.fault.InputFault.{InputFault}
 use Rattle.usb_text.specs.Shown.{Shown, End}
 use Rattle.usb_explain.specs.declared.manner.Manner.{Manner}

@@ -2,7 +2,7 @@
 use Rattle.std.proofs.Common.{◌≡◌, ◌∙◌, ℕ, List, [], ◌∷◌, true, false, ◌||◌, refl, ap}
 use Rattle.std.specs.List.{list_any, take_while}
 use Rattle.std.proofs.lemmas.List.Sums.{take_while-cons}
-use Rattle.usb_remarks.specs.declared.setting_remark.Wanted.{Wanted}
+use Rattle.usb_remarks.specs.declared.remarks.settings.Wanted.{Wanted}
 use Rattle.usb_walk.specs.Roles.{is_interface}
 use Rattle.usb_remarks.specs.SettingRemarks.{has_wanted, is_wanted, no_interface}
 

@@ -11,8 +11,8 @@ use Rattle.usb_remarks.specs.declared.speed.SetSpeed.{SetSpeed}
 use Rattle.usb_remarks.specs.declared.speed.SetSpeed.TheVariants.{High, Super}
 use Rattle.usb_remarks.specs.declared.remark.Remark.{Remark}
 use Rattle.usb_remarks.specs.declared.remark.Remark.TheVariants as remarks
-use Rattle.usb_remarks.specs.declared.setting_remark.Wanted.{Wanted}
-use Rattle.usb_remarks.specs.declared.setting_remark.Wanted.TheVariants as wanted
+use Rattle.usb_remarks.specs.declared.remarks.settings.Wanted.{Wanted}
+use Rattle.usb_remarks.specs.declared.remarks.settings.Wanted.TheVariants as wanted
 use Rattle.usb_remarks.specs.RemarkValues.{remark_if}
 use Rattle.usb_walk.specs.Roles.{is_endpoint, is_interface}
 use Rattle.usb_walk.specs.Trees.{descriptors}

@@ -14,16 +14,11 @@
 
 mod associations;
 mod bindings;
-mod class_remark;
 mod context;
 mod descriptor;
 mod device_facts;
-mod device_remark;
-mod endpoint_addresses;
 mod found_here;
-mod header;
 mod interface_numbers;
-mod interval_remark;
 mod later_interfaces;
 pub mod laws;
 mod outline;
@@ -32,18 +27,16 @@ mod remark;
 mod remarks;
 mod set_speed;
 mod set_start;
-mod setting_remark;
 mod speed;
 mod speed_evidence;
 mod standing;
-mod string_remark;
 mod survey;
 
-pub use class_remark::hid_length;
 pub use descriptor::Descriptor;
 pub use outline::Outline;
 pub use placed_remark::{PlacedRemark, remarks_text};
 pub use remark::{IntervalRange, PacketSizes, Remark};
+pub use remarks::classes::hid_length;
 pub use set_speed::other_speed;
 pub use speed::SetSpeed;
 pub use speed_evidence::has_multiple;

@@ -5,24 +5,32 @@ ghost use Rattle.usb_remarks.specs.Outline.{described};
 ghost use Rattle.usb_remarks.specs.RemarkValues.{there};
 ghost use Rattle.usb_remarks.specs.Remarks.{endpoint_remarks, raw_remarks, remarks_on};
 
-use crate::class_remark::{
-    class_release_remark, functional_remark, hid_length_remark, hid_report_remark, late_remark,
-};
+pub(crate) mod classes;
+mod devices;
+mod endpoint_addresses;
+mod headers;
+mod intervals;
+mod settings;
+mod strings;
+
 use crate::descriptor::Descriptor;
-use crate::device_remark::{
-    associations_remark, count_remark, device_class_remark, one_speed_remark, packet_remark,
-    power_remark, qualifier_release_remark, release_remark,
-};
-use crate::endpoint_addresses::endpoints_remark;
-use crate::header::header_remark;
-use crate::interval_remark::interval_remark;
 use crate::remark::{
     Remark, association_class_remark, attributes_remark, class_remark, multiple_remark, remark_if,
     size_remark,
 };
-use crate::setting_remark::{default_remark, empty_remark, pipe_remark, setting_remark};
+use crate::remarks::classes::{
+    class_release_remark, functional_remark, hid_length_remark, hid_report_remark, late_remark,
+};
+use crate::remarks::devices::{
+    associations_remark, count_remark, device_class_remark, one_speed_remark, packet_remark,
+    power_remark, qualifier_release_remark, release_remark,
+};
+use crate::remarks::endpoint_addresses::endpoints_remark;
+use crate::remarks::headers::header_remark;
+use crate::remarks::intervals::interval_remark;
+use crate::remarks::settings::{default_remark, empty_remark, pipe_remark, setting_remark};
+use crate::remarks::strings::{languages_remark, text_remark};
 use crate::standing::device_codes;
-use crate::string_remark::{languages_remark, text_remark};
 use usb_fields::{byte_at, word_at};
 use usb_set::TransferType;
 use usb_walk::Role;

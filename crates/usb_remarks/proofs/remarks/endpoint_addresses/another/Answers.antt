@@ -1,7 +1,7 @@
 use Rattle.std.proofs.Common.{◌≡◌, ◌∙◌, ℕ, Some, true, false, ap, sym}
 use Rattle.usb_remarks.specs.EndpointAddresses.{is_another}
 use Rattle.usb_remarks.proofs.EndpointSteps.{another_later, another_there, none_other}
-use Rattle.usb_remarks.proofs.endpoint_addresses.another.Goals as goal
+use Rattle.usb_remarks.proofs.remarks.endpoint_addresses.another.Goals as goal
 
 pub loop-d-preserved : goal.loop-d-preserved
 loop-d-preserved c =

@@ -4,7 +4,7 @@ use Rattle.usb_walk.specs.Roles.{is_interface}
 use Rattle.usb_remarks.specs.SettingRemarks.{is_wanted}
 use Rattle.usb_walk.proofs.Cuts.{descriptors_end, descriptors_step}
 use Rattle.usb_remarks.proofs.SettingSteps.{none_wanted, wanted_ends, wanted_found, wanted_later}
-use Rattle.usb_remarks.proofs.setting_remark.has_wanted.Goals as goal
+use Rattle.usb_remarks.proofs.remarks.settings.has_wanted.Goals as goal
 
 pub loop-length-preserved : goal.loop-length-preserved
 loop-length-preserved c =

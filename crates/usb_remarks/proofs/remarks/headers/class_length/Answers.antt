@@ -4,7 +4,7 @@ use Rattle.usb_walk.specs.Trees.{descriptor_length, descriptors}
 use Rattle.usb_walk.proofs.Cuts.{descriptors_step}
 use Rattle.usb_remarks.specs.HeaderRemarks.{class_length, is_class_descriptor}
 use Rattle.usb_remarks.proofs.Classes.{class_length_step}
-use Rattle.usb_remarks.proofs.header.class_length.Goals as goal
+use Rattle.usb_remarks.proofs.remarks.headers.class_length.Goals as goal
 
 pub loop-length-preserved : goal.loop-length-preserved
 loop-length-preserved c =

@@ -1,7 +1,7 @@
 use Rattle.std.proofs.Common.{◌≡◌, ◌≤◌, ◌+◌, length}
 use Rattle.usb_walk.specs.Trees.{descriptors}
 use Rattle.usb_remarks.specs.HeaderRemarks.{class_length}
-use Rattle.usb_remarks.proofs.header.class_length.Given as goal
+use Rattle.usb_remarks.proofs.remarks.headers.class_length.Given as goal
 
 abbrev pub invariant-loop-length : goal.invariant-loop-length
 invariant-loop-length l = record {
