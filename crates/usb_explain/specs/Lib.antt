@@ -11,6 +11,7 @@ pub mod Explanations
 pub mod Fragments
 pub mod Containers
 pub mod Faults
+pub mod FaultWords
 pub mod Lines
 pub mod Uncovered
 pub mod Laws
@@ -42,4 +43,5 @@ pub mod StringRemarks
 pub mod InterfaceNumbers
 pub mod Remarks
 pub mod RemarkLines
+pub mod Words
 pub mod inside

@@ -49,7 +49,7 @@ fn put_finding<P: Page>(page: &mut P, depth: u8, cause: Cause) -> Result<(), All
     page.end_line()
 }
 
-fn put_cause<P: Page>(page: &mut P, cause: Cause) -> Result<(), AllocError>
+pub(crate) fn put_cause<P: Page>(page: &mut P, cause: Cause) -> Result<(), AllocError>
     ensures { OnOk result (P.seen page.new ≡ showing_all P.showing (counts_shown cause) (P.seen page.old)) }
 {
     match cause {

@@ -64,7 +64,7 @@ fn put_line<P: Page>(page: &mut P, depth: u8, remark: Remark) -> Result<(), Allo
 }
 
 #[tactic(auto, using(usb_text::proofs::ShownLines::showing_joined))]
-fn put_words<P: Page>(page: &mut P, remark: Remark) -> Result<(), AllocError>
+pub(crate) fn put_words<P: Page>(page: &mut P, remark: Remark) -> Result<(), AllocError>
     ensures { OnOk result (P.seen page.new ≡ showing_all P.showing (remark_shown remark) (P.seen page.old)) }
 {
     put_speed_words(page, remark)?;

@@ -1,0 +1,109 @@
+//! What is remarked, in the words of an explanation.
+ghost use Rattle.std.specs.Prelude.{◌≡◌, IfOk, is_some};
+ghost use Rattle.usb_explain.specs.Outline.{described};
+ghost use Rattle.usb_explain.specs.RemarkValues.{there};
+ghost use Rattle.usb_explain.specs.Remarks.{remarks_on};
+ghost use Rattle.usb_c.specs.Answers.{AnswersOn};
+ghost use Rattle.usb_c.specs.Texts.{running_speed_told};
+ghost use Rattle.usb_c.specs.Words.{AreWords, TellsRemark, remark_by, remark_told, told_shown};
+
+use crate::answer::{Answer, Verdict, refused_input};
+use crate::buffer::fill_done;
+use crate::remark::NzgRemark;
+use crate::text::running_speed;
+use std::alloc::{AllocError, Global};
+use usb_explain::{Descriptor, Outline, Remark, SetSpeed, remark_words};
+use usb_file::{Input, read_input};
+use usb_file_data::found_in_order;
+use usb_text::Lines;
+
+/// Puts what a remark on these bytes says into the buffer, in the words of an explanation. The device ran at the speed of this
+/// number, if it is one. Of the struct its place and its number are looked at.
+#[unsafe(no_mangle)]
+pub extern "C" fn nzg_remark_text(
+    alloc: Global,
+    bytes: &[u8],
+    speed: u8,
+    remark: &NzgRemark,
+    text: &mut [u8],
+) -> Answer
+    ensures { AnswersOn (TellsRemark remark.now (running_speed_told speed) bytes.now text.old text.new) result }
+{
+    tell_remark(alloc, bytes, running_speed(speed), remark, text).answer()
+}
+
+#[tactic(auto, using(crate::proofs::InputFaults::input_refuses))]
+fn tell_remark(
+    alloc: Global,
+    bytes: &[u8],
+    running: Option<SetSpeed>,
+    remark: &NzgRemark,
+    out: &mut [u8],
+) -> Verdict
+    ensures { TellsRemark remark.now running bytes.now out.old out.new result }
+{
+    let input = match read_input(alloc, bytes) {
+        Ok(input) => input,
+        Err(fault) => return refused_input(fault),
+    };
+    match words_of(alloc, &input, bytes, running, remark) {
+        Ok(Some(words)) => fill_done(words.as_bytes(), out),
+        Ok(None) => Verdict::BadArgument(13),
+        Err(_) => Verdict::NoMemory,
+    }
+}
+
+/// The words of the remark on an input that a struct says, if there is one.
+fn words_of(
+    alloc: Global,
+    input: &Input,
+    bytes: &[u8],
+    running: Option<SetSpeed>,
+    remark: &NzgRemark,
+) -> Result<Option<Lines>, AllocError>
+    ensures { IfOk result (AreWords (told_shown remark.now running bytes.now input.now)) }
+{
+    let found = found_in_order(alloc, input)?;
+    match remark_in(Outline::of(bytes, running, &found), remark) {
+        None => Ok(None),
+        Some(remark) => {
+            let words = remark_words(alloc, remark)?;
+            Ok(Some(words))
+        }
+    }
+}
+
+/// The remark on the descriptor at the place of this one, by its number.
+fn remark_in(outline: Outline<'_>, remark: &NzgRemark) -> Option<Remark>
+    ensures { result ≡ remark_told remark.now outline.entry }
+{
+    for descriptor in outline {
+        if descriptor.at == remark.place {
+            return remark_by(&descriptor, remark.number);
+        }
+    }
+    None
+}
+
+/// The remark of this number on a descriptor.
+fn remark_by(d: &Descriptor<'_>, number: u8) -> Option<Remark>
+    ensures { result ≡ remark_by number (remarks_on d.now.role (described d.now)) }
+{
+    let remarks = d.remarks();
+    for remark in &remarks {
+        if has_number(*remark, number) {
+            return *remark;
+        }
+    }
+    None
+}
+
+/// Whether there is a remark, and it has this number.
+fn has_number(remark: Option<Remark>, number: u8) -> bool
+    ensures { result ≡ is_some (remark_by number (there remark)) }
+{
+    match remark {
+        None => false,
+        Some(remark) => remark.number() == number,
+    }
+}
