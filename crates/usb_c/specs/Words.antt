@@ -1,8 +1,8 @@
 -- What is found, remarked and at fault, and why an enumeration failed, in words.
-use Rattle.std.specs.Prelude.{◌≡◌, ℕ, ◌⊎◌, ◌++◌, ◌==◌, List, Option, Some, None, option_and_then, option_map, if◌then◌else◌}
+use Rattle.std.specs.Prelude.{◌≡◌, ℕ, ◌⊎◌, ◌++◌, ◌==◌, List, [], false, Option, Some, None, option_and_then, option_map, if◌then◌else◌}
 use Rattle.std.specs.List.{find}
-use Rattle.usb_text.specs.Shown.{Shown}
-use Rattle.usb_text.specs.Written.{LineBytes}
+use Rattle.usb_text.specs.Shown.{Shown, showing_all, with_shown}
+use Rattle.usb_text.specs.Written.{LineBytes, no_lines, written}
 use Rattle.usb_set.specs.Numbers.{why_number as set_number}
 use Rattle.usb_file_data.specs.declared.cause.Cause.{Cause}
 use Rattle.usb_file_data.specs.declared.cause.Found.{Found}
@@ -22,7 +22,6 @@ use Rattle.usb_explain.specs.Outline.{Described, outline}
 use Rattle.usb_explain.specs.RemarkLines.{remark_shown}
 use Rattle.usb_explain.specs.RemarkNumbers.{remark_number}
 use Rattle.usb_explain.specs.Remarks.{remarks_on}
-use Rattle.usb_explain.specs.Words.{Show}
 use Rattle.usb_host.specs.Why.{trouble_message}
 use Rattle.usb_host.specs.declared.step.Step.{Step}
 use Rattle.usb_host.specs.declared.step.Step.TheVariants as steps
@@ -39,22 +38,25 @@ use Rattle.usb_c.specs.Transfers.{why_in}
 
 -- ---- findings and remarks
 
+-- these words are of ASCII, and show what those in a line show
+abbrev pub Show : List Shown → LineBytes → Type 0
+Show shown words = written words ≡ showing_all with_shown shown (written (no_lines false))
+
 -- words that show these are in the buffer
 pub record PutsWords (shown : List Shown) (old new : List ℕ) (verdict : Verdict) : Type 0 where
   pub words : LineBytes
   pub show : Show shown words
   pub puts : Puts verdicts.Done words.bytes old new verdict
 
--- words that show these, if there is what they are to show
-abbrev pub AreWords : Option (List Shown) → Option LineBytes → Type 0
-AreWords None None = Unit {0}
-AreWords (Some shown) (Some words) = Show shown words
-AreWords shown words = ⊥
-
--- those of what a struct says, or that it says nothing that there is
+-- those of what a struct says, or that there is nothing that it says
 abbrev pub TellsShown : Option (List Shown) → List ℕ → List ℕ → Verdict → Type 0
 TellsShown None old new verdict = (verdict ≡ verdicts.BadArgument 13) × (new ≡ old)
 TellsShown (Some shown) old new verdict = PutsWords shown old new verdict
+
+-- what is shown then
+abbrev pub shown_by : Option (List Shown) → List Shown
+shown_by None = []
+shown_by (Some shown) = shown
 
 -- what a struct says of an input, in words; or the bytes are refused, or memory was wanting, and the buffer is as it was
 pub record TellsWords (shown_of : Input → Option (List Shown)) (b old new : List ℕ) (verdict : Verdict) : Type 0 where

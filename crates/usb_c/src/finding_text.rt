@@ -1,16 +1,17 @@
 //! What breaks a rule, in the words of an explanation.
-ghost use Rattle.std.specs.Prelude.{◌≡◌, IfOk};
+ghost use Rattle.std.specs.Prelude.{◌≡◌, IfOk, OnOk, is_some};
+ghost use Rattle.usb_text.specs.Shown.{showing_all};
 ghost use Rattle.usb_c.specs.Answers.{AnswersOn};
-ghost use Rattle.usb_c.specs.Words.{AreWords, TellsFinding, cause_by, cause_told, finding_shown};
+ghost use Rattle.usb_c.specs.Words.{TellsFinding, cause_by, cause_told, finding_shown, shown_by};
 
 use crate::answer::{Answer, Verdict, refused_input};
 use crate::buffer::fill_done;
 use crate::finding::NzgFinding;
 use std::alloc::{AllocError, Global};
-use usb_explain::{Outline, finding_words};
+use usb_explain::{Outline, put_finding_words};
 use usb_file::{Input, read_input};
 use usb_file_data::{Cause, Found, found_in_order};
-use usb_text::Lines;
+use usb_text::{Lines, Page};
 
 /// Puts what a finding of these bytes says into the buffer, in the words that an explanation has after its rule. Of the struct
 /// its place and its rule are looked at.
@@ -34,28 +35,31 @@ fn tell_finding(alloc: Global, bytes: &[u8], finding: &NzgFinding, out: &mut [u8
         Ok(input) => input,
         Err(fault) => return refused_input(fault),
     };
-    match words_of(alloc, &input, bytes, finding) {
-        Ok(Some(words)) => fill_done(words.as_bytes(), out),
-        Ok(None) => Verdict::BadArgument(13),
+    let mut words = Lines::new(alloc, false);
+    match put_words(alloc, &mut words, &input, bytes, finding) {
+        Ok(true) => fill_done(words.as_bytes(), out),
+        Ok(false) => Verdict::BadArgument(13),
         Err(_) => Verdict::NoMemory,
     }
 }
 
-/// The words of the finding of an input that a struct says, if there is one.
-fn words_of(
+/// Puts the words of the finding of an input that a struct says, and answers whether there is one.
+fn put_words<P: Page>(
     alloc: Global,
+    page: &mut P,
     input: &Input,
     bytes: &[u8],
     finding: &NzgFinding,
-) -> Result<Option<Lines>, AllocError>
-    ensures { IfOk result (AreWords (finding_shown finding.now bytes.now input.now)) }
+) -> Result<bool, AllocError>
+    ensures there { IfOk result (λ there. there ≡ is_some (finding_shown finding.now bytes.now input.now)) }
+    ensures shows { OnOk result (P.seen page.new ≡ showing_all P.showing (shown_by (finding_shown finding.now bytes.now input.now)) (P.seen page.old)) }
 {
     let found = found_in_order(alloc, input)?;
     match cause_in(Outline::of(bytes, None, &found), finding) {
-        None => Ok(None),
+        None => Ok(false),
         Some(cause) => {
-            let words = finding_words(alloc, cause)?;
-            Ok(Some(words))
+            put_finding_words(page, cause)?;
+            Ok(true)
         }
     }
 }

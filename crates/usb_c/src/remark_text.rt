@@ -1,21 +1,22 @@
 //! What is remarked, in the words of an explanation.
-ghost use Rattle.std.specs.Prelude.{◌≡◌, IfOk, is_some};
+ghost use Rattle.std.specs.Prelude.{◌≡◌, IfOk, OnOk, is_some};
 ghost use Rattle.usb_explain.specs.Outline.{described};
 ghost use Rattle.usb_explain.specs.RemarkValues.{there};
 ghost use Rattle.usb_explain.specs.Remarks.{remarks_on};
+ghost use Rattle.usb_text.specs.Shown.{showing_all};
 ghost use Rattle.usb_c.specs.Answers.{AnswersOn};
 ghost use Rattle.usb_c.specs.Texts.{running_speed_told};
-ghost use Rattle.usb_c.specs.Words.{AreWords, TellsRemark, remark_by, remark_told, told_shown};
+ghost use Rattle.usb_c.specs.Words.{TellsRemark, remark_by, remark_told, shown_by, told_shown};
 
 use crate::answer::{Answer, Verdict, refused_input};
 use crate::buffer::fill_done;
 use crate::remark::NzgRemark;
 use crate::text::running_speed;
 use std::alloc::{AllocError, Global};
-use usb_explain::{Descriptor, Outline, Remark, SetSpeed, remark_words};
+use usb_explain::{Descriptor, Outline, Remark, SetSpeed, put_remark_words};
 use usb_file::{Input, read_input};
 use usb_file_data::found_in_order;
-use usb_text::Lines;
+use usb_text::{Lines, Page};
 
 /// Puts what a remark on these bytes says into the buffer, in the words of an explanation. The device ran at the speed of this
 /// number, if it is one. Of the struct its place and its number are looked at.
@@ -46,29 +47,32 @@ fn tell_remark(
         Ok(input) => input,
         Err(fault) => return refused_input(fault),
     };
-    match words_of(alloc, &input, bytes, running, remark) {
-        Ok(Some(words)) => fill_done(words.as_bytes(), out),
-        Ok(None) => Verdict::BadArgument(13),
+    let mut words = Lines::new(alloc, false);
+    match put_words(alloc, &mut words, &input, bytes, running, remark) {
+        Ok(true) => fill_done(words.as_bytes(), out),
+        Ok(false) => Verdict::BadArgument(13),
         Err(_) => Verdict::NoMemory,
     }
 }
 
-/// The words of the remark on an input that a struct says, if there is one.
-fn words_of(
+/// Puts the words of the remark on an input that a struct says, and answers whether there is one.
+fn put_words<P: Page>(
     alloc: Global,
+    page: &mut P,
     input: &Input,
     bytes: &[u8],
     running: Option<SetSpeed>,
     remark: &NzgRemark,
-) -> Result<Option<Lines>, AllocError>
-    ensures { IfOk result (AreWords (told_shown remark.now running bytes.now input.now)) }
+) -> Result<bool, AllocError>
+    ensures there { IfOk result (λ there. there ≡ is_some (told_shown remark.now running bytes.now input.now)) }
+    ensures shows { OnOk result (P.seen page.new ≡ showing_all P.showing (shown_by (told_shown remark.now running bytes.now input.now)) (P.seen page.old)) }
 {
     let found = found_in_order(alloc, input)?;
     match remark_in(Outline::of(bytes, running, &found), remark) {
-        None => Ok(None),
+        None => Ok(false),
         Some(remark) => {
-            let words = remark_words(alloc, remark)?;
-            Ok(Some(words))
+            put_remark_words(page, remark)?;
+            Ok(true)
         }
     }
 }

@@ -43,5 +43,4 @@ pub mod StringRemarks
 pub mod InterfaceNumbers
 pub mod Remarks
 pub mod RemarkLines
-pub mod Words
 pub mod inside
