@@ -71,7 +71,6 @@ extern "C" {
         bytes: *const u8, len: usize, speed: u8, remark: *const nzg_remark, text: *mut u8, room: usize,
     ) -> nzg_answer;
     pub fn nzg_fault_text(bytes: *const u8, len: usize, text: *mut u8, room: usize) -> nzg_answer;
-    pub fn nzg_rule(rule: u8, text: *mut u8, room: usize) -> nzg_answer;
     pub fn nzg_text(bytes: *const u8, len: usize, string: *const nzg_descriptor, text: *mut u8, room: usize) -> nzg_answer;
     pub fn nzg_with_strings(dump: *const u8, len: usize, file: *mut u8, room: usize) -> nzg_answer;
     pub fn nzg_packet_parse(bytes: *const u8, len: usize, packet: *mut nzg_packet_fields) -> u8;

@@ -12,7 +12,7 @@ use usb_bus::{Fate, enumerate_encoded_logged};
 use usb_device::{Encoded, speed_of};
 use usb_fields::Speed;
 use usb_file::read_file;
-use usb_host::Limits;
+use usb_host::{Limits, Trouble, Why};
 
 /// Enumerates a device with the descriptors of a file as [`nzg_enumerate`](crate::nzg_enumerate) does, and puts the log into the
 /// buffer, with success or without.
@@ -93,7 +93,15 @@ fn log_description(
 {
     let mut log = Vec::new(alloc);
     match enumerate_encoded_logged(alloc, description, limits, fates, false, &mut log) {
-        Ok(_) => fill_done(log.as_slice(), out),
+        Ok(run) => match run.outcome {
+            Err(
+                Trouble {
+                    why: Why::Memory,
+                    ..
+                },
+            ) => Verdict::NoMemory,
+            _ => fill_done(log.as_slice(), out),
+        },
         Err(_) => Verdict::NoMemory,
     }
 }
