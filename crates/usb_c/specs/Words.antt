@@ -58,11 +58,15 @@ abbrev pub shown_by : Option (List Shown) → List Shown
 shown_by None = []
 shown_by (Some shown) = shown
 
--- what a struct says of an input, in words; or the bytes are refused, or memory was wanting, and the buffer is as it was
+-- or out of memory, and the buffer is as it was
+abbrev pub TellsIfMemory : Option (List Shown) → List ℕ → List ℕ → Verdict → Type 0
+TellsIfMemory shown old new verdict = TellsShown shown old new verdict ⊎ ((verdict ≡ verdicts.NoMemory) × (new ≡ old))
+
+-- what a struct says of an input, in words; or the bytes are refused, and the buffer is as it was
 pub record TellsWords (shown_of : Input → Option (List Shown)) (b old new : List ℕ) (verdict : Verdict) : Type 0 where
   pub input : Input
   pub is : IsInput input b
-  pub tells : TellsShown (shown_of input) old new verdict
+  pub tells : TellsIfMemory (shown_of input) old new verdict
 
 abbrev pub TellsWordsOf : (Input → Option (List Shown)) → List ℕ → List ℕ → List ℕ → Verdict → Type 0
 TellsWordsOf shown_of b old new verdict =

@@ -2,7 +2,7 @@
 ghost use Rattle.std.specs.Prelude.{◌≡◌, IfOk, OnOk, is_some};
 ghost use Rattle.usb_text.specs.Shown.{showing_all};
 ghost use Rattle.usb_c.specs.Answers.{AnswersOn};
-ghost use Rattle.usb_c.specs.Words.{TellsFinding, cause_by, cause_told, finding_shown, shown_by};
+ghost use Rattle.usb_c.specs.Words.{TellsFinding, TellsIfMemory, cause_by, cause_told, finding_shown, shown_by};
 
 use crate::answer::{Answer, Verdict, refused_input};
 use crate::buffer::fill_done;
@@ -31,12 +31,24 @@ pub extern "C" fn nzg_finding_text(
 fn tell_finding(alloc: Global, bytes: &[u8], finding: &NzgFinding, out: &mut [u8]) -> Verdict
     ensures { TellsFinding finding.now bytes.now out.old out.new result }
 {
-    let input = match read_input(alloc, bytes) {
-        Ok(input) => input,
-        Err(fault) => return refused_input(fault),
-    };
+    match read_input(alloc, bytes) {
+        Ok(input) => tell_in(alloc, &input, bytes, finding, out),
+        Err(fault) => refused_input(fault),
+    }
+}
+
+#[tactic(auto, using(crate::proofs::Worded::words_told))]
+fn tell_in(
+    alloc: Global,
+    input: &Input,
+    bytes: &[u8],
+    finding: &NzgFinding,
+    out: &mut [u8],
+) -> Verdict
+    ensures { TellsIfMemory (finding_shown finding.now bytes.now input.now) out.old out.new result }
+{
     let mut words = Lines::new(alloc, false);
-    match put_words(alloc, &mut words, &input, bytes, finding) {
+    match put_words(alloc, &mut words, input, bytes, finding) {
         Ok(true) => fill_done(words.as_bytes(), out),
         Ok(false) => Verdict::BadArgument(13),
         Err(_) => Verdict::NoMemory,
@@ -80,10 +92,6 @@ fn cause_in(outline: Outline<'_>, finding: &NzgFinding) -> Option<Cause>
 fn cause_by(found: &[Found], rule: u8) -> Option<Cause>
     ensures { result ≡ cause_by rule found.now }
 {
-    for one in found {
-        if one.finding.rule == rule {
-            return Some(one.cause);
-        }
-    }
-    None
+    let one = found.iter().find(|one| one.finding.rule == rule)?;
+    Some(one.cause)
 }

@@ -6,7 +6,7 @@ ghost use Rattle.usb_explain.specs.Remarks.{remarks_on};
 ghost use Rattle.usb_text.specs.Shown.{showing_all};
 ghost use Rattle.usb_c.specs.Answers.{AnswersOn};
 ghost use Rattle.usb_c.specs.Texts.{running_speed_told};
-ghost use Rattle.usb_c.specs.Words.{TellsRemark, remark_by, remark_told, shown_by, told_shown};
+ghost use Rattle.usb_c.specs.Words.{TellsIfMemory, TellsRemark, remark_by, remark_told, shown_by, told_shown};
 
 use crate::answer::{Answer, Verdict, refused_input};
 use crate::buffer::fill_done;
@@ -43,12 +43,25 @@ fn tell_remark(
 ) -> Verdict
     ensures { TellsRemark remark.now running bytes.now out.old out.new result }
 {
-    let input = match read_input(alloc, bytes) {
-        Ok(input) => input,
-        Err(fault) => return refused_input(fault),
-    };
+    match read_input(alloc, bytes) {
+        Ok(input) => tell_in(alloc, &input, bytes, running, remark, out),
+        Err(fault) => refused_input(fault),
+    }
+}
+
+#[tactic(auto, using(crate::proofs::Worded::words_told))]
+fn tell_in(
+    alloc: Global,
+    input: &Input,
+    bytes: &[u8],
+    running: Option<SetSpeed>,
+    remark: &NzgRemark,
+    out: &mut [u8],
+) -> Verdict
+    ensures { TellsIfMemory (told_shown remark.now running bytes.now input.now) out.old out.new result }
+{
     let mut words = Lines::new(alloc, false);
-    match put_words(alloc, &mut words, &input, bytes, running, remark) {
+    match put_words(alloc, &mut words, input, bytes, running, remark) {
         Ok(true) => fill_done(words.as_bytes(), out),
         Ok(false) => Verdict::BadArgument(13),
         Err(_) => Verdict::NoMemory,
@@ -95,19 +108,20 @@ fn remark_by(d: &Descriptor<'_>, number: u8) -> Option<Remark>
 {
     let remarks = d.remarks();
     for remark in &remarks {
-        if has_number(*remark, number) {
-            return *remark;
+        let one = numbered(*remark, number);
+        if one.is_some() {
+            return one;
         }
     }
     None
 }
 
-/// Whether there is a remark, and it has this number.
-fn has_number(remark: Option<Remark>, number: u8) -> bool
-    ensures { result ≡ is_some (remark_by number (there remark)) }
+/// The remark that there may be, where it has this number.
+fn numbered(remark: Option<Remark>, number: u8) -> Option<Remark>
+    ensures { result ≡ remark_by number (there remark) }
 {
     match remark {
-        None => false,
-        Some(remark) => remark.number() == number,
+        Some(remark) if remark.number() == number => Some(remark),
+        _ => None,
     }
 }

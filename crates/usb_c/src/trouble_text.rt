@@ -1,9 +1,7 @@
 //! Why an enumeration failed, in words.
-ghost use Rattle.std.specs.Prelude.{◌≡◌, Some};
-ghost use Rattle.usb_host.specs.Why.{trouble_message};
-ghost use Rattle.usb_c.specs.Answers.{AnswersOn, Fills};
+ghost use Rattle.std.specs.Prelude.{◌≡◌};
+ghost use Rattle.usb_c.specs.Answers.{AnswersOn};
 ghost use Rattle.usb_c.specs.Words.{TellsTrouble, step_told, trouble_told};
-ghost use Rattle.usb_c.specs.declared.answer.Verdict.TheVariants as verdicts;
 
 use crate::answer::{Answer, Verdict};
 use crate::buffer::fill_done;
@@ -17,15 +15,15 @@ use usb_host::{Step, Trouble};
 pub extern "C" fn nzg_trouble_text(alloc: Global, trouble: &NzgTrouble, text: &mut [u8]) -> Answer
     ensures { AnswersOn (TellsTrouble (trouble_told trouble.now) text.old text.new) result }
 {
-    match trouble_of(trouble) {
-        Some(trouble) => put_trouble(alloc, trouble, text).answer(),
-        None => Verdict::BadArgument(13).answer(),
-    }
+    tell_trouble(alloc, trouble_of(trouble), text).answer()
 }
 
-fn put_trouble(alloc: Global, trouble: Trouble, out: &mut [u8]) -> Verdict
-    ensures { Fills verdicts.Done (trouble_message trouble) out.old out.new result }
+fn tell_trouble(alloc: Global, trouble: Option<Trouble>, out: &mut [u8]) -> Verdict
+    ensures { TellsTrouble trouble out.old out.new result }
 {
+    let Some(trouble) = trouble else {
+        return Verdict::BadArgument(13);
+    };
     match format!(in alloc; "{trouble}") {
         Ok(words) => fill_done(words.as_bytes(), out),
         Err(_) => Verdict::NoMemory,
