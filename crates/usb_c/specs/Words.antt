@@ -33,6 +33,7 @@ use Rattle.usb_c.specs.declared.finding.NzgFinding.{NzgFinding}
 use Rattle.usb_c.specs.declared.outcome.NzgTrouble.{NzgTrouble}
 use Rattle.usb_c.specs.declared.remark.NzgRemark.{NzgRemark}
 use Rattle.usb_c.specs.Answers.{Fills, Puts}
+use Rattle.usb_c.specs.Hosts.{trouble_numbers}
 use Rattle.usb_c.specs.Texts.{Refuses}
 use Rattle.usb_c.specs.Transfers.{why_in}
 
@@ -165,3 +166,7 @@ trouble_told t = trouble_by (step_told t.step t.index t.language) (why_in t.why)
 abbrev pub TellsTrouble : Option Trouble → List ℕ → List ℕ → Verdict → Type 0
 TellsTrouble None old new verdict = (verdict ≡ verdicts.BadArgument 13) × (new ≡ old)
 TellsTrouble (Some trouble) old new verdict = Fills verdicts.Done (trouble_message trouble) old new verdict
+
+-- the numbers of a trouble are those of that trouble alone
+abbrev pub TroublesAreTold : Type 0
+TroublesAreTold = (t : Trouble) → trouble_told (trouble_numbers t) ≡ Some t

@@ -23,19 +23,18 @@ pub extern "C" fn nzg_fault_text(alloc: Global, bytes: &[u8], text: &mut [u8]) -
     tell_fault(alloc, bytes, text).answer()
 }
 
-#[tactic(auto, using(crate::proofs::InputFaults::shown_fault))]
+#[tactic(auto, using(crate::proofs::Worded::fault_means))]
 fn tell_fault(alloc: Global, bytes: &[u8], out: &mut [u8]) -> Verdict
     ensures { Means bytes.now out.old out.new result }
 {
-    match read_input(alloc, bytes) {
-        Ok(_) => Verdict::BadArgument(13),
-        Err(fault) => {
-            if wants_memory(fault) {
-                return Verdict::NoMemory;
-            }
-            put_meaning(alloc, fault, out)
-        }
+    let fault = match read_input(alloc, bytes) {
+        Ok(_) => return Verdict::BadArgument(13),
+        Err(fault) => fault,
+    };
+    if wants_memory(fault) {
+        return Verdict::NoMemory;
     }
+    put_meaning(alloc, fault, out)
 }
 
 fn put_meaning(alloc: Global, fault: InputFault, out: &mut [u8]) -> Verdict
