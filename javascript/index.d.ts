@@ -22,6 +22,10 @@ export interface Library {
     withStrings(dump: Uint8Array): Uint8Array;
     /** What breaks a rule, 1 to 13. */
     rule(number: number): string;
+    /** What a finding or a remark of these bytes says, and what is wrong with bytes, in the words of explain. */
+    findingText(bytes: Uint8Array, finding: Finding): string;
+    remarkText(bytes: Uint8Array, remark: Remark, options?: { speed?: Speed }): string;
+    faultText(bytes: Uint8Array): string;
     judge(bytes: Uint8Array): 'set' | 'file' | 'dump';
     check(bytes: Uint8Array): Finding[];
     remarks(bytes: Uint8Array, options?: { speed?: Speed }): Remark[];

@@ -53,6 +53,10 @@ function texts(calls) {
         build: (listing, { comments = false } = {}) => done(calls.nzg_build(new TextEncoder().encode(listing), comments)).bytes,
         withStrings: dump => done(calls.nzg_with_strings(dump)).file,
         rule: number => text(done(calls.nzg_rule(number)).text),
+        // what a finding or a remark of these bytes says, and what is wrong with bytes, in the words of explain
+        findingText: (bytes, finding) => text(done(calls.nzg_finding_text(bytes, finding)).text),
+        remarkText: (bytes, remark, { speed = '' } = {}) => text(done(calls.nzg_remark_text(bytes, speedOf(speed), remark)).text),
+        faultText: bytes => text(done(calls.nzg_fault_text(bytes)).text),
     };
 }
 

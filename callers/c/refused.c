@@ -9,7 +9,8 @@ static uint8_t bytes[1 << 16], text[1 << 20], again[1 << 20];
 static size_t length;
 static long calls, refusals;
 
-enum { SHOW, CHECK, CHECK_ANY, EXPLAIN, BUILD, BUILD_COMMENTS, ENUMERATE, JUDGE, FINDINGS, REMARKS, TEXT, WITH_STRINGS, DEVICE, HOST, DECODER, KINDS };
+enum { SHOW, CHECK, CHECK_ANY, EXPLAIN, BUILD, BUILD_COMMENTS, ENUMERATE, JUDGE, FINDINGS, REMARKS, TEXT, WITH_STRINGS, DEVICE, HOST, DECODER,
+       FINDING_TEXT, REMARK_TEXT, FAULT_TEXT, TROUBLE_TEXT, ENUMERATE_LOG, KINDS };
 
 static struct nzg_answer in_pieces(uint8_t *out) {
     struct nzg_decoder decoder = {0};
@@ -89,6 +90,24 @@ static struct nzg_answer remarks(uint8_t *out) {
     return answer;
 }
 
+/* What is said of the last finding, or of none. */
+static struct nzg_answer finding_text(uint8_t *out) {
+    static struct nzg_finding found[64];
+    struct nzg_answer answer = nzg_findings(bytes, length, found, 64);
+    struct nzg_finding none = {0};
+    if (answer.status == NZG_NO_MEMORY) return answer;
+    return nzg_finding_text(bytes, length, answer.status == NZG_DONE && answer.length ? found + answer.length - 1 : &none, out, sizeof text);
+}
+
+/* The same of the last remark. */
+static struct nzg_answer remark_text(uint8_t *out) {
+    static struct nzg_remark found[64];
+    struct nzg_answer answer = nzg_remarks(bytes, length, NZG_HIGH, found, 64);
+    struct nzg_remark none = {0};
+    if (answer.status == NZG_NO_MEMORY) return answer;
+    return nzg_remark_text(bytes, length, NZG_HIGH, answer.status == NZG_DONE && answer.length ? found + answer.length - 1 : &none, out, sizeof text);
+}
+
 /* The last string, if there is one. */
 static struct nzg_answer last_string(uint8_t *out) {
     struct nzg_descriptor string = {0};
@@ -99,6 +118,7 @@ static struct nzg_answer last_string(uint8_t *out) {
 
 static struct nzg_answer call(int kind, uint8_t *out) {
     struct nzg_outcome outcome;
+    struct nzg_trouble trouble = {3, 10, 2, 0x409};
     switch (kind) {
     case SHOW: return nzg_show(bytes, length, true, out, sizeof text);
     case CHECK: return nzg_check(bytes, length, false, out, sizeof text);
@@ -114,6 +134,11 @@ static struct nzg_answer call(int kind, uint8_t *out) {
     case WITH_STRINGS: return nzg_with_strings(bytes, length, out, sizeof text);
     case DEVICE: return opened_twice();
     case HOST: return by_host(out);
+    case FINDING_TEXT: return finding_text(out);
+    case REMARK_TEXT: return remark_text(out);
+    case FAULT_TEXT: return nzg_fault_text(bytes, length, out, sizeof text);
+    case TROUBLE_TEXT: return nzg_trouble_text(&trouble, out, sizeof text);
+    case ENUMERATE_LOG: return nzg_enumerate_log(bytes, length, NZG_FULL, 16, 3, (const uint8_t *)"....a", 5, out, sizeof text);
     default: return in_pieces(out);
     }
 }

@@ -35,11 +35,15 @@ struct nzg_answer nzg_explain(const uint8_t *, size_t, uint32_t, uint8_t, uint8_
 struct nzg_answer nzg_build(const uint8_t *, size_t, bool, uint8_t *, size_t);
 struct nzg_answer nzg_enumerate(const uint8_t *, size_t, uint8_t, uint16_t, uint8_t, const uint8_t *, size_t, struct nzg_outcome *,
     uint8_t *, size_t);
+struct nzg_answer nzg_enumerate_log(const uint8_t *, size_t, uint8_t, uint16_t, uint8_t, const uint8_t *, size_t, uint8_t *, size_t);
 bool nzg_next(const uint8_t *, size_t, struct nzg_descriptor *);
 bool nzg_field(const uint8_t *, size_t, const struct nzg_descriptor *, size_t, struct nzg_field *);
 struct nzg_answer nzg_judge(const uint8_t *, size_t);
 struct nzg_answer nzg_findings(const uint8_t *, size_t, struct nzg_finding *, size_t);
 struct nzg_answer nzg_remarks(const uint8_t *, size_t, uint8_t, struct nzg_remark *, size_t);
+struct nzg_answer nzg_finding_text(const uint8_t *, size_t, const struct nzg_finding *, uint8_t *, size_t);
+struct nzg_answer nzg_remark_text(const uint8_t *, size_t, uint8_t, const struct nzg_remark *, uint8_t *, size_t);
+struct nzg_answer nzg_fault_text(const uint8_t *, size_t, uint8_t *, size_t);
 struct nzg_answer nzg_rule(uint8_t, uint8_t *, size_t);
 struct nzg_answer nzg_text(const uint8_t *, size_t, const struct nzg_descriptor *, uint8_t *, size_t);
 struct nzg_answer nzg_with_strings(const uint8_t *, size_t, uint8_t *, size_t);
@@ -76,6 +80,7 @@ bool nzg_host_step(struct nzg_host *, struct nzg_step *);
 uint8_t nzg_host_attempts(struct nzg_host *);
 struct nzg_answer nzg_host_outcome(struct nzg_host *, struct nzg_trouble *, uint8_t *, size_t);
 void nzg_host_close(struct nzg_host *);
+struct nzg_answer nzg_trouble_text(const struct nzg_trouble *, uint8_t *, size_t);
 struct nzg_answer nzg_decoder_open(struct nzg_decoder *);
 struct nzg_answer nzg_decoder_feed(struct nzg_decoder *, const uint8_t *, size_t);
 struct nzg_answer nzg_decoder_list(struct nzg_decoder *, uint8_t *, size_t);

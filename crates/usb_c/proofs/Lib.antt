@@ -13,6 +13,7 @@ mod Placed
 mod Reasons
 pub mod Named
 mod Taking
+mod Worded
 mod TreeWalks
 pub mod Walking
 mod InputStrings

@@ -11,6 +11,7 @@ pub mod Hosts
 pub mod Remarks
 pub mod Strings
 pub mod Texts
+pub mod Words
 pub mod Transfers
 pub mod Writes
 pub mod WalkedEndpoints

@@ -38,6 +38,8 @@ pub enum Verdict {
     Open(usize),
     /// The bytes are no input. This many bytes of an explanation were written.
     Broken(InputFault, usize),
+    /// What is wrong with the bytes was written: the number of the fault of a set, its place, and how many bytes that are.
+    Meant(u8, usize, usize),
     /// The text is no listing.
     List(ListFault),
     /// No device of the speed has these descriptors.
@@ -50,7 +52,7 @@ pub enum Verdict {
     Closed,
     /// A number has no meaning: 1 the address, 2 the attempts, 3 the speed, 4 a fate, 5 a rule, 6 no string, 7 a packet size,
     /// 8 a reply, 9 a request without data to the device, 10 data that are not wLength bytes, 11 numbers that are none of a
-    /// transfer, 12 no packet.
+    /// transfer, 12 no packet, 13 no finding, remark, fault or trouble that there is.
     BadArgument(u8),
     /// The enumeration ended without success.
     Trouble(Trouble),
@@ -97,6 +99,7 @@ impl Verdict {
             Verdict::Judged(number) => numbers(0, number, 0, 0),
             Verdict::Open(length) => numbers(1, 0, 0, length),
             Verdict::Broken(fault, length) => broken(fault, length),
+            Verdict::Meant(number, place, length) => numbers(0, number, place, length),
             Verdict::List(fault) => numbers(4, fault.why.number(), fault.line, 0),
             Verdict::Description(fault) => numbers(5, fault.number(), 0, 0),
             Verdict::NoRoom(length) => numbers(7, 0, 0, length),
