@@ -45,6 +45,18 @@ class Fault(ValueError):
         return f"{words} line {self.place}" if self.kind == "list_fault" else words + (f" in {self.step}" if self.step else "")
 
 
+class TextFault(Fault):
+    """A text isn't hexadecimal from this line and column on, both from 1."""
+
+    def __init__(self, line: int, column: int):
+        super().__init__("text_fault", 0, line)
+        self.line, self.column = line, column
+        self.args = line, column
+
+    def __str__(self) -> str:
+        return f"hexadecimal fault line {self.line} column {self.column}"
+
+
 def step_word(it) -> str:
     """The word that `usbdesc` has for a step of an enumeration; empty where there is none."""
     return _STEPS[it.step].format(i=it.index, l=it.language)
@@ -55,6 +67,8 @@ def fault_of(answer) -> Fault | None:
     kind = STATUSES[answer.status]
     if kind == "no_memory":
         raise MemoryError
+    if kind == "text_fault":
+        return TextFault(answer.place, answer.length)
     return None if kind in ("done", "open") else Fault(kind, answer.number, answer.place)
 
 

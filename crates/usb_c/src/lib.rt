@@ -26,7 +26,10 @@ mod descriptor_field;
 mod device;
 mod device_handle;
 mod enumeration;
+mod explaining;
+mod fields;
 mod finding;
+mod from_text;
 mod host;
 mod host_handle;
 mod judging;
@@ -60,7 +63,9 @@ pub use device::{
 };
 pub use device_handle::NzgDevice;
 pub use enumeration::NzgOutcome;
+pub use fields::{nzg_field_named, nzg_fields};
 pub use finding::{NzgFinding, nzg_findings, nzg_rule};
+pub use from_text::nzg_from_text;
 pub use host::{
     nzg_host_attempts, nzg_host_close, nzg_host_next, nzg_host_open, nzg_host_outcome,
     nzg_host_reset_done, nzg_host_step, nzg_host_take,
