@@ -55,14 +55,15 @@ enum nzg_status {
                                 * 12 no packet, 13 no such finding, remark, fault or trouble */
     NZG_TROUBLE = 11,          /* number 1..7: why a transfer or an enumeration failed */
     NZG_UNANSWERED = 12,       /* number 1..4: why the device doesn't take the answer to a request */
-    NZG_NO_BYTES = 13          /* number: why the file of a host has no bytes; a law of the library says it doesn't come */
+    NZG_NO_BYTES = 13,         /* number: why the file of a host has no bytes; a law of the library says it doesn't come */
+    NZG_TEXT_FAULT = 14        /* no hexadecimal text from line `place`, column `length` on, both from 1 */
 };
 
 struct nzg_answer {
     uint32_t status; /* enum nzg_status */
     uint32_t number;
     nzg_size place;
-    nzg_size length; /* how many bytes were taken or written, or are wanted */
+    nzg_size length; /* how many bytes were taken or written, or are wanted; of NZG_TEXT_FAULT a column */
 };
 
 /* The three functions by which the library takes memory. A block is aligned as asked for, at most to 16. Where `ok` is
@@ -74,8 +75,10 @@ void rattle_dealloc(unsigned char *at);
 
 /* --- from a buffer into a buffer: what `usbdesc` writes -------------------------------------------------------- */
 
-/* with NZG_UTF8 the text is UTF-8, else ASCII; NZG_FORMATS heads video frames with size and interval, audio formats with rates */
-enum nzg_options { NZG_BRIEF = 1, NZG_PLACES = 2, NZG_UTF8 = 4, NZG_FORMATS = 8 };
+/* with NZG_UTF8 the text is UTF-8, else ASCII; NZG_FORMATS heads video frames with size and interval, audio formats with rates;
+ * NZG_LOOSE takes descriptors one after another, of which no owner is asked for, or a setup packet, and finds no fault; NZG_HEX
+ * takes hexadecimal text, as nzg_from_text does, and explains its bytes, without the words `hexadecimal text` of `usbdesc` */
+enum nzg_options { NZG_BRIEF = 1, NZG_PLACES = 2, NZG_UTF8 = 4, NZG_FORMATS = 8, NZG_LOOSE = 16, NZG_HEX = 32 };
 enum nzg_speed { NZG_LOW = 1, NZG_FULL = 2, NZG_HIGH = 3, NZG_SUPER = 4 }; /* 0: not known; 0 and super for explain and remarks alone */
 
 /* one set where the second byte is 2 or 7, and else a file; with `any` a dump too */
@@ -84,6 +87,9 @@ struct nzg_answer nzg_show(const uint8_t *bytes, nzg_size len, bool any, uint8_t
 struct nzg_answer nzg_check(const uint8_t *bytes, nzg_size len, bool any, uint8_t *text, nzg_size room);
 /* one set, a file, a dump, and also broken bytes: then the status is the fault, and the text goes as far as they do */
 struct nzg_answer nzg_explain(const uint8_t *bytes, nzg_size len, uint32_t options, uint8_t speed, uint8_t *text, nzg_size room);
+/* The bytes of hexadecimal text, in any form that `usbdesc` reads: digits, a dump's columns, an array of a program. One that two
+ * readings would take differently is refused too. */
+struct nzg_answer nzg_from_text(const uint8_t *text, nzg_size len, uint8_t *bytes, nzg_size room);
 /* with `comments` lines that are empty or begin with # are dropped, and so is a carriage return before a line feed */
 struct nzg_answer nzg_build(const uint8_t *text, nzg_size len, bool comments, uint8_t *bytes, nzg_size room);
 
@@ -149,6 +155,10 @@ struct nzg_field {
 };
 /* The n-th field of a descriptor, from 0. False where it has none, or is none of these bytes: nothing changes then. */
 bool nzg_field(const uint8_t *bytes, nzg_size len, const struct nzg_descriptor *descriptor, nzg_size n, struct nzg_field *field);
+/* All of them at once. Room and length count fields; a descriptor has at most 254. */
+struct nzg_answer nzg_fields(const uint8_t *bytes, nzg_size len, const struct nzg_descriptor *descriptor, struct nzg_field *fields, nzg_size room);
+/* The first with this name, as wMaxPacketSize. False as nzg_field. */
+bool nzg_field_named(const uint8_t *bytes, nzg_size len, const struct nzg_descriptor *descriptor, const uint8_t *name, nzg_size name_len, struct nzg_field *field);
 
 /* --- facts about bytes; these ask for memory ----------------------------------------------------------------------- */
 

@@ -9,7 +9,7 @@ static uint8_t bytes[1 << 16], text[1 << 20], again[1 << 20];
 static size_t length;
 static long calls, refusals;
 
-enum { SHOW, CHECK, CHECK_ANY, EXPLAIN, BUILD, BUILD_COMMENTS, ENUMERATE, JUDGE, FINDINGS, REMARKS, TEXT, WITH_STRINGS, DEVICE, HOST, DECODER,
+enum { SHOW, CHECK, CHECK_ANY, EXPLAIN, LOOSE, HEX, FROM_TEXT, BUILD, BUILD_COMMENTS, ENUMERATE, JUDGE, FINDINGS, REMARKS, TEXT, WITH_STRINGS, DEVICE, HOST, DECODER,
        FINDING_TEXT, REMARK_TEXT, FAULT_TEXT, TROUBLE_TEXT, ENUMERATE_LOG, KINDS };
 
 static struct nzg_answer in_pieces(uint8_t *out) {
@@ -124,6 +124,9 @@ static struct nzg_answer call(int kind, uint8_t *out) {
     case CHECK: return nzg_check(bytes, length, false, out, sizeof text);
     case CHECK_ANY: return nzg_check(bytes, length, true, out, sizeof text);
     case EXPLAIN: return nzg_explain(bytes, length, NZG_PLACES, 0, out, sizeof text);
+    case LOOSE: return nzg_explain(bytes, length, NZG_LOOSE, 0, out, sizeof text);
+    case HEX: return nzg_explain(bytes, length, NZG_HEX, 0, out, sizeof text);
+    case FROM_TEXT: return nzg_from_text(bytes, length, out, sizeof text);
     case BUILD: return nzg_build(bytes, length, false, out, sizeof text);
     case BUILD_COMMENTS: return nzg_build(bytes, length, true, out, sizeof text);
     case ENUMERATE: return nzg_enumerate(bytes, length, NZG_FULL, 16, 3, (const uint8_t *)"....a", 5, &outcome, out, sizeof text);
@@ -164,7 +167,7 @@ static int refuse(const char *name, int kind, struct nzg_answer want, long place
     if (is_refusal(got) && (again[0] != 0xa5 || memcmp(again, again + 1, sizeof again - 1)))
         return printf("%s: call %d writes though request %ld is refused\n", name, kind, place), 1;
     if (is_refusal(got)) return refusals++, 0;
-    if (same(got, want) && !memcmp(text, again, got.length)) return 0;
+    if (same(got, want) && !memcmp(text, again, got.status == NZG_TEXT_FAULT ? 0 : got.length)) return 0;
     return printf("%s: call %d answers otherwise at request %ld: %u %u %zu\n", name, kind, place, got.status, got.number, got.place), 1;
 }
 

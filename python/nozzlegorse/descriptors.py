@@ -11,10 +11,6 @@ ROLES = (None, "device", "configuration", "interface", "endpoint", "association"
 PARTS = ("device", "main", "other")
 
 
-def _name(it) -> str:
-    return bytes(it.name)[:it.name_length].decode("ascii")
-
-
 class Field(Value):
     """A field of a descriptor: its name in the standard, its place in the input, and its bytes."""
 
@@ -63,19 +59,14 @@ class Descriptor(Value):
     @property
     def fields(self) -> list[Field]:
         """Each field in the order of the bytes, of descriptors of classes too."""
-        return [Field(_name(it), it.place, self._bytes_of(it)) for it in self._fields()]
+        _, found = c.into(c.lib.nzg_fields, self._input, len(self._input), self._numbers(), of=c.structs["field"], room=32)
+        return [Field(bytes(it.name)[:it.name_length].decode("ascii"), it.place, self._bytes_of(it)) for it in found]
 
     def __getitem__(self, name: str) -> int:
-        for it in self._fields():
-            if _name(it) == name:
-                return int.from_bytes(self._bytes_of(it), "little")
-        raise KeyError(name)
-
-    def _fields(self):
-        number, at, it = 0, self._numbers(), c.structs["field"]()
-        while c.lib.nzg_field(self._input, len(self._input), at, number, it):
-            yield it
-            number += 1
+        it, word = c.structs["field"](), name.encode(errors="replace") if isinstance(name, str) else b""
+        if not c.lib.nzg_field_named(self._input, len(self._input), self._numbers(), word, len(word), it):
+            raise KeyError(name)
+        return int.from_bytes(self._bytes_of(it), "little")
 
     def _bytes_of(self, it):
         return self._input[it.place:it.place + it.width]

@@ -52,6 +52,18 @@ class Fault(ValueError):
         return f"{words}: {self.message}" if self.message else words
 
 
+class TextFault(Fault):
+    """A text isn't hexadecimal from this line and column on, both from 1."""
+
+    def __init__(self, line: int, column: int):
+        super().__init__("text_fault", 0, line)
+        self.line, self.column = line, column
+        self.args = line, column
+
+    def __str__(self) -> str:
+        return f"hexadecimal fault line {self.line} column {self.column}"
+
+
 def step_word(it) -> str:
     """The word that `usbdesc` has for a step of an enumeration; empty where there is none."""
     return _STEPS[it.step].format(i=it.index, l=it.language)
@@ -80,6 +92,8 @@ def fault_of(answer, data: bytes | None = None) -> Fault | None:
     kind = STATUSES[answer.status]
     if kind == "no_memory":
         raise MemoryError
+    if kind == "text_fault":
+        return TextFault(answer.place, answer.length)
     if kind in ("done", "open"):
         return None
     message, inner = _meant(answer, data) if data is not None else ("", 0)

@@ -4,7 +4,10 @@ from __future__ import annotations
 from . import _library as c
 from ._handle import Handle
 from ._value import Value
-from .faults import STATUSES, Fault, done, fault_of, trouble_of
+from .faults import STATUSES, Fault, TextFault, done, fault_of, trouble_of
+
+# that of Python, which a call below hides
+_numbered = enumerate
 
 
 class Explanation(Value):
@@ -34,8 +37,12 @@ class Enumeration(Value):
         return f"success {counts} address {self.address} value {self.selected}"
 
 
+def _lend_text(text: str | bytes) -> tuple[bytes, int]:
+    return c.lend(text.encode() if isinstance(text, str) else text)
+
+
 def _whole(call, data: bytes, *rest) -> bytes:
-    data, length = c.lend(data)
+    data, length = _lend_text(data)
     answer, out = c.into(call, data, length, *rest)
     done(answer, data)
     return out
@@ -48,7 +55,13 @@ def show(data: bytes) -> str:
 
 def build(text: str | bytes, comments: bool = False) -> bytes:
     """The bytes that a text lists. With `comments` empty lines, lines that begin with # and carriage returns are dropped."""
-    return _whole(c.lib.nzg_build, text.encode() if isinstance(text, str) else text, bool(comments))
+    return _whole(c.lib.nzg_build, text, bool(comments))
+
+
+def from_text(text: str | bytes) -> bytes:
+    """The bytes of hexadecimal text: digits, a dump with its columns, an array of a program. Of a text that is none, or that two
+    readings would take differently, a `TextFault` with its line and column."""
+    return _whole(c.lib.nzg_from_text, text)
 
 
 def with_strings(dump: bytes) -> bytes:
@@ -56,14 +69,16 @@ def with_strings(dump: bytes) -> bytes:
     return _whole(c.lib.nzg_with_strings, dump)
 
 
-def explain(data: bytes, brief: bool = False, places: bool = True, speed: str | None = None, utf8: bool = False,
-            formats: bool = False) -> Explanation:
+def explain(data: bytes | str, brief: bool = False, places: bool = True, speed: str | None = None, utf8: bool = False,
+            formats: bool = False, loose: bool = False, hex: bool = False) -> Explanation:
     """What descriptors mean, in words, also of broken bytes as far as they go. With `formats` headings tell video frames and audio
-    formats apart: by size and interval, by rates."""
-    options = bool(brief) | bool(places) << 1 | bool(utf8) << 2 | bool(formats) << 3
-    data, length = c.lend(data)
+    formats apart: by size and interval, by rates. With `loose` they are descriptors one after another, or a setup packet; with `hex`
+    hexadecimal text."""
+    options = sum(bool(it) << bit for bit, it in _numbered((brief, places, utf8, formats, loose, hex)))
+    data, length = _lend_text(data)
     answer, out = c.into(c.lib.nzg_explain, data, length, options, c.speed_number(speed, (None, *c.SPEEDS)))
-    return Explanation(out.decode(), fault_of(answer, data))
+    fault = fault_of(answer, data)
+    return Explanation("" if isinstance(fault, TextFault) else out.decode(), fault)
 
 
 def enumerate(data: bytes, speed: str = "full", naks: int = 16, attempts: int = 3, fates: str | bytes = "") -> Enumeration:

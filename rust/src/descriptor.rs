@@ -185,11 +185,17 @@ impl<'a> Descriptor<'a> {
     }
     /// Its fields, in the order of the bytes.
     pub fn fields(&self) -> impl Iterator<Item = Field> + 'a {
-        let it = *self;
-        (0..).map_while(move |n| {
-            let mut field = nzg_field::default();
-            unsafe { sys::nzg_field(it.input.as_ptr(), it.input.len(), &it.at, n, &mut field) }.then_some(Field(field))
-        })
+        // A field has a byte at least.
+        let mut out = vec![nzg_field::default(); self.bytes().len()];
+        let (bytes, len) = (self.input.as_ptr(), self.input.len());
+        let answer = unsafe { sys::nzg_fields(bytes, len, &self.at, out.as_mut_ptr(), out.len()) };
+        out.into_iter().take(answer.length).map(Field)
+    }
+    /// Its first field of this name in the standard, as `wMaxPacketSize`.
+    pub fn field(&self, name: &str) -> Option<Field> {
+        let mut out = nzg_field::default();
+        let (bytes, len) = (self.input.as_ptr(), self.input.len());
+        unsafe { sys::nzg_field_named(bytes, len, &self.at, name.as_ptr(), name.len(), &mut out) }.then_some(Field(out))
     }
     /// Of a configuration, an interface at a setting and an endpoint: the descriptors of a class or a vendor, and the associations,
     /// that belong to it.

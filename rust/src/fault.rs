@@ -15,6 +15,8 @@ pub enum Kind {
     Listing,
     /// No device of the speed has these descriptors: 1, 2, 3 or 5.
     Description,
+    /// The text isn't hexadecimal: from a line and a column on, both from 1.
+    Text,
     /// The set ends at the place, and the bytes go on.
     Trailing,
     /// Out of memory.
@@ -104,6 +106,8 @@ pub struct Fault {
     pub number: u32,
     /// Where, in bytes, or in which line.
     pub place: usize,
+    /// Of a text in which column of its line; else 0.
+    pub column: usize,
     /// At which step of an enumeration.
     pub step: Option<Step>,
     /// Where a set in a file is at fault the number of the set's fault, else 0.
@@ -157,7 +161,7 @@ impl Fault {
             ],
             Kind::Trouble => &["NoAnswer", "Busy", "Stalled", "TooLong", "Unexpected", "Malformed", "Memory"],
             Kind::Unanswered => &["Nothing", "Closed", "Shape", "Room"],
-            Kind::Trailing | Kind::Memory | Kind::Other => &[],
+            Kind::Text | Kind::Trailing | Kind::Memory | Kind::Other => &[],
         };
         names.get((self.number as usize).wrapping_sub(1)).unwrap_or(&"")
     }
@@ -170,6 +174,7 @@ impl fmt::Display for Fault {
             Kind::File => "file fault",
             Kind::Listing => "listing fault",
             Kind::Description => "description fault",
+            Kind::Text => "hexadecimal fault",
             Kind::Trailing => "trailing bytes",
             Kind::Memory => return write!(f, "out of memory"),
             Kind::Argument => "bad argument",
@@ -184,6 +189,7 @@ impl fmt::Display for Fault {
         match (self.kind, self.step) {
             (Kind::Set | Kind::File | Kind::Trailing, _) => write!(f, " at {}", self.place)?,
             (Kind::Listing, _) => write!(f, " line {}", self.place)?,
+            (Kind::Text, _) => write!(f, " line {} column {}", self.place, self.column)?,
             (_, Some(step)) if self.message.is_empty() => write!(f, " in {step}")?,
             _ => {}
         }
@@ -209,7 +215,9 @@ pub(crate) fn done(answer: nzg_answer) -> Result<nzg_answer, Fault> {
         10 => Kind::Argument,
         11 => Kind::Trouble,
         12 => Kind::Unanswered,
+        14 => Kind::Text,
         _ => Kind::Other,
     };
-    Err(Fault { kind, number: answer.number, place: answer.place, step: None, inner: 0, message: String::new() })
+    let column = if kind == Kind::Text { answer.length } else { 0 };
+    Err(Fault { kind, number: answer.number, place: answer.place, column, step: None, inner: 0, message: String::new() })
 }

@@ -68,6 +68,10 @@ pub struct Options {
     pub utf8: bool,
     /// Size and interval in the headings of video frames, and rates in those of audio formats.
     pub formats: bool,
+    /// Descriptors one after another, of which no owner is asked for, or a setup packet: no fault is found.
+    pub loose: bool,
+    /// The bytes are hexadecimal text.
+    pub hex: bool,
     /// The speed at which the device runs, where that is known.
     pub speed: Option<Speed>,
 }
@@ -83,6 +87,13 @@ pub fn build(listing: &[u8], comments: bool) -> Result<Vec<u8>, Fault> {
     done(answer).map(|_| out)
 }
 
+/// The bytes of hexadecimal text: digits, a dump with its columns, an array of a program. A text that is none, or that two readings
+/// would take differently, is a fault with its line and column.
+pub fn from_text(text: &[u8]) -> Result<Vec<u8>, Fault> {
+    let (answer, out) = into(|out, room| unsafe { sys::nzg_from_text(text.as_ptr(), text.len(), out, room) });
+    done(answer).map(|_| out)
+}
+
 /// A dump as a descriptor file, with the strings that `usbdesc enumerate --with-strings` puts.
 pub fn with_strings(dump: &[u8]) -> Result<Vec<u8>, Fault> {
     let (answer, out) = into(|out, room| unsafe { sys::nzg_with_strings(dump.as_ptr(), dump.len(), out, room) });
@@ -92,10 +103,13 @@ pub fn with_strings(dump: &[u8]) -> Result<Vec<u8>, Fault> {
 /// What bytes mean, in words, as far as they go, and the fault where they are broken.
 pub fn explain(bytes: &[u8], how: Options) -> (String, Option<Fault>) {
     let written = u32::from(how.brief) | u32::from(!how.no_places) << 1 | u32::from(how.utf8) << 2;
-    let options = written | u32::from(how.formats) << 3;
+    let options = written | u32::from(how.formats) << 3 | u32::from(how.loose) << 4 | u32::from(how.hex) << 5;
     let speed = how.speed.map_or(0, |it| it as u8);
     let (answer, out) = into(|out, room| unsafe { sys::nzg_explain(bytes.as_ptr(), bytes.len(), options, speed, out, room) });
-    (String::from_utf8(out).expect("a text is UTF-8"), done(answer).err().map(|it| it.of(bytes)))
+    match done(answer) {
+        Err(fault) if fault.kind == Kind::Text => (String::new(), Some(fault)),
+        other => (String::from_utf8(out).expect("a text is UTF-8"), other.err().map(|it| it.of(bytes))),
+    }
 }
 
 /// What came of an enumeration. It is shown as the line of `usbdesc enumerate`.

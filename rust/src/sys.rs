@@ -50,6 +50,7 @@ structs! {
 extern "C" {
     pub fn nzg_show(bytes: *const u8, len: usize, any: bool, text: *mut u8, room: usize) -> nzg_answer;
     pub fn nzg_explain(bytes: *const u8, len: usize, options: u32, speed: u8, text: *mut u8, room: usize) -> nzg_answer;
+    pub fn nzg_from_text(text: *const u8, len: usize, bytes: *mut u8, room: usize) -> nzg_answer;
     pub fn nzg_build(text: *const u8, len: usize, comments: bool, bytes: *mut u8, room: usize) -> nzg_answer;
     pub fn nzg_enumerate(
         bytes: *const u8, len: usize, speed: u8, naks: u16, attempts: u8, fates: *const u8, fates_len: usize,
@@ -60,7 +61,13 @@ extern "C" {
         room: usize,
     ) -> nzg_answer;
     pub fn nzg_next(bytes: *const u8, len: usize, descriptor: *mut nzg_descriptor) -> bool;
-    pub fn nzg_field(bytes: *const u8, len: usize, descriptor: *const nzg_descriptor, n: usize, field: *mut nzg_field) -> bool;
+    pub fn nzg_fields(
+        bytes: *const u8, len: usize, descriptor: *const nzg_descriptor, fields: *mut nzg_field, room: usize,
+    ) -> nzg_answer;
+    pub fn nzg_field_named(
+        bytes: *const u8, len: usize, descriptor: *const nzg_descriptor, name: *const u8, name_len: usize,
+        field: *mut nzg_field,
+    ) -> bool;
     pub fn nzg_judge(bytes: *const u8, len: usize) -> nzg_answer;
     pub fn nzg_findings(bytes: *const u8, len: usize, found: *mut nzg_finding, room: usize) -> nzg_answer;
     pub fn nzg_remarks(bytes: *const u8, len: usize, speed: u8, remarks: *mut nzg_remark, room: usize) -> nzg_answer;

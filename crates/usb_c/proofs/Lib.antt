@@ -3,6 +3,7 @@ mod DeviceValues
 mod Due
 mod EndpointWalks
 mod Faults
+mod FieldLists
 pub mod Following
 mod HandleValues
 mod HostValues

@@ -53,6 +53,7 @@ answer_of (verdicts.Open length) = numbers 1 0 0 length
 answer_of (verdicts.Broken fault length) = broken_answer fault length
 answer_of (verdicts.Meant number place length) = numbers 0 number place length
 answer_of (verdicts.List fault) = numbers 4 (list_number fault.why) fault.line 0
+answer_of (verdicts.Text line column) = numbers 14 0 line column
 answer_of (verdicts.Description fault) = numbers 5 (description_number fault) 0 0
 answer_of (verdicts.NoRoom length) = numbers 7 0 0 length
 answer_of verdicts.NoMemory = numbers 8 0 0 0

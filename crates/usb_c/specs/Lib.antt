@@ -6,7 +6,10 @@ pub mod DescriptorFields
 pub mod Descriptors
 pub mod Devices
 pub mod Enumerations
+pub mod Explaining
 pub mod Facts
+pub mod FieldLists
+pub mod FromText
 pub mod Hosts
 pub mod Remarks
 pub mod Strings

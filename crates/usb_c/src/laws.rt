@@ -1,5 +1,6 @@
 //! What holds of descriptors and troubles as numbers. The functions of these laws do nothing: their contracts are the laws.
 ghost use Rattle.usb_c.specs.Descriptors.{AllGoOn, WalkIsNumbered};
+ghost use Rattle.usb_c.specs.FieldLists.{AllByNumber};
 ghost use Rattle.usb_c.specs.Strings.{WalkHasStrings, WalkIsAsExplained};
 ghost use Rattle.usb_c.specs.WalkedEndpoints.{WalkHasEndpoints};
 ghost use Rattle.usb_c.specs.WalkedTrees.{WalkIsTree};
@@ -28,6 +29,11 @@ pub fn a_walk_has_the_endpoints()
 /// on where that ends: it never stays where it is, and never passes the end.
 pub fn each_step_goes_on()
     ensures { AllGoOn }
+{}
+
+/// By their numbers the fields that `nzg_fields` gives at once are those of `nzg_field`, and there are as many.
+pub fn all_fields_are_those_by_number()
+    ensures { AllByNumber }
 {}
 
 /// Of an input the strings of the walk are its strings, each with its index, its language and its bytes. Those of a file come

@@ -27,9 +27,12 @@ mod device;
 mod device_handle;
 mod enumeration;
 mod enumeration_log;
+mod explaining;
 mod fault_text;
+mod fields;
 mod finding;
 mod finding_text;
+mod from_text;
 mod host;
 mod host_handle;
 mod judging;
@@ -67,8 +70,10 @@ pub use device_handle::NzgDevice;
 pub use enumeration::NzgOutcome;
 pub use enumeration_log::nzg_enumerate_log;
 pub use fault_text::nzg_fault_text;
+pub use fields::{nzg_field_named, nzg_fields};
 pub use finding::{NzgFinding, nzg_findings, nzg_rule};
 pub use finding_text::nzg_finding_text;
+pub use from_text::nzg_from_text;
 pub use host::{
     nzg_host_attempts, nzg_host_close, nzg_host_next, nzg_host_open, nzg_host_outcome,
     nzg_host_reset_done, nzg_host_step, nzg_host_take,
