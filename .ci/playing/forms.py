@@ -1,9 +1,26 @@
 """Whether what `nozzlegorse check` writes has the form that its readers want: by a schema, by what a standard requires, by a parser.
-Each check gives the first thing that is wrong, or ''."""
+Each check gives the first thing that is wrong, or ''. Readers of Debian's packages look too, where they are installed."""
 
+import importlib
 import json
 import re
+import sys
 from xml.etree import ElementTree
+
+
+def installed(name):
+    """A module of Python's or of a package of Debian's; None where it isn't there."""
+    sys.path.append("/usr/lib/python3/dist-packages")
+    try:
+        return importlib.import_module(name)
+    except ImportError:
+        return None
+    finally:
+        sys.path.pop()
+
+
+# python3-jsonschema, python3-junitparser, python3-sarif-python-om
+READERS = {name: installed(name) for name in ("jsonschema", "junitparser", "sarif_om")}
 
 _TYPES = {"object": dict, "array": list, "string": str, "null": type(None)}
 
@@ -83,7 +100,25 @@ def sarif(text):
     rules = [it["id"] for it in run["tool"]["driver"]["rules"]]
     if len(set(rules)) < len(rules):
         return "a rule is there twice"
+    if READERS["sarif_om"]:
+        _read(log, READERS["sarif_om"].SarifLog)
     return next((f"{it['ruleId']} at {it['ruleIndex']}" for it in run["results"] if rules[it["ruleIndex"]] != it["ruleId"]), "")
+
+
+# The class that sarif_om, which is made of the standard's schema, has of an object by the property that holds it.
+_CLASSES = {"runs": "Run", "tool": "Tool", "driver": "ToolComponent", "rules": "ReportingDescriptor", "shortDescription": "MultiformatMessageString",
+            "invocations": "Invocation", "toolExecutionNotifications": "Notification", "results": "Result", "message": "Message", "locations": "Location",
+            "physicalLocation": "PhysicalLocation", "artifactLocation": "ArtifactLocation", "region": "Region", "logicalLocations": "LogicalLocation"}
+
+
+def _read(value, of):
+    """The object of this class. A property that it hasn't is a KeyError, one that lacks a TypeError."""
+    if isinstance(value, list):
+        return [_read(it, of) for it in value]
+    if not isinstance(value, dict):
+        return value
+    known = {it.metadata["schema_property_name"]: it.name for it in of.__attrs_attrs__}
+    return of(**{known[name]: _read(it, getattr(READERS["sarif_om"], _CLASSES.get(name, ""), None)) for name, it in value.items()})
 
 
 def gitlab(text):
@@ -109,11 +144,9 @@ def junit(text):
     names = [(it.get("classname"), it.get("name")) for it in suite.iter("testcase")]
     if root.tag != "testsuites" or None in (part for name in names for part in name) or any(len(it) > 1 for it in suite.iter("testcase")):
         return "no cases as pytest writes them"
-    try:
-        import junitparser
-    except ImportError:
+    if not READERS["junitparser"]:
         return ""
-    read = junitparser.JUnitXml.fromstring(text.encode())
+    read = READERS["junitparser"].JUnitXml.fromstring(text.encode())
     read.update_statistics()
     came = {"tests": read.tests, "errors": read.errors, "failures": read.failures, "skipped": read.skipped}
     return "" if came == counts else f"by junitparser {came}, and not {counts}"
