@@ -27,6 +27,26 @@ const WRITE = {
 const WIDTHS = { uint8_t: 1, uint16_t: 2, uint32_t: 4, uint64_t: 8 };
 const rounded = length => Math.ceil(length / ALIGN) * ALIGN;
 
+function taken(exports, length) {
+    const place = exports.nzg_lowered_alloc(BigInt(length + ALIGN), BigInt(ALIGN)) >>> 0;
+    if (!place) throw new RangeError('no memory');
+    return place;
+}
+
+// Bytes that lie in the library's memory until they are freed: they stand for a Uint8Array in any number of calls, which copy nothing.
+export class Held {
+    constructor(exports, bytes) {
+        this.exports = exports;
+        this.length = bytes.length;
+        this.place = taken(exports, bytes.length);
+        new Uint8Array(exports.memory.buffer).set(bytes, this.place);
+    }
+
+    free() {
+        this.exports.rattle_dealloc(this.place);
+    }
+}
+
 function fieldAt(view, at, kind, count) {
     if (kind in structs) return structAt(view, at, kind);
     if (!count) return READ[kind](view, at);
@@ -52,7 +72,7 @@ function putStruct(view, at, kind, value) {
 
 // How many bytes a parameter takes in the library's memory.
 function lengthOf([role, , kind], value, room) {
-    if (role === 'bytes') return value.length;
+    if (role === 'bytes') return value instanceof Held ? 0 : value.length;
     if (role === 'room') return room * (structs[kind]?.size ?? 1);
     return role === 'number' ? 0 : structs[kind].size;
 }
@@ -66,8 +86,7 @@ function once(exports, name, { result, parameters }, given, room) {
         part.place = total;
         total += rounded(part.length);
     }
-    const base = exports.nzg_lowered_alloc(BigInt(total + ALIGN), BigInt(ALIGN)) >>> 0;
-    if (!base) throw new RangeError('no memory');
+    const base = taken(exports, total);
     try {
         const words = lent(exports, all, base, room);
         const came = exports[name](...answer ? [base] : [], ...words);
@@ -81,12 +100,12 @@ function once(exports, name, { result, parameters }, given, room) {
 function lent(exports, all, base, room) {
     const view = new DataView(exports.memory.buffer), bytes = new Uint8Array(exports.memory.buffer), words = [];
     for (const { it: [role, , kind], value, length, place } of all) {
-        const at = base + place;
-        bytes.fill(0, at, at + length);
+        const at = value instanceof Held ? value.place : base + place;
+        if (role !== 'bytes') bytes.fill(0, at, at + length);
+        else if (length) bytes.set(value, at);
         if (role === 'number') words.push(kind === 'size' || kind === 'uint64_t' ? BigInt(value) : Number(value));
         else words.push(at);
-        if (role === 'bytes') bytes.set(value, at);
-        if (role === 'bytes' || role === 'room') words.push(BigInt(role === 'room' ? room : length));
+        if (role === 'bytes' || role === 'room') words.push(BigInt(role === 'room' ? room : value.length));
         if (role === 'struct' || role === 'lent') putStruct(view, at, kind, value);
     }
     return words;

@@ -174,6 +174,7 @@ def installed(made, libdir, prefix):
         "share/zsh/vendor-completions/_usbdesc": (pages.zsh(made.help).encode(), 0o644),
         "share/fish/vendor_completions.d/usbdesc.fish": (pages.fish(made.help).encode(), 0o644),
         "share/doc/nozzlegorse/copyright": (read(f"{ROOT}/LICENSE"), 0o644),
+        "share/doc/nozzlegorse/nozzlegorse.html": (read(f"{made.room}/nozzlegorse.html"), 0o644),
         **shared(),
     }
 
@@ -261,6 +262,7 @@ def wheel(made):
     files[f"{name}.data/scripts/usbdesc"] = read(f"{made.room}/usbdesc"), 0o755
     # In the package's folder, which pip removes whole.
     files |= {f"nozzlegorse/{path}": it for path, it in shared().items()}
+    files["nozzlegorse/nozzlegorse.html"] = read(f"{made.room}/nozzlegorse.html"), 0o644
     files["nozzlegorse/include/nozzlegorse.h"] = read(f"{made.room}/nozzlegorse.h"), 0o644
     files[f"{info}/METADATA"] = metadata(made).encode(), 0o644
     files[f"{info}/WHEEL"] = f"Wheel-Version: 1.0\nGenerator: nozzlegorse\nRoot-Is-Purelib: false\nTag: {WHEEL}\n".encode(), 0o644
