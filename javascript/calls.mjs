@@ -33,13 +33,31 @@ function taken(exports, length) {
     return place;
 }
 
-// Bytes that lie in the library's memory until they are freed: they stand for a Uint8Array in any number of calls, which copy nothing.
+// Bytes, or a struct, that lie in the library's memory until they are freed. They stand for a Uint8Array or an object in any number
+// of calls, which copy nothing.
 export class Held {
     constructor(exports, bytes) {
         this.exports = exports;
         this.length = bytes.length;
         this.place = taken(exports, bytes.length);
-        new Uint8Array(exports.memory.buffer).set(bytes, this.place);
+        this.set(bytes);
+    }
+
+    static struct(exports, kind) {
+        return new Held(exports, new Uint8Array(structs[kind].size));
+    }
+
+    set(bytes) {
+        new Uint8Array(this.exports.memory.buffer).set(bytes, this.place);
+    }
+
+    copy() {
+        return new Uint8Array(this.exports.memory.buffer, this.place, this.length).slice();
+    }
+
+    field(kind, name) {
+        const [, type, count, place] = structs[kind].fields.find(([it]) => it === name);
+        return fieldAt(new DataView(this.exports.memory.buffer), this.place + place, type, count);
     }
 
     free() {
@@ -72,7 +90,8 @@ function putStruct(view, at, kind, value) {
 
 // How many bytes a parameter takes in the library's memory.
 function lengthOf([role, , kind], value, room) {
-    if (role === 'bytes') return value instanceof Held ? 0 : value.length;
+    if (value instanceof Held) return 0;
+    if (role === 'bytes') return value.length;
     if (role === 'room') return room * (structs[kind]?.size ?? 1);
     return role === 'number' ? 0 : structs[kind].size;
 }
@@ -106,7 +125,7 @@ function lent(exports, all, base, room) {
         if (role === 'number') words.push(kind === 'size' || kind === 'uint64_t' ? BigInt(value) : Number(value));
         else words.push(at);
         if (role === 'bytes' || role === 'room') words.push(BigInt(role === 'room' ? room : value.length));
-        if (role === 'struct' || role === 'lent') putStruct(view, at, kind, value);
+        if ((role === 'struct' || role === 'lent') && !(value instanceof Held)) putStruct(view, at, kind, value);
     }
     return words;
 }
@@ -115,7 +134,7 @@ function lent(exports, all, base, room) {
 function given_back(exports, result, all, base, room, came) {
     const view = new DataView(exports.memory.buffer);
     for (const { it: [role, , kind], value, place } of all)
-        if (role === 'struct') Object.assign(value, structAt(view, base + place, kind));
+        if (role === 'struct' && !(value instanceof Held)) Object.assign(value, structAt(view, base + place, kind));
     if (!structs[result]) return result === 'bool' ? came !== 0 : result === 'uint8_t' ? came & 0xff : result === 'uint16_t' ? came & 0xffff : came;
     const answer = structAt(view, base, result);
     const length = answer.status === NO_ROOM ? 0 : Math.min(answer.length, room);

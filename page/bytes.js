@@ -2,6 +2,7 @@
 import { List } from './list.js';
 
 const ROW = 16, WHOLE = 128;
+const MARKS = ['in-descriptor', 'in-field', 'cursor'];
 const hexadecimal = (value, digits) => value.toString(16).padStart(digits, '0');
 const isIn = (place, range) => range && place >= range.place && place < range.place + range.length;
 
@@ -27,9 +28,7 @@ export class Bytes {
         Object.assign(this, { descriptor, field });
         const range = field ?? descriptor;
         if (range && !isIn(this.cursor, range)) this.cursor = range.place;
-        if (range && range.place < this.bytes.length) this.list.show(Math.floor(range.place / ROW));
-        this.list.redraw();
-        this.place.setAttribute('aria-activedescendant', `byte-${this.cursor}`);
+        this.renew(range ? range.place : this.cursor);
     }
 
     draw(row) {
@@ -53,9 +52,22 @@ export class Bytes {
         made.dataset.place = at;
         made.textContent = hexadecimal(this.bytes[at], 2);
         made.setAttribute('role', 'gridcell');
-        made.className = ['byte', isIn(at, this.descriptor) && 'in-descriptor', isIn(at, this.field) && 'in-field', at === this.cursor && 'cursor']
-            .filter(Boolean).join(' ');
+        made.className = ['byte', ...this.marksOf(at)].join(' ');
         return made;
+    }
+
+    marksOf(at) {
+        return MARKS.filter((_, i) => [isIn(at, this.descriptor), isIn(at, this.field), at === this.cursor][i]);
+    }
+
+    // Marks anew what is drawn, with this place in view.
+    renew(place) {
+        if (place < this.bytes.length) this.list.show(Math.floor(place / ROW));
+        for (const it of this.place.querySelectorAll('.byte')) {
+            const wanted = ['byte', ...this.marksOf(Number(it.dataset.place))].join(' ');
+            if (it.className !== wanted) it.className = wanted;
+        }
+        this.place.setAttribute('aria-activedescendant', `byte-${this.cursor}`);
     }
 
     clicked(event) {
@@ -65,9 +77,7 @@ export class Bytes {
 
     pick(place) {
         this.cursor = place;
-        this.list.show(Math.floor(place / ROW));
-        this.list.redraw();
-        this.place.setAttribute('aria-activedescendant', `byte-${place}`);
+        this.renew(place);
         this.picked(place);
     }
 

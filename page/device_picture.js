@@ -4,8 +4,6 @@ import { svg, texts, wrapped } from './svg.js';
 
 const ROLES = { DEVICE: 1, CONFIGURATION: 2, INTERFACE: 3, ENDPOINT: 4, ASSOCIATION: 5, QUALIFIER: 7 };
 const LINE = 17, PAD = 10, ARROW = 46, LETTER = 6.9;
-// More would be no picture.
-const MOST = 1500;
 
 // Draws downwards, each box around what is drawn in it.
 class Drawing {
@@ -99,12 +97,12 @@ function drawSet({ head: configuration, parts }, drawing, left, right) {
 // The picture in so many pixels of width. `words` gives the heading of a descriptor.
 export function devicePicture(descriptors, words, width) {
     const drawing = new Drawing(width, words);
-    for (const { head: device, sets } of grouped(descriptors.slice(0, MOST), words)) {
+    for (const { head: device, sets } of grouped(descriptors, words)) {
         const all = (left, right) => sets.forEach(it => drawSet(it, drawing, left, right));
         if (device) drawing.box('device', 2, width - 2, device, words(device), () => all(2 + PAD, width - 2 - PAD));
         else all(2, width - 2);
     }
     const made = svg('svg', { viewBox: `0 0 ${width} ${drawing.y}`, width, height: drawing.y, class: 'picture', role: 'img' }, drawing.group);
     made.setAttribute('aria-label', descriptors.length ? words(descriptors[0]) : '');
-    return { picture: made, isWhole: descriptors.length <= MOST };
+    return made;
 }

@@ -68,13 +68,13 @@ export class EnumerationView {
         return came;
     }
 
-    show({ log = '', fault, refused }) {
+    show({ log = '', fault, refused, why }) {
         const lines = linesOfLog(log), last = lines.filter(it => it.kind === 'transaction').at(-1);
         const attempts = lines.filter(it => it.kind === 'attempt').length;
         this.fates = fatesOf(lines);
         at('fates').value = this.fates;
         at('log').textContent = log;
-        at('ladder-told').textContent = fault ?? (refused ? `refused ${refused}` : `attempts ${attempts} transactions ${last.number}; ${lines.at(-1).text}`);
+        at('ladder-told').textContent = fault ?? (refused ? `refused ${refused} ${why}` : `attempts ${attempts} transactions ${last.number}; ${lines.at(-1).text}`);
         this.ladder.show(log);
     }
 }

@@ -1,7 +1,7 @@
 // Where bytes come from: a text in the box, a file, the address, an example, a device.
 export const MOST_BYTES = 16_000_000;
 // So many are written into the box, and into an address.
-const MOST_WRITTEN = 65_536;
+const MOST_WRITTEN = 16_384;
 
 export const bytesOfBase64 = text => Uint8Array.from(atob(text), it => it.charCodeAt(0));
 

@@ -8,6 +8,10 @@ const { NZG_DONE, NZG_NO_MEMORY, NZG_TEXT_FAULT } = enumerations.status;
 const EXPLAINED = NZG_PLACES | NZG_UTF8 | NZG_FORMATS;
 // A place to come back to in a walk is kept at each so many descriptors.
 const KEPT = 64;
+// Of so many descriptors what is drawn is given, and of each these fields.
+const DRAWN = 1500, FIELDS = ['place', 'role', 'interface_', 'endpoint'];
+const { NZG_RAW, NZG_STRING, NZG_LANGUAGES } = enumerations.role;
+const NOT_DRAWN = [NZG_RAW, NZG_STRING, NZG_LANGUAGES];
 const utf8 = new TextDecoder();
 const toUtf8 = new TextEncoder();
 
@@ -16,14 +20,11 @@ function inMemory(answer) {
     return answer;
 }
 
-// Of a descriptor what is drawn.
-const shown = ({ place, length, type, role, depth, set, part, interface_, alternate, endpoint }) =>
-    ({ place, length, type, role, depth, set, part, interface_, alternate, endpoint });
-
 export class Library {
     constructor(exports) {
         this.exports = exports;
         this.calls = callsOver(exports);
+        this.cursor = Held.struct(exports, 'descriptor');
     }
 
     // The bytes of hexadecimal text, or the line and the column that stop it.
@@ -41,34 +42,48 @@ export class Library {
         return { text, lines: linesOf(text) };
     }
 
-    // The descriptors of what was read, and the indices of the strings that they name.
+    // Of what was read the descriptors that are drawn, whether these are all, and the indices of the strings that are named.
     walk() {
-        const cursor = {}, found = [];
-        this.kept = [{}];
-        while (this.calls.nzg_next(this.held, cursor)) {
-            found.push(shown(cursor));
-            if (found.length % KEPT === 0) this.kept.push({ ...cursor });
+        const drawn = [], field = name => this.cursor.field('descriptor', name);
+        this.kept = [];
+        this.rewind();
+        for (let number = 0; this.calls.nzg_next(this.held, this.cursor); number++) {
+            if (number % KEPT === 0) this.kept.push({ place: field('place'), cursor: this.cursor.copy() });
+            if (drawn.length <= DRAWN && !NOT_DRAWN.includes(field('role')))
+                drawn.push(Object.fromEntries(FIELDS.map(name => [name, field(name)])));
         }
-        const named = cursor.named ?? [];
-        const strings = Array.from({ length: 256 }, (_, i) => i).filter(i => (named[i >> 6] ?? 0n) >> BigInt(i & 63) & 1n);
-        return { descriptors: found, strings };
+        const named = field('named'), strings = Array.from({ length: 255 }, (_, i) => i + 1).filter(i => named[i >> 6] >> BigInt(i & 63) & 1n);
+        return { descriptors: drawn.slice(0, DRAWN), isWhole: drawn.length <= DRAWN, strings };
     }
 
-    // The fields of the descriptor of this number.
-    fields(number) {
-        const cursor = { ...this.kept[Math.floor(number / KEPT)] };
-        for (let i = number % KEPT; i >= 0; i--) this.calls.nzg_next(this.held, cursor);
-        return this.calls.nzg_fields(this.held, cursor).fields.map(({ name, name_length, place, width }) =>
-            ({ name: utf8.decode(name.subarray(0, name_length)), place, width }));
+    rewind() {
+        this.cursor.set(new Uint8Array(this.cursor.length));
+    }
+
+    // The fields of the descriptor at this place; none where there is no descriptor.
+    fields(place) {
+        const before = this.kept.findLast(it => it.place <= place);
+        if (!before) return [];
+        this.cursor.set(before.cursor);
+        while (this.cursor.field('descriptor', 'place') < place && this.calls.nzg_next(this.held, this.cursor));
+        if (this.cursor.field('descriptor', 'place') !== place) return [];
+        return this.calls.nzg_fields(this.held, this.cursor).fields.map(({ name, name_length, place: at, width }) =>
+            ({ name: utf8.decode(name.subarray(0, name_length)), place: at, width }));
     }
 
     // What `enumerate --log` writes under these fates; of a dump with the strings of `--with-strings`. Of other bytes what is wrong with
-    // them, and of a device that isn't accepted the number with which the program refuses it.
+    // them, and of a device that isn't accepted the number with which the program refuses it, and its first finding.
     enumerate(speed, naks, attempts, fates) {
         const { status, file } = inMemory(this.calls.nzg_with_strings(this.held));
         if (status !== NZG_DONE) return { fault: utf8.decode(this.calls.nzg_fault_text(this.held).text) };
         const answer = inMemory(this.calls.nzg_enumerate_log(file, speed, naks, attempts, toUtf8.encode(fates)));
-        if (answer.status !== NZG_DONE) return { refused: answer.number };
+        if (answer.status !== NZG_DONE) return { refused: answer.number, why: this.finding(file) };
         return { log: utf8.decode(answer.text) };
+    }
+
+    // What the first finding of a file says, in words; nothing where it has none.
+    finding(file) {
+        const { found } = inMemory(this.calls.nzg_findings(file));
+        return found.length ? utf8.decode(inMemory(this.calls.nzg_finding_text(file, found[0])).text) : '';
     }
 }

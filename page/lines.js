@@ -2,6 +2,7 @@
 export const KINDS = { PLAIN: 0, HEADING: 1, FINDING: 2, REMARK: 3, FIELD: 4, MORE: 5 };
 
 const LINE_FEED = 10, SPACE = 32, FINDING_MARK = 33, PLUS = 43, REMARK_MARK = 63, AT = 64;
+const utf8 = new TextDecoder();
 const isDigit = it => it >= 48 && it <= 57;
 
 // The number that ends before `end`, and where it begins.
@@ -40,23 +41,36 @@ function kindOf(first, indent, under) {
     return indent === under + 4 ? KINDS.FIELD : KINDS.MORE;
 }
 
-// Where the lines begin, what they are, and the headings: the line, the bytes and the depth of each.
+// Where the lines begin, what they are, and of each heading the line, its bytes and how deep it stands. All are arrays of numbers, which
+// go from the worker to the page as they are.
 export function linesOf(text) {
-    const starts = startsOf(text), kinds = new Uint8Array(starts.length - 1), headings = [];
+    const starts = startsOf(text), kinds = new Uint8Array(starts.length - 1), found = { line: [], place: [], length: [], depth: [] };
     let under = -1;
     for (let line = 0; line < kinds.length; line++) {
         const from = starts[line], end = starts[line + 1] - 1, indent = indentOf(text, from, end);
         const placed = placeAtEnd(text, end);
-        if (placed) {
-            under = indent;
-            headings.push({ line, ...placed, depth: indent / 2 });
-        }
         kinds[line] = placed ? KINDS.HEADING : kindOf(text[from + indent], indent, under);
+        if (!placed) continue;
+        under = indent;
+        for (const [name, value] of Object.entries({ line, ...placed, depth: indent / 2 })) found[name].push(value);
     }
+    const headings = Object.fromEntries(Object.entries(found).map(([name, values]) => [name, Uint32Array.from(values)]));
     return { starts, kinds, headings };
+}
+
+// The number of the last heading at a line, or at a place, or before it; -1 before the first.
+export function headingAt(headings, by, value) {
+    const values = headings[by];
+    let from = 0, to = values.length;
+    while (from < to) {
+        const middle = from + to >> 1;
+        if (values[middle] <= value) from = middle + 1;
+        else to = middle;
+    }
+    return from - 1;
 }
 
 // The line of a text, without its end.
 export function lineAt(text, starts, line) {
-    return new TextDecoder().decode(text.subarray(starts[line], starts[line + 1] - 1));
+    return utf8.decode(text.subarray(starts[line], starts[line + 1] - 1));
 }

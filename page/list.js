@@ -75,5 +75,6 @@ export class List {
         this.place.scrollTop = this.height === whole
             ? wanted * this.rowHeight
             : wanted / Math.max(1, this.count - this.inView()) * (this.height - this.place.clientHeight);
+        if (this.count > this.whole) this.redraw();
     }
 }

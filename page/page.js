@@ -3,7 +3,7 @@ import { Bytes } from './bytes.js';
 import { devicePicture } from './device_picture.js';
 import { EnumerationView } from './enumeration.js';
 import { bytesOfBase64, Box, hexadecimal, linkOf, MOST_BYTES, textOfAddress } from './input.js';
-import { lineAt } from './lines.js';
+import { headingAt, KINDS, lineAt } from './lines.js';
 import { libraryIn } from './asking.js';
 import { save, saveSvg } from './svg.js';
 import { showTab, tabs } from './tabs.js';
@@ -17,7 +17,7 @@ const tree = new Tree(at('tree'), (heading, line) => markLine(heading, line));
 const text = new Text(at('text'), line => tree.pick(line));
 const bytes = new Bytes(at('bytes'), place => pickByte(place));
 // What is shown: the bytes, their explanation, their descriptors. `turn` numbers what was asked for, since only the last counts.
-const state = { bytes: new Uint8Array(), explained: null, descriptors: [], numbers: new Map(), turn: 0 };
+const state = { bytes: new Uint8Array(), explained: null, walked: null, turn: 0 };
 let ask;
 
 function tell(words) {
@@ -63,18 +63,17 @@ async function read(given, name = '') {
     const turn = ++state.turn;
     const explained = await ask('read', given, Number(at('speed').value));
     if (turn !== state.turn) return;
-    Object.assign(state, { bytes: given, explained, descriptors: [], numbers: new Map() });
+    Object.assign(state, { bytes: given, explained, walked: null });
     showExplained();
     tell(name);
-    const { descriptors } = await ask('walk');
+    const walked = await ask('walk');
     if (turn !== state.turn) return;
-    state.descriptors = descriptors;
-    descriptors.forEach((it, number) => state.numbers.set(it.place, number));
+    state.walked = walked;
     drawn();
 }
 
 function clear() {
-    Object.assign(state, { bytes: new Uint8Array(), explained: null, descriptors: [] });
+    Object.assign(state, { bytes: new Uint8Array(), explained: null, walked: null });
     at('found').hidden = true;
     tell('');
 }
@@ -91,72 +90,62 @@ function showExplained() {
 
 // Draws what the tab in front has, where it is a picture.
 function drawn() {
+    if (!state.walked) return;
     if (!at('picture-view').hidden) drawPicture();
     if (!at('ladder-view').hidden) enumeration.enter(state.bytes);
 }
 
-// The heading of a descriptor, in words.
-function wordsOf(descriptor) {
-    const { lines, text: said } = state.explained;
-    const heading = lines.headings[headingAt(descriptor.place)];
-    return heading?.place === descriptor.place ? lineAt(said, lines.starts, heading.line).trim().replace(/ @\d+\+\d+$/, '') : '';
+const lineText = line => lineAt(state.explained.text, state.explained.lines.starts, line).trim();
+
+// The heading of the descriptor at a place, in words.
+function wordsOf({ place }) {
+    const { headings } = state.explained.lines, number = headingAt(headings, 'place', place);
+    return headings.place[number] === place ? lineText(headings.line[number]).replace(/ @\d+\+\d+$/, '') : '';
 }
 
 function drawPicture() {
     const width = Math.max(300, Math.min(at('picture').clientWidth - 16, 760));
-    const { picture, isWhole } = devicePicture(state.descriptors, wordsOf, width);
-    at('picture').replaceChildren(picture);
-    at('picture-told').textContent = isWhole ? '' : 'The first descriptors alone are drawn.';
+    at('picture').replaceChildren(devicePicture(state.walked.descriptors, wordsOf, width));
+    at('picture-told').textContent = state.walked.isWhole ? '' : 'The first descriptors alone are drawn.';
 }
 
 // --- marks, both ways ---------------------------------------------------------------------------------------------------------
 
-// The last heading that begins at a place or before it.
-function headingAt(place) {
-    const { headings } = state.explained.lines;
-    let from = 0, to = headings.length;
-    while (from < to) {
-        const middle = from + to >> 1;
-        if (headings[middle].place <= place) from = middle + 1;
-        else to = middle;
-    }
-    return from - 1;
+// The bytes of a heading's descriptor; nothing above the first.
+function rangeOf(number) {
+    const { place, length } = state.explained.lines.headings;
+    return number < 0 ? null : { place: place[number], length: length[number] };
 }
 
-const lineText = line => lineAt(state.explained.text, state.explained.lines.starts, line).trim();
-
-// The fields of a heading's descriptor, each with the line that has it.
-async function fieldsOf(heading) {
-    const number = state.numbers.get(heading?.place);
-    if (number === undefined) return [];
-    const fields = await ask('fields', number), { kinds } = state.explained.lines;
-    let line = heading.line;
+// The fields of a heading's descriptor, each with the line that has it: they stand in the same order.
+async function fieldsOf(number) {
+    const { headings, kinds } = state.explained.lines, end = headings.line[number + 1] ?? kinds.length;
+    const fields = await ask('fields', headings.place[number]);
+    let line = headings.line[number];
     return fields.map(field => {
-        do line++; while (line < kinds.length && (kinds[line] !== 4 || lineText(line).split(' ')[0] !== field.name) && kinds[line] !== 1);
+        const from = line + 1;
+        for (line = from; line < end && (kinds[line] !== KINDS.FIELD || lineText(line).split(' ')[0] !== field.name); line++);
+        if (line === end) line = from - 1;
         return { ...field, line };
     });
 }
 
 async function markLine(number, line) {
-    const { headings, kinds } = state.explained.lines, heading = headings[number], turn = state.turn;
+    const { kinds } = state.explained.lines, turn = state.turn, range = rangeOf(number);
     const fault = /^! .* at (\d+): /.exec(lineText(line));
-    if (fault) return bytes.mark({ place: Number(fault[1]), length: 1 });
-    if (!heading) return bytes.mark(null);
-    bytes.mark(heading);
-    if (kinds[line] < 4) return;
-    const fields = await fieldsOf(heading);
-    if (turn !== state.turn || tree.line !== line) return;
-    const field = fields.findLast(it => it.line <= line);
-    if (field) bytes.mark(heading, { place: field.place, length: field.width });
+    bytes.mark(fault ? { place: Number(fault[1]), length: 1 } : range);
+    if (fault || !range || kinds[line] < KINDS.FIELD) return;
+    const field = (await fieldsOf(number)).findLast(it => it.line <= line);
+    if (field && turn === state.turn && tree.line === line) bytes.mark(range, { place: field.place, length: field.width });
 }
 
 async function pickByte(place) {
-    const heading = state.explained.lines.headings[headingAt(place)], turn = state.turn;
-    if (!heading || place >= heading.place + heading.length) return bytes.mark(null);
-    const field = (await fieldsOf(heading)).find(it => place >= it.place && place < it.place + it.width);
+    const { headings } = state.explained.lines, number = headingAt(headings, 'place', place), range = rangeOf(number), turn = state.turn;
+    if (!range || place >= range.place + range.length) return bytes.mark(null);
+    const field = (await fieldsOf(number)).find(it => place >= it.place && place < it.place + it.width);
     if (turn !== state.turn) return;
-    tree.select(field?.line ?? heading.line);
-    bytes.mark(heading, field && { place: field.place, length: field.width });
+    tree.select(field?.line ?? headings.line[number]);
+    bytes.mark(range, field && { place: field.place, length: field.width });
 }
 
 function pickPlace(event) {

@@ -1,5 +1,5 @@
 // The tree: the lines of the explanation, of which those below a heading can be folded. What is picked is marked in the bytes.
-import { KINDS, lineAt } from './lines.js';
+import { headingAt, KINDS, lineAt } from './lines.js';
 import { List } from './list.js';
 
 const CLASSES = ['plain', 'heading', 'finding', 'remark', 'field', 'more'];
@@ -27,33 +27,37 @@ export class Tree {
     }
 
     clear() {
-        Object.assign(this, { headings: [], kinds: [], rows: [], line: -1 });
+        Object.assign(this, { headings: { line: [], depth: [] }, kinds: [], rows: [], line: -1 });
         this.list.set(0);
     }
 
     show(text, { starts, kinds, headings }) {
         Object.assign(this, { text, starts, kinds, headings, line: -1 });
-        this.folded = new Uint8Array(headings.length);
-        this.open = new Uint8Array(headings.length).fill(kinds.length <= FEW_LINES ? 1 : 0);
+        this.folded = new Uint8Array(headings.line.length);
+        this.open = new Uint8Array(headings.line.length).fill(kinds.length <= FEW_LINES ? 1 : 0);
         this.place.scrollTop = 0;
         this.arrange();
     }
 
+    get count() {
+        return this.headings.line.length;
+    }
+
     // The heading that a line stands below, or is; -1 above the first.
     headingOf(line) {
-        let from = 0, to = this.headings.length;
-        while (from < to) {
-            const middle = from + to >> 1;
-            if (this.headings[middle].line <= line) from = middle + 1;
-            else to = middle;
-        }
-        return from - 1;
+        return headingAt(this.headings, 'line', line);
+    }
+
+    // The line after the last one that belongs to a heading alone.
+    endLine(number) {
+        return number + 1 < this.count ? this.headings.line[number + 1] : this.kinds.length;
     }
 
     // The number after the last heading that belongs to this one.
     endOf(number) {
+        const { depth } = this.headings;
         let end = number + 1;
-        while (end < this.headings.length && this.headings[end].depth > this.headings[number].depth) end++;
+        while (end < this.count && depth[end] > depth[number]) end++;
         return end;
     }
 
@@ -62,19 +66,16 @@ export class Tree {
     }
 
     hasFields(number) {
-        const next = this.headings[number + 1]?.line ?? this.kinds.length;
-        for (let line = this.headings[number].line + 1; line < next; line++)
-            if (this.kinds[line] === KINDS.FIELD) return true;
-        return false;
+        return this.kinds.subarray(this.headings.line[number], this.endLine(number)).includes(KINDS.FIELD);
     }
 
     // Which lines are shown.
     arrange() {
         const { headings, kinds } = this, rows = [];
-        for (let line = 0; line < (headings[0]?.line ?? kinds.length); line++) rows.push(line);
-        for (let number = 0; number < headings.length; number++) {
-            const end = headings[number + 1]?.line ?? kinds.length, isOpen = this.open[number] && !this.folded[number];
-            for (let line = headings[number].line; line < end; line++)
+        for (let line = 0; line < this.endLine(-1); line++) rows.push(line);
+        for (let number = 0; number < this.count; number++) {
+            const end = this.endLine(number), isOpen = this.open[number] && !this.folded[number];
+            for (let line = headings.line[number]; line < end; line++)
                 if (kinds[line] < KINDS.FIELD || isOpen) rows.push(line);
             if (this.folded[number]) number = this.endOf(number) - 1;
         }
@@ -83,9 +84,9 @@ export class Tree {
     }
 
     depthOf(line) {
-        const heading = this.headings[this.headingOf(line)];
-        if (!heading || this.kinds[line] === KINDS.PLAIN) return 0;
-        return heading.depth + (this.kinds[line] === KINDS.HEADING ? 0 : 1);
+        const number = this.headingOf(line);
+        if (number < 0 || this.kinds[line] === KINDS.PLAIN) return 0;
+        return this.headings.depth[number] + (this.kinds[line] === KINDS.HEADING ? 0 : 1);
     }
 
     draw(row) {
@@ -155,16 +156,17 @@ export class Tree {
         if (number >= 0 && this.uncover(number) || !this.has(line)) this.arrange();
         this.line = line;
         this.list.show(this.rowOf(line));
-        this.list.redraw();
+        for (const it of this.place.querySelectorAll('[aria-selected=true]')) it.setAttribute('aria-selected', false);
+        document.getElementById(`line-${line}`)?.setAttribute('aria-selected', true);
         this.place.setAttribute('aria-activedescendant', `line-${line}`);
     }
 
     // Unfolds what a heading stands in; whether anything was.
     uncover(number) {
-        let depth = this.headings[number].depth, was = false;
+        let depth = this.headings.depth[number], was = false;
         for (let at = number - 1; at >= 0 && depth > 0; at--) {
-            if (this.headings[at].depth >= depth) continue;
-            depth = this.headings[at].depth;
+            if (this.headings.depth[at] >= depth) continue;
+            depth = this.headings.depth[at];
             was ||= this.folded[at] === 1;
             this.folded[at] = 0;
         }
@@ -201,7 +203,7 @@ export class Tree {
         else if (key === 'ArrowLeft') this.foldOrLeave(number, isHeading);
         else if (key === 'Enter' || key === ' ') this.toggle(number);
         else return false;
-        this.pick(this.has(this.line) ? this.line : this.headings[number].line);
+        this.pick(this.has(this.line) ? this.line : this.headings.line[number]);
         return true;
     }
 
@@ -213,7 +215,7 @@ export class Tree {
 
     foldOrLeave(number, isHeading) {
         const isOpen = this.open[number] && this.hasFields(number) && !this.folded[number];
-        if (!isHeading) this.line = this.headings[number].line;
+        if (!isHeading) this.line = this.headings.line[number];
         else if (isOpen) this.open[number] = 0;
         else if (!this.folded[number] && this.endOf(number) > number + 1) this.folded[number] = 1;
         else this.line = this.ownerLine(number);
@@ -221,8 +223,9 @@ export class Tree {
     }
 
     ownerLine(number) {
+        const { depth, line } = this.headings;
         let owner = number - 1;
-        while (owner >= 0 && this.headings[owner].depth >= this.headings[number].depth) owner--;
-        return this.headings[Math.max(owner, 0)].line;
+        while (owner >= 0 && depth[owner] >= depth[number]) owner--;
+        return line[Math.max(owner, 0)];
     }
 }

@@ -8,10 +8,15 @@ async function opened(module) {
     library = new Library(instance.exports);
 }
 
+// An explanation isn't copied: its memory becomes the page's.
+function buffersOf({ text, lines: { starts, kinds, headings } }) {
+    return [text, starts, kinds, ...Object.values(headings)].map(it => it.buffer);
+}
+
 onmessage = async ({ data: { number, call, given } }) => {
     try {
         const value = await (call === 'open' ? opened(...given) : library[call](...given));
-        postMessage({ number, value });
+        postMessage({ number, value }, call === 'read' ? buffersOf(value) : []);
     } catch (error) {
         postMessage({ number, error: String(error) });
     }

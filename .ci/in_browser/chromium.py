@@ -46,7 +46,7 @@ class Page:
 
     def value(self, code):
         """What an expression gives, awaited."""
-        told = self.ask("Runtime.evaluate", expression=code, awaitPromise=True, returnByValue=True, userGesture=True)
+        told = self.ask("Runtime.evaluate", expression=code, awaitPromise=True, returnByValue=True, userGesture=True, allowUnsafeEvalBlockedByCSP=False)
         if "exceptionDetails" in told:
             fail(f"{code[:200]}: {json.dumps(told['exceptionDetails'])[:900]}")
         return told["result"].get("value")
