@@ -3,7 +3,7 @@
 import { svg, texts, wrapped } from './svg.js';
 
 const ROLES = { DEVICE: 1, CONFIGURATION: 2, INTERFACE: 3, ENDPOINT: 4, ASSOCIATION: 5, QUALIFIER: 7 };
-const LINE = 17, PAD = 10, ARROW = 46, LETTER = 6.9;
+const LINE = 17, PAD = 10, ARROW = 46, LETTER = 6.4, BOLD = 7.3;
 
 // Draws downwards, each box around what is drawn in it.
 class Drawing {
@@ -19,7 +19,7 @@ class Drawing {
         this.group = svg('g', { class: className }, frame);
         if (descriptor) this.group.dataset.place = descriptor.place;
         this.y += PAD;
-        const lines = wrapped(title, Math.floor((right - left - 2 * PAD) / LETTER));
+        const lines = wrapped(title, Math.floor((right - left - 2 * PAD) / (className === 'setting' ? LETTER : BOLD)));
         this.group.append(...title ? texts(lines, left + PAD, this.y + 11, LINE, 'title') : []);
         if (title) this.y += lines.length * LINE + 4;
         inside();

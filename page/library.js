@@ -42,7 +42,7 @@ export class Library {
         return { text, lines: linesOf(text) };
     }
 
-    // Of what was read the descriptors that are drawn, whether these are all, and the indices of the strings that are named.
+    // Of what was read the descriptors that are drawn, and whether these are all.
     walk() {
         const drawn = [], field = name => this.cursor.field('descriptor', name);
         this.kept = [];
@@ -52,8 +52,14 @@ export class Library {
             if (drawn.length <= DRAWN && !NOT_DRAWN.includes(field('role')))
                 drawn.push(Object.fromEntries(FIELDS.map(name => [name, field(name)])));
         }
-        const named = field('named'), strings = Array.from({ length: 255 }, (_, i) => i + 1).filter(i => named[i >> 6] >> BigInt(i & 63) & 1n);
-        return { descriptors: drawn.slice(0, DRAWN), isWhole: drawn.length <= DRAWN, strings };
+        return { descriptors: drawn.slice(0, DRAWN), isWhole: drawn.length <= DRAWN };
+    }
+
+    // The indices of the strings that the descriptors of other bytes name.
+    named(bytes) {
+        const cursor = { named: [0n, 0n, 0n, 0n] };
+        while (this.calls.nzg_next(bytes, cursor));
+        return Array.from({ length: 255 }, (_, i) => i + 1).filter(i => cursor.named[i >> 6] >> BigInt(i & 63) & 1n);
     }
 
     rewind() {

@@ -85,7 +85,10 @@ function showExplained() {
     at('found').hidden = false;
     bytes.show(state.bytes);
     tree.show(said, lines);
+    at('all-fields').checked = tree.allOpen;
     text.show(said, lines.starts);
+    const last = lines.kinds.length - 1;
+    at('summary').textContent = last > 0 && lines.kinds[last] === KINDS.PLAIN ? lineText(last) : '';
 }
 
 // Draws what the tab in front has, where it is a picture.
@@ -161,10 +164,9 @@ function listen() {
     at('box').addEventListener('input', () => readText(at('box').value).catch(failed));
     at('speed').addEventListener('change', () => state.explained && read(state.bytes).catch(failed));
     at('file').addEventListener('change', () => openFile(at('file').files[0]));
-    document.querySelector('.button').addEventListener('keydown', event => {
-        if (event.key === 'Enter' || event.key === ' ') at('file').click();
-    });
+    at('open').addEventListener('click', () => at('file').click());
     at('example').addEventListener('change', openExample);
+    at('all-fields').addEventListener('change', () => tree.openAll(at('all-fields').checked));
     at('ask').addEventListener('click', openDevice);
     at('link').addEventListener('click', copyLink);
     at('save-text').addEventListener('click', () => save(state.explained.text, 'text/plain', 'explanation.txt'));
@@ -198,8 +200,8 @@ function openExample() {
 async function openDevice() {
     if (!canAsk()) return tell('This browser has no WebUSB; Chromium, Chrome and Edge have it.');
     try {
-        const { bytes: came, refused } = await askDevice(async given => (await ask('read', given, 0), (await ask('walk')).strings));
-        await readWritten(came, refused.join('; '));
+        const { bytes: came, refused } = await askDevice(given => ask('named', given));
+        await readWritten(came, refused);
     } catch (error) {
         failed(error);
     }

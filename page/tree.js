@@ -34,8 +34,14 @@ export class Tree {
     show(text, { starts, kinds, headings }) {
         Object.assign(this, { text, starts, kinds, headings, line: -1 });
         this.folded = new Uint8Array(headings.line.length);
-        this.open = new Uint8Array(headings.line.length).fill(kinds.length <= FEW_LINES ? 1 : 0);
         this.place.scrollTop = 0;
+        this.openAll(kinds.length <= FEW_LINES);
+    }
+
+    // Shows the fields of all descriptors, or of none.
+    openAll(isOpen) {
+        this.allOpen = isOpen;
+        this.open = new Uint8Array(this.count).fill(isOpen ? 1 : 0);
         this.arrange();
     }
 

@@ -41,31 +41,31 @@ const joined = parts => {
     return bytes;
 };
 
-// What a device that is open gave: a whole file, or without what comes after a request that it refused. `namedBy` gives the indices
-// of the strings that bytes name.
+// The other speed's descriptors. A device of one speed refuses the qualifier (9.6.2).
+async function otherSpeed(device, parts) {
+    const qualifier = await descriptor(device, TYPES.QUALIFIER, 0, 10).catch(() => null);
+    if (!qualifier) return;
+    parts.push(qualifier);
+    await sets(device, TYPES.OTHER_SPEED, qualifier[8], parts);
+}
+
+// What a device that is open gave: a file, or without what is missing a dump, or its beginning; and the request that was refused.
+// `namedBy` gives the indices of the strings that bytes name.
 async function read(device, namedBy) {
     const parts = [];
+    let kept = 0;
     try {
         parts.push(await descriptor(device, TYPES.DEVICE, 0, 18));
+        kept = 1;
         await sets(device, TYPES.CONFIGURATION, parts[0][17], parts);
+        kept = parts.length;
+        await otherSpeed(device, parts);
+        await strings(device, await namedBy(joined(parts)), parts);
+        return { bytes: joined(parts), refused: '' };
     } catch (error) {
         if (!(error instanceof Refused)) throw error;
-        return { bytes: joined(parts), refused: [error.message] };
+        return { bytes: joined(kept > 1 ? parts.slice(0, kept) : parts), refused: error.message };
     }
-    const more = [], refused = [];
-    const tried = async run => run().catch(error => {
-        if (!(error instanceof Refused)) throw error;
-        refused.push(error.message);
-        return 0;
-    });
-    const qualifier = await tried(() => descriptor(device, TYPES.QUALIFIER, 0, 10));
-    // A device of one speed has no qualifier and says so by a STALL (9.6.2).
-    if (!qualifier) refused.length = 0;
-    else await tried(() => sets(device, TYPES.OTHER_SPEED, qualifier[8], (more.push(qualifier), more)));
-    const speeds = joined([...parts, ...refused.length ? [] : more]);
-    const texts = [];
-    await tried(async () => strings(device, await namedBy(speeds), texts));
-    return { bytes: refused.length ? joined(parts) : joined([speeds, ...texts]), refused };
 }
 
 // Asks which device, and reads it.

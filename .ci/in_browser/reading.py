@@ -1,6 +1,7 @@
 """Texts, marks, and the ways by which bytes come in."""
 
 import glob
+import importlib.util
 import json
 import os
 import re
@@ -11,6 +12,10 @@ from playing.built import ROOT
 OPTIONS = ("explain", "--utf8", "--formats")
 HEADING = re.compile(r" @(\d+)\+(\d+)$", re.M)
 IN_HEXADECIMAL = re.compile(r"^hexadecimal text, \d+ bytes: ")
+# The module of the wheel by itself, since its package wants the library.
+SPEC = importlib.util.spec_from_file_location("of_wheel", f"{ROOT}/python/nozzlegorse/page.py")
+OF_WHEEL = importlib.util.module_from_spec(SPEC)
+SPEC.loader.exec_module(OF_WHEEL)
 HOSTILE = '<img src=x onerror="document.title=1"></script><b>&amp;'
 
 
@@ -104,7 +109,7 @@ def hostile(page):
     said("a hostile string, name and text are shown and are no markup")
 
 
-def links(page, file, usbdesc):
+def links(page, file, usbdesc, room):
     """Bytes behind the # of the address are read; a copied link has those that are shown."""
     data = data_of(f"{ROOT}/testdata/dumps/matias-keyboard.descriptors")
     ready(page, f"{file}#{data.hex()}")
@@ -112,4 +117,10 @@ def links(page, file, usbdesc):
     held("the address's bytes are read", page.value("until(() => textShown())") == wanted)
     page.value("history.replaceState(null, '', '#'); at('link').click(); sleep(200)")
     held("a link has the bytes", page.value("location.hash") == f"#{data.hex()}")
-    said("an address has the bytes, both ways")
+    with open(file, encoding="utf-8") as it:
+        given = OF_WHEEL.page_of(it.read(), data, HOSTILE)
+    with open(f"{room}/given.html", "w", encoding="utf-8") as it:
+        it.write(given)
+    ready(page, f"{room}/given.html")
+    held("bytes that were put into the file are read", page.value("until(textShown)") == wanted and page.value("at('told').textContent") == HOSTILE)
+    said("an address has the bytes, both ways, and so has a file into which nozzlegorse.page put them")

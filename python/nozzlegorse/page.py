@@ -23,10 +23,8 @@ _GIVEN = '<script type="text/plain" id="given"></script>'
 _BUS_ID = re.compile(r"usb\d+|\d+-\d+(\.\d+)*")
 
 
-def page_of(data: bytes, name: str = "") -> str:
-    """The text of a page that shows these bytes at first."""
-    with open(_PAGE, encoding="utf-8") as it:
-        page = it.read()
+def page_of(page: str, data: bytes, name: str = "") -> str:
+    """The text of a page that shows these bytes at first, of that of nozzlegorse.html."""
     given = f'<script type="text/plain" id="given" data-name="{html.escape(name)}">{base64.b64encode(data).decode()}</script>'
     return page.replace(_GIVEN, given, 1)
 
@@ -56,7 +54,9 @@ def main(words: list[str] | None = None) -> int:
     asked = parser.parse_args(words)
     try:
         data = _bytes_of(asked.target) if asked.target else b""
-        path = _written(page_of(data, asked.target or ""), asked.out)
+        with open(_PAGE, encoding="utf-8") as it:
+            page = page_of(it.read(), data, asked.target or "")
+        path = _written(page, asked.out)
     except OSError as error:
         print(f"nozzlegorse.page: {error.filename}: {error.strerror}", file=sys.stderr)
         return 2
