@@ -8,8 +8,19 @@ import subprocess
 from playing.built import ROOT, fail
 
 
+# What was said, for the documents.
+SAID = []
+
+
 def said(*words):
     print("page:", *words, flush=True)
+    SAID.append(" ".join(map(str, words)))
+
+
+def write(name, lines):
+    """What the documents print, beside this file."""
+    with open(os.path.join(os.path.dirname(os.path.abspath(__file__)), name), "w", encoding="utf-8") as it:
+        it.write("".join(f"{line}\n" for line in lines))
 
 
 def held(what, is_so, *more):

@@ -17,6 +17,10 @@ WORDS = ["--headless=new", "--no-sandbox", "--disable-gpu", "--disable-dev-shm-u
 LONGEST_WAIT = 60
 
 
+def version():
+    return subprocess.run([PROGRAM, "--version"], capture_output=True, text=True).stdout.split(" built ")[0].strip()
+
+
 class Page:
     """A page in a browser of its own."""
 
