@@ -1,12 +1,12 @@
 // The page: bytes in, and what the library in its worker says of them. All that is said of bytes is the library's text.
+import { libraryIn } from './asking.js';
 import { Bytes } from './bytes.js';
 import { devicePicture } from './device_picture.js';
 import { EnumerationView } from './enumeration.js';
-import { bytesOfBase64, Box, hexadecimal, linkOf, MOST_BYTES, textOfAddress } from './input.js';
+import { Box, bytesOfBase64, hexadecimal, linkOf, MOST_BYTES, textOfAddress } from './input.js';
 import { headingAt, KINDS, lineAt } from './lines.js';
-import { libraryIn } from './asking.js';
 import { save, saveSvg } from './svg.js';
-import { showTab, tabs } from './tabs.js';
+import { tabs } from './tabs.js';
 import { Text } from './text.js';
 import { Tree } from './tree.js';
 import { askDevice, canAsk } from './webusb.js';
@@ -225,24 +225,25 @@ function openAddress() {
     readText(given).catch(failed);
 }
 
-// Bytes that were put into the file, or stand in the address.
+// Bytes that were put into the file, stand in the address, or were typed before the library was there.
 function openGiven() {
     const given = at('given').textContent;
     if (given) readWritten(bytesOfBase64(given), at('given').dataset.name).catch(failed);
-    else openAddress();
+    else if (location.hash.length > 1) openAddress();
+    else readText(at('box').value).catch(failed);
 }
 
 async function start() {
-    listen();
     try {
         ask = await libraryIn(at('worker').textContent, at('module').textContent);
-        document.body.dataset.state = 'ready';
-        openGiven();
     } catch (error) {
         document.body.dataset.state = 'failed';
         for (const it of document.querySelectorAll('.input :is(button, select, textarea, input)')) it.disabled = true;
-        failed(error);
+        return failed(error);
     }
+    listen();
+    document.body.dataset.state = 'ready';
+    openGiven();
 }
 
 start();

@@ -1,5 +1,5 @@
 // Tabs, by click and by arrow keys.
-export function showTab(tab, whole) {
+function showTab(tab, whole) {
     for (const it of whole.querySelectorAll('[role=tab]')) {
         const isShown = it === tab;
         it.setAttribute('aria-selected', isShown);

@@ -71,6 +71,42 @@ def fields(page):
     said(f"320 bytes mark their fields, {numbers} of them in a field with the value of its bytes")
 
 
+def keys(page):
+    """By keys alone a descriptor is found, folded and marked, and a byte finds its field."""
+    data = data_of(f"{ROOT}/testdata/files/qemu-usb-mouse.file")
+    page.value(f"(async () => {{ await drop({array(data)}, 'mouse'); at('tree').focus() }})()")
+
+    def after(*names):
+        for name in names:
+            page.key(name)
+        return page.value("[document.querySelector('#tree [aria-selected=true] .words, #tree [aria-selected=true] .name')?.textContent, marked('in-field')]")
+
+    def count():
+        return page.value("document.querySelectorAll('#tree .row').length")
+
+    all_rows = count()
+    held("down", after("ArrowDown", "ArrowDown")[0].startswith("device 0627"))
+    held("a field", after("ArrowDown") == ["bcdUSB", []] or page.wait("marked('in-field').join() === '2,3'") >= 0)
+    after("ArrowLeft", "ArrowLeft")
+    held("the fields are gone", count() == all_rows - 12, count())
+    after("ArrowLeft")
+    held("folded", count() < all_rows - 12 and page.value("document.querySelector('#tree [aria-selected=true]').getAttribute('aria-expanded')") == "false", count())
+    after("ArrowRight", "ArrowRight")
+    held("unfolded", count() == all_rows, count())
+    held("the last line", after("End")[0] == "no findings, 3 remarks")
+    page.value("(async () => { at('bytes').focus(); at('byte-18').click(); await sleep(50) })()")
+    for name in ("ArrowRight", "ArrowRight"):
+        page.key(name)
+    page.wait("marked('in-field').join() === '20,21' && document.querySelector('#tree [aria-selected=true] .name').textContent === 'wTotalLength'")
+    page.key("ArrowDown")
+    page.wait("marked('cursor')[0] === 36 && document.querySelector('#tree [aria-selected=true] .words')?.textContent === 'HID'")
+    page.value("at('tab-tree').focus()")
+    page.key("ArrowRight")
+    held("tabs by keys", page.value("!at('text-view').hidden && at('tree-view').hidden && document.activeElement.id === 'tab-text'"))
+    page.value("tab('tree')")
+    said("tree, bytes, tabs and packets by keys alone")
+
+
 def pastes(page, usbdesc):
     """Each form of hexadecimal text, and what stops others."""
     forms = [it for it in sorted(glob.glob(f"{ROOT}/testdata/hexadecimal/keyboard.*")) if not it.endswith(".explain")]
