@@ -27,6 +27,44 @@ const WRITE = {
 const WIDTHS = { uint8_t: 1, uint16_t: 2, uint32_t: 4, uint64_t: 8 };
 const rounded = length => Math.ceil(length / ALIGN) * ALIGN;
 
+function taken(exports, length) {
+    const place = exports.nzg_lowered_alloc(BigInt(length + ALIGN), BigInt(ALIGN)) >>> 0;
+    if (!place) throw new RangeError('no memory');
+    return place;
+}
+
+// Bytes, or a struct, that lie in the library's memory until they are freed. They stand for a Uint8Array or an object in any number
+// of calls, which copy nothing.
+export class Held {
+    constructor(exports, bytes) {
+        this.exports = exports;
+        this.length = bytes.length;
+        this.place = taken(exports, bytes.length);
+        this.set(bytes);
+    }
+
+    static struct(exports, kind) {
+        return new Held(exports, new Uint8Array(structs[kind].size));
+    }
+
+    set(bytes) {
+        new Uint8Array(this.exports.memory.buffer).set(bytes, this.place);
+    }
+
+    copy() {
+        return new Uint8Array(this.exports.memory.buffer, this.place, this.length).slice();
+    }
+
+    field(kind, name) {
+        const [, type, count, place] = structs[kind].fields.find(([it]) => it === name);
+        return fieldAt(new DataView(this.exports.memory.buffer), this.place + place, type, count);
+    }
+
+    free() {
+        this.exports.rattle_dealloc(this.place);
+    }
+}
+
 function fieldAt(view, at, kind, count) {
     if (kind in structs) return structAt(view, at, kind);
     if (!count) return READ[kind](view, at);
@@ -52,6 +90,7 @@ function putStruct(view, at, kind, value) {
 
 // How many bytes a parameter takes in the library's memory.
 function lengthOf([role, , kind], value, room) {
+    if (value instanceof Held) return 0;
     if (role === 'bytes') return value.length;
     if (role === 'room') return room * (structs[kind]?.size ?? 1);
     return role === 'number' ? 0 : structs[kind].size;
@@ -66,8 +105,7 @@ function once(exports, name, { result, parameters }, given, room) {
         part.place = total;
         total += rounded(part.length);
     }
-    const base = exports.nzg_lowered_alloc(BigInt(total + ALIGN), BigInt(ALIGN)) >>> 0;
-    if (!base) throw new RangeError('no memory');
+    const base = taken(exports, total);
     try {
         const words = lent(exports, all, base, room);
         const came = exports[name](...answer ? [base] : [], ...words);
@@ -81,13 +119,13 @@ function once(exports, name, { result, parameters }, given, room) {
 function lent(exports, all, base, room) {
     const view = new DataView(exports.memory.buffer), bytes = new Uint8Array(exports.memory.buffer), words = [];
     for (const { it: [role, , kind], value, length, place } of all) {
-        const at = base + place;
-        bytes.fill(0, at, at + length);
+        const at = value instanceof Held ? value.place : base + place;
+        if (role !== 'bytes') bytes.fill(0, at, at + length);
+        else if (length) bytes.set(value, at);
         if (role === 'number') words.push(kind === 'size' || kind === 'uint64_t' ? BigInt(value) : Number(value));
         else words.push(at);
-        if (role === 'bytes') bytes.set(value, at);
-        if (role === 'bytes' || role === 'room') words.push(BigInt(role === 'room' ? room : length));
-        if (role === 'struct' || role === 'lent') putStruct(view, at, kind, value);
+        if (role === 'bytes' || role === 'room') words.push(BigInt(role === 'room' ? room : value.length));
+        if ((role === 'struct' || role === 'lent') && !(value instanceof Held)) putStruct(view, at, kind, value);
     }
     return words;
 }
@@ -96,7 +134,7 @@ function lent(exports, all, base, room) {
 function given_back(exports, result, all, base, room, came) {
     const view = new DataView(exports.memory.buffer);
     for (const { it: [role, , kind], value, place } of all)
-        if (role === 'struct') Object.assign(value, structAt(view, base + place, kind));
+        if (role === 'struct' && !(value instanceof Held)) Object.assign(value, structAt(view, base + place, kind));
     if (!structs[result]) return result === 'bool' ? came !== 0 : result === 'uint8_t' ? came & 0xff : result === 'uint16_t' ? came & 0xffff : came;
     const answer = structAt(view, base, result);
     const length = answer.status === NO_ROOM ? 0 : Math.min(answer.length, room);

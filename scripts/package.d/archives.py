@@ -197,6 +197,7 @@ def installed(made, libdir, prefix):
         f"{libdir}/pkgconfig/nozzlegorse.pc": (config.encode(), 0o644),
         "include/nozzlegorse.h": (read(f"{made.room}/nozzlegorse.h"), 0o644),
         "share/doc/nozzlegorse/copyright": (read(f"{ROOT}/LICENSE"), 0o644),
+        "share/doc/nozzlegorse/nozzlegorse.html": (read(f"{made.room}/nozzlegorse.html"), 0o644),
         "bin/nozzlegorse": (STARTS.format(library=f"{libdir}/{major}").encode(), 0o755),
         **{f"share/nozzlegorse/python/{name}": (with_version(path, made), 0o644) for name, path in python_module().items()},
         "share/nozzlegorse/python/__main__.py": (MAIN.encode(), 0o644),
@@ -289,6 +290,7 @@ def wheel(made):
     # In the package's folder, which pip removes whole.
     files |= {f"nozzlegorse/{path}": it for path, it in (shared() | pages_of(made)).items()}
     files[f"{info}/entry_points.txt"] = b"[console_scripts]\nnozzlegorse = nozzlegorse.command:main\n", 0o644
+    files["nozzlegorse/nozzlegorse.html"] = read(f"{made.room}/nozzlegorse.html"), 0o644
     files["nozzlegorse/include/nozzlegorse.h"] = read(f"{made.room}/nozzlegorse.h"), 0o644
     files[f"{info}/METADATA"] = metadata(made).encode(), 0o644
     files[f"{info}/WHEEL"] = f"Wheel-Version: 1.0\nGenerator: nozzlegorse\nRoot-Is-Purelib: false\nTag: {WHEEL}\n".encode(), 0o644

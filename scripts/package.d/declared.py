@@ -126,12 +126,12 @@ def roles(call):
             yield "number", it.name, it.kind
 
 
-def javascript(text):
-    """The module of what is declared."""
+def javascript(text, names=None):
+    """The module of what is declared, or of these calls alone."""
     shapes = {short(name): {"size": it.size, "fields": [[field.name, short(field.kind), field.count, field.at] for field in it.fields]}
               for name, it in structs(text).items()}
     declared = {name: {"result": short(it.result), "parameters": [[role, name, short(kind)] for role, name, kind in roles(it)]}
-                for name, it in calls(text).items()}
+                for name, it in calls(text).items() if names is None or name in names}
     parts = {"structs": shapes, "calls": declared, "enumerations": {short(name): it for name, it in enumerations(text).items()}}
     return "// Made of nozzlegorse.h.\n" + "".join(f"export const {name} = {json.dumps(it)};\n" for name, it in parts.items())
 

@@ -1,0 +1,162 @@
+"""Texts, marks, and the ways by which bytes come in."""
+
+import glob
+import importlib.util
+import json
+import os
+import re
+
+from . import array, data_of, held, inputs, program, ready, said
+from playing.built import ROOT
+
+OPTIONS = ("explain", "--utf8", "--formats")
+HEADING = re.compile(r" @(\d+)\+(\d+)$", re.M)
+IN_HEXADECIMAL = re.compile(r"^hexadecimal text, \d+ bytes: ")
+# The module of the wheel by itself, since its package wants the library.
+SPEC = importlib.util.spec_from_file_location("of_wheel", f"{ROOT}/python/nozzlegorse/page.py")
+OF_WHEEL = importlib.util.module_from_spec(SPEC)
+SPEC.loader.exec_module(OF_WHEEL)
+HOSTILE = '<img src=x onerror="document.title=1"></script><b>&amp;'
+
+
+def texts_and_marks(page, usbdesc):
+    """Of each example the text is the program's, and each heading marks the bytes of its place."""
+    count = headings = 0
+    for name, data in inputs():
+        wanted, _, _ = program(usbdesc, *OPTIONS, given=data)
+        came = page.value(f"(async () => {{ await drop({array(data)}, {json.dumps(name)}); return textShown() }})()")
+        held(f"{name}: the text is the program's", came == wanted, difference(came, wanted))
+        places = [[int(it[0]), int(it[1])] for it in HEADING.findall(wanted)]
+        marks = page.value("""(() => [...document.querySelectorAll('#tree .heading')].map(it => it.id).map(id => {
+            at(id).querySelector('.words').click();
+            const marks = marked('in-descriptor');
+            return [marks[0] ?? -1, marks.length];
+        }))()""")
+        visible = [[it[0] if it[1] else -1, it[1]] for it in places]
+        held(f"{name}: each heading marks its bytes", marks == visible, marks, visible)
+        count, headings = count + 1, headings + len(marks)
+    said(f"{count} texts are the program's, and {headings} headings mark their bytes")
+
+
+def difference(came, wanted):
+    for one, other in zip(came.split("\n"), wanted.split("\n")):
+        if one != other:
+            return f"{one!r} in place of {other!r}"
+    return f"{len(came)} characters in place of {len(wanted)}"
+
+
+def fields(page):
+    """A field marks its bytes, and each byte of a descriptor its field."""
+    name, data = "files/gadget-webcam.file", data_of(f"{ROOT}/testdata/files/gadget-webcam.file")
+    page.value(f"drop({array(data)}, {json.dumps(name)})")
+    told = page.value("""(async () => {
+        const found = [];
+        for (let place = 0; place < 320; place++) {
+            const picked = () => document.querySelector('#tree [aria-selected=true]');
+            picked()?.setAttribute('aria-selected', false);
+            at(`byte-${place}`).click();
+            const line = await until(picked);
+            const part = name => line.querySelector(`.${name}`)?.textContent;
+            found.push([place, part('name'), part('value'), marked('in-field')]);
+        }
+        return found;
+    })()""")
+    numbers = 0
+    for place, name, value, marks in told:
+        held(f"byte {place} marks its field", place in marks if name else not marks, name, value, marks)
+        number = re.match(r"0x[0-9a-f]+|\d+", value or "")
+        if number and name != "bytes" and len(marks) <= 4:
+            numbers += 1
+            held(f"{name} at {place} is {value}", int(number[0], 0) == int.from_bytes(data[marks[0] : marks[-1] + 1], "little"), marks)
+    said(f"320 bytes mark their fields, {numbers} of them in a field with the value of its bytes")
+
+
+def keys(page):
+    """By keys alone a descriptor is found, folded and marked, and a byte finds its field."""
+    data = data_of(f"{ROOT}/testdata/files/qemu-usb-mouse.file")
+    page.value(f"(async () => {{ await drop({array(data)}, 'mouse'); at('tree').focus() }})()")
+
+    def after(*names):
+        for name in names:
+            page.key(name)
+        return page.value("[document.querySelector('#tree [aria-selected=true] .words, #tree [aria-selected=true] .name')?.textContent, marked('in-field')]")
+
+    def count():
+        return page.value("document.querySelectorAll('#tree .row').length")
+
+    all_rows = count()
+    held("down", after("ArrowDown", "ArrowDown")[0].startswith("device 0627"))
+    held("a field", after("ArrowDown") == ["bcdUSB", []] or page.wait("marked('in-field').join() === '2,3'") >= 0)
+    after("ArrowLeft", "ArrowLeft")
+    held("the fields are gone", count() == all_rows - 12, count())
+    after("ArrowLeft")
+    held("folded", count() < all_rows - 12 and page.value("document.querySelector('#tree [aria-selected=true]').getAttribute('aria-expanded')") == "false", count())
+    after("ArrowRight", "ArrowRight")
+    held("unfolded", count() == all_rows, count())
+    held("the last line", after("End")[0] == "no findings, 3 remarks")
+    page.value("(async () => { at('bytes').focus(); at('byte-18').click(); await sleep(50) })()")
+    for name in ("ArrowRight", "ArrowRight"):
+        page.key(name)
+    page.wait("marked('in-field').join() === '20,21' && document.querySelector('#tree [aria-selected=true] .name').textContent === 'wTotalLength'")
+    page.key("ArrowDown")
+    page.wait("marked('cursor')[0] === 36 && document.querySelector('#tree [aria-selected=true] .words')?.textContent === 'HID'")
+    page.value("at('tab-tree').focus()")
+    page.key("ArrowRight")
+    held("tabs by keys", page.value("!at('text-view').hidden && at('tree-view').hidden && document.activeElement.id === 'tab-text'"))
+    page.value("tab('tree')")
+    said("tree, bytes, tabs and packets by keys alone")
+
+
+def pastes(page, usbdesc):
+    """Each form of hexadecimal text, and what stops others."""
+    forms = [it for it in sorted(glob.glob(f"{ROOT}/testdata/hexadecimal/keyboard.*")) if not it.endswith(".explain")]
+    for path in forms:
+        data = data_of(path)
+        wanted = IN_HEXADECIMAL.sub("", program(usbdesc, *OPTIONS, given=data)[0])
+        came = page.value(f"(async () => {{ await paste({json.dumps(data.decode())}); return textShown() }})()")
+        held(f"{os.path.basename(path)} is read", came == wanted, difference(came, wanted), page.value("at('told').textContent"))
+    for text in ("hello", "12 01 0g", "09 02\n09 00 0", "12 01 é 00", "[9, 80]", "/* 09 02"):
+        line, column = map(int, re.findall(r"\d+", program(usbdesc, *OPTIONS, "--hex", given=text.encode())[1]))
+        told, mark, before = page.value(f"""(async () => {{
+            await paste({json.dumps(text)});
+            return [at('told').textContent, document.querySelector('#behind mark')?.textContent, at('behind').firstChild?.textContent];
+        }})()""")
+        held(f"{text!r} stops at line {line}, column {column}", f"ine {line}, column {column}" in told, told)
+        held(f"{text!r}: that is marked in the box", mark is not None and len(before.split("\n")[-1].encode()) == column - 1, mark, before)
+    said(f"{len(forms)} forms of hexadecimal text are read, and of 6 others the box shows what stops them")
+
+
+def hostile(page):
+    """A device's string, a file's name and a pasted text are no markup."""
+    data = bytearray(data_of(f"{ROOT}/testdata/files/qemu-usb-mouse.file"))
+    place = data.index("QEMU USB Mouse".encode("utf-16-le")) - 2
+    text = HOSTILE.encode("utf-16-le")
+    data[place : place + data[place]] = bytes([len(text) + 2, 3]) + text
+    count = page.value("document.querySelectorAll('*').length && document.querySelectorAll('img, b').length")
+    page.value(f"drop({array(data)}, {json.dumps(HOSTILE)})")
+    for name in ("tree", "text", "picture", "ladder"):
+        page.value(f"tab('{name}'); sleep(200)")
+        held(f"a hostile string on the tab {name} is no markup", page.value("document.querySelectorAll('img, b').length") == count)
+    held("a hostile string is shown", HOSTILE in page.value("textShown()").replace("\\0022", '"'), page.value("textShown()"))
+    held("a hostile name is shown", page.value("at('told').textContent") == HOSTILE)
+    page.value(f"paste({json.dumps(HOSTILE)})")
+    held("a hostile text is no markup", page.value("document.querySelectorAll('img, b').length") == count and page.value("document.title") != "1")
+    page.value("tab('tree')")
+    said("a hostile string, name and text are shown and are no markup")
+
+
+def links(page, file, usbdesc, room):
+    """Bytes behind the # of the address are read; a copied link has those that are shown."""
+    data = data_of(f"{ROOT}/testdata/dumps/matias-keyboard.descriptors")
+    ready(page, f"{file}#{data.hex()}")
+    wanted = program(usbdesc, *OPTIONS, given=data)[0]
+    held("the address's bytes are read", page.value("until(() => textShown())") == wanted)
+    page.value("history.replaceState(null, '', '#'); at('link').click(); sleep(200)")
+    held("a link has the bytes", page.value("location.hash") == f"#{data.hex()}")
+    with open(file, encoding="utf-8") as it:
+        given = OF_WHEEL.page_of(it.read(), data, HOSTILE)
+    with open(f"{room}/given.html", "w", encoding="utf-8") as it:
+        it.write(given)
+    ready(page, f"{room}/given.html")
+    held("bytes that were put into the file are read", page.value("until(textShown)") == wanted and page.value("at('told').textContent") == HOSTILE)
+    said("an address has the bytes, both ways, and so has a file into which nozzlegorse.page put them")

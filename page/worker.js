@@ -1,0 +1,23 @@
+// The library in a worker, so that the page never stands still: each message is a call, and is answered by its value or why it failed.
+import { Library } from './library.js';
+
+let library;
+
+async function opened(module) {
+    const { instance } = await WebAssembly.instantiate(module, {});
+    library = new Library(instance.exports);
+}
+
+// An explanation isn't copied: its memory becomes the page's.
+function buffersOf({ text, lines: { starts, kinds, headings } }) {
+    return [text, starts, kinds, ...Object.values(headings)].map(it => it.buffer);
+}
+
+onmessage = async ({ data: { number, call, given } }) => {
+    try {
+        const value = await (call === 'open' ? opened(...given) : library[call](...given));
+        postMessage({ number, value }, call === 'read' ? buffersOf(value) : []);
+    } catch (error) {
+        postMessage({ number, error: String(error) });
+    }
+};
