@@ -50,7 +50,7 @@ fn made(command: &str, fates: &str, bytes: &[u8]) -> Result<Vec<u8>, Fault> {
     };
     Ok(match command {
         "show-" => show(bytes)?.into(),
-        "check" => check(bytes)?.iter().map(|it| format!("{it}\n")).collect::<String>().into(),
+        "check" => check(bytes)?.iter().map(|it| format!("{} V{}\n", it.place, it.rule)).collect::<String>().into(),
         "remarks" => remarks(bytes, Some(Speed::High))?.iter().map(|it| format!("{it}\n")).collect::<String>().into(),
         "build" | "build-" => build(bytes, command == "build-")?,
         "text" => from_text(bytes)?,

@@ -4,7 +4,6 @@ use Rattle.usb_text.specs.Shown.{Shown}
 use Rattle.usb_text.specs.Written.{LineBytes}
 use Rattle.usb_c.specs.declared.answer.Verdict.{Verdict}
 use Rattle.usb_c.specs.declared.answer.Verdict.TheVariants as verdicts
-use Rattle.usb_host.specs.declared.step.Trouble.{Trouble}
 use Rattle.usb_host.specs.declared.step.Step.{Step}
 use Rattle.usb_host.specs.declared.step.Step.TheVariants as steps
 use Rattle.usb_host.specs.declared.why.Why.{Why}

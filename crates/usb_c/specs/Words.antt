@@ -1,5 +1,5 @@
 -- What is found, remarked and at fault, and why an enumeration failed, in words.
-use Rattle.std.specs.Prelude.{◌≡◌, ℕ, ◌⊎◌, ◌++◌, ◌==◌, List, [], false, Option, Some, None, option_and_then, option_map, if◌then◌else◌}
+use Rattle.std.specs.Prelude.{◌≡◌, ℕ, ◌⊎◌, ◌==◌, List, [], false, Option, Some, None, option_and_then, option_map, if◌then◌else◌}
 use Rattle.std.specs.List.{find}
 use Rattle.usb_text.specs.Shown.{Shown, showing_all, with_shown}
 use Rattle.usb_text.specs.Written.{LineBytes, no_lines, written}
