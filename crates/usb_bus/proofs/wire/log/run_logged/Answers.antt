@@ -1,4 +1,5 @@
 use Rattle.std.proofs.Common.{◌∙◌, IfSome, refl, ap, subst, arith}
+use Rattle.usb_host.specs.Terms.{everything}
 use Rattle.usb_host.specs.Steps.{new_host}
 use Rattle.usb_host.proofs.LowerLemmas.{asks_less}
 use Rattle.usb_bus.specs.Enumerate.{Pair, both}
@@ -10,7 +11,7 @@ use Rattle.usb_bus.proofs.wire.log.run_logged.Goals as goal
 pub loop-host-init : goal.loop-host-init
 loop-host-init g c =
     let new = c.new-host.ensures ∙ ap (λ s. new_host c.args.limits s) c.speed.ensures in
-    let most_new = asks_less.at_most c.args.limits c.args.d.now.speed in
+    let most_new = asks_less.at_most c.args.limits c.args.d.now.speed everything in
     let low = c.known-2.ensures.address_to in
     let l = c.args.log.now.logging in
     record {
