@@ -155,7 +155,7 @@ struct nzg_field {
 };
 /* The n-th field of a descriptor, from 0. False where it has none, or is none of these bytes: nothing changes then. */
 bool nzg_field(const uint8_t *bytes, nzg_size len, const struct nzg_descriptor *descriptor, nzg_size n, struct nzg_field *field);
-/* All of them at once. Room and length count fields; a descriptor has at most 254. */
+/* All of them at once, and none where it is none of these bytes. Room and length count fields: at most 254. */
 struct nzg_answer nzg_fields(const uint8_t *bytes, nzg_size len, const struct nzg_descriptor *descriptor, struct nzg_field *fields, nzg_size room);
 /* The first with this name, as wMaxPacketSize. False as nzg_field. */
 bool nzg_field_named(const uint8_t *bytes, nzg_size len, const struct nzg_descriptor *descriptor, const uint8_t *name, nzg_size name_len, struct nzg_field *field);
