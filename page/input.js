@@ -1,5 +1,6 @@
 // Where bytes come from: a text in the box, a file, the address, an example, a device.
-export const MOST_BYTES = 16_000_000;
+// The library's text of so many bytes has up to 150 million characters.
+export const MOST_BYTES = 4_194_304;
 // So many are written into the box, and into an address.
 const MOST_WRITTEN = 16_384;
 

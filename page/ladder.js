@@ -8,6 +8,8 @@ const HEIGHTS = { sides: 24, attempt: 34, transfer: 26, end: 20 };
 // More is drawn in a text alone.
 const MOST = 20_000;
 const AROUND = 600;
+// Where on its way a lost packet ends: past its name.
+const LOST_AFTER = 0.8;
 
 const isNarrow = width => width < 620;
 
@@ -99,7 +101,7 @@ export class Ladder {
 
     packet(row, packet, i, k, y) {
         const [from, to] = packet.isOfHost ? [this.host, this.device] : [this.device, this.host];
-        const end = packet.isLost ? from + (to - from) * 0.55 : to, way = Math.sign(to - from);
+        const end = packet.isLost ? from + (to - from) * LOST_AFTER : to, way = Math.sign(to - from);
         const isAt = this.at.row === i && this.at.packet === k;
         const made = svg('g', { class: `packet from-${packet.isOfHost ? 'host' : 'device'}${packet.isLost ? ' is-lost' : ''}${isAt ? ' is-at' : ''}`, id: `packet-${i}-${k}`, role: 'option', 'aria-selected': isAt });
         made.dataset.row = i;

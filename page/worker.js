@@ -1,6 +1,7 @@
 // The library in a worker, so that the page never stands still: each message is a call, and is answered by its value or why it failed.
 import { Library } from './library.js';
 
+const NO_MEMORY = 'This browser gives the library no more memory.';
 let library;
 
 async function opened(module) {
@@ -18,6 +19,6 @@ onmessage = async ({ data: { number, call, given } }) => {
         const value = await (call === 'open' ? opened(...given) : library[call](...given));
         postMessage({ number, value }, call === 'read' ? buffersOf(value) : []);
     } catch (error) {
-        postMessage({ number, error: String(error) });
+        postMessage({ number, error: error instanceof RangeError ? NO_MEMORY : String(error) });
     }
 };

@@ -115,7 +115,7 @@ def pastes(page, usbdesc):
         wanted = IN_HEXADECIMAL.sub("", program(usbdesc, *OPTIONS, given=data)[0])
         came = page.value(f"(async () => {{ await paste({json.dumps(data.decode())}); return textShown() }})()")
         held(f"{os.path.basename(path)} is read", came == wanted, difference(came, wanted), page.value("at('told').textContent"))
-    for text in ("hello", "12 01 0g", "09 02\n09 00 0", "12 01 é 00", "[9, 80]", "/* 09 02"):
+    for text in ("hello", "12 01 0g", "09 02\n09 00 0", "12 01 é 00", "/* é */ 0x12, zz", "[9, 80]", "/* 09 02"):
         line, column = map(int, re.findall(r"\d+", program(usbdesc, *OPTIONS, "--hex", given=text.encode())[1]))
         told, mark, before = page.value(f"""(async () => {{
             await paste({json.dumps(text)});
@@ -123,7 +123,7 @@ def pastes(page, usbdesc):
         }})()""")
         held(f"{text!r} stops at line {line}, column {column}", f"ine {line}, column {column}" in told, told)
         held(f"{text!r}: that is marked in the box", mark is not None and len(before.split("\n")[-1].encode()) == column - 1, mark, before)
-    said(f"{len(forms)} forms of hexadecimal text are read, and of 6 others the box shows what stops them")
+    said(f"{len(forms)} forms of hexadecimal text are read, and of 7 others the box shows what stops them")
 
 
 def hostile(page):
