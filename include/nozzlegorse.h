@@ -180,7 +180,7 @@ struct nzg_remark {
 /* The same of remarks, which break no rule: those of `usbdesc check --remarks`. The speed is that at which the device ran. */
 struct nzg_answer nzg_remarks(const uint8_t *bytes, nzg_size len, uint8_t speed, struct nzg_remark *remarks, nzg_size room);
 /* What a finding or a remark of these bytes says, in the words of `usbdesc explain`, which have its cause. Of the struct `place` and `rule`
- * or `number` are looked at. A bad argument where there is none; of other bytes the fault of nzg_judge. */
+ * or `number` are looked at. A bad argument where there is none; of other bytes the fault of nzg_judge. Each call reads the bytes anew. */
 struct nzg_answer nzg_finding_text(const uint8_t *bytes, nzg_size len, const struct nzg_finding *finding, uint8_t *text, nzg_size room);
 struct nzg_answer nzg_remark_text(const uint8_t *bytes, nzg_size len, uint8_t speed, const struct nzg_remark *remark, uint8_t *text, nzg_size room);
 /* What is wrong with bytes, in the words of `usbdesc explain`: done, with the fault's place, and as number that of the set's fault,
