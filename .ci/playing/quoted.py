@@ -7,14 +7,12 @@ import re
 from playing import examples
 from playing.row import rows_of
 
-SOURCES = "../../usb_explain/src/*.rt", "../../usb_names/src/*.rt"
-# What `check` alone writes: the line of a remark.
-OF_CHECK = {"R{number} {part} {set} {setting} {endpoint}", "{placed}"}
+SOURCES = "../../usb_explain/src/**/*.rt", "../../usb_names/src/*.rt"
 
 
 def quoted():
     """Each text between quotation marks in the code, but not in comments, attributes and what only proofs read."""
-    for path in (path for pattern in SOURCES for path in glob.glob(pattern)):
+    for path in (path for pattern in SOURCES for path in glob.glob(pattern, recursive=True)):
         for line in examples.bytes_of(path).decode().splitlines():
             if not re.match(r" *(//|#\[|ghost )", line):
                 yield from map(json.loads, re.findall(r'"(?:[^"\\]|\\.)+"', line))
@@ -42,7 +40,7 @@ def one_of(texts):
 def unseen():
     """The texts that no wanted line has. A name that is a part of another text isn't seen there, as `microphone` in
     `microphone array`; what joins names is, as ` bytes at `."""
-    texts = set(quoted()) - OF_CHECK
+    texts = set(quoted())
     names = {it for it in texts if it[0].isalnum()}
     lines = "\n".join(set(wanted()))
     found = set(re.findall(f"(?<![A-Za-z])(?:{one_of(names)})|{one_of(texts - names)}", lines))

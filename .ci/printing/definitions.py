@@ -9,7 +9,7 @@ from . import reach, sources
 STANDARD = """
 usb_fields/Bytes usb_fields/Setup usb_fields/Fields usb_fields/Device usb_fields/Units usb_fields/Packets
 usb_wire/Crc usb_wire/Standard usb_wire/Packets usb_wire/Damages usb_wire/Changes
-usb_set/Descriptors usb_set/Owners usb_set/Layout usb_explain/Remarks usb_file_data/File usb_file_data/Places
+usb_set/Descriptors usb_set/Owners usb_set/Layout usb_remarks/Remarks usb_file_data/File usb_file_data/Places
 usb_file_data/Rules usb_device/Descriptors usb_device/States usb_device/Requests usb_device/Step usb_device/Beside
 usb_device/View usb_host/Transfer usb_host/Read usb_host/Order
 """.split()

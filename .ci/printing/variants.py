@@ -30,7 +30,7 @@ def printed(path, name):
 # What is put in a line beside words, and how a table shows it.
 PUT = {
     **{"put_decimal": "N", "put_release": "N.NN", "put_word_code": "0xNNNN", "put_size_found": "wMaxPacketSize is N bytes"},
-    **{"put_sizes": "SIZES", "speed.words": "SPEED", "packet_section": " (SECTION)"},
+    **{"put_sizes": "SIZES", "speed_words": "SPEED", "packet_section": " (SECTION)"},
 }
 
 

@@ -25,7 +25,7 @@ pub use Rattle.usb_listing.specs.Comments
 pub use Rattle.usb_listing.specs.Comments
 pub use Rattle.usb_listing.specs.Listings
 pub use Rattle.usb_explain.specs.Explanations
-pub use Rattle.usb_explain.specs.Outline
+pub use Rattle.usb_remarks.specs.Outline
 pub use Rattle.usb_explain.specs.Fields
 pub use Rattle.usb_file_data.specs.Rules
 pub use Rattle.usb_file_data.specs.Findings

@@ -29,10 +29,7 @@ pub mod descriptors {
 /// All descriptors of a device in a file; their listing for people, which is read back to the same file; each of them as a
 /// value, with its owner, its findings and its fields; and what they mean, in words.
 pub mod files {
-    pub use usb_explain::{
-        ClassCodes, Descriptor, Field, Fields, Form, IntervalRange, Look, Manner, Outline,
-        PacketSizes, Remark, SetSpeed, explain,
-    };
+    pub use usb_explain::{ClassCodes, Field, Fields, Form, Look, Manner, explain};
     pub use usb_file::{
         DescriptorFile, FILE_LIMIT, Input, NoMemory, Other, Strings, WriteFault, named, read_file,
         read_input, write_file, write_refusal,
@@ -41,6 +38,7 @@ pub mod files {
     pub use usb_listing::{
         LISTING_LIMIT, ListFault, ListWhy, assemble, assemble_commented, list, list_set,
     };
+    pub use usb_remarks::{Descriptor, IntervalRange, Outline, PacketSizes, Remark, SetSpeed};
     pub use usb_text::OutFault;
     pub use usb_walk::{DescriptorOwner, InterfaceSetting, Role};
 }

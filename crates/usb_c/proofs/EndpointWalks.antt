@@ -5,16 +5,16 @@ use Rattle.std.proofs.lemmas.List.{drop-drop, length-take-le}
 use Rattle.usb_walk.specs.declared.position.Position.{Position}
 use Rattle.usb_walk.specs.declared.role.Role.{Role}
 use Rattle.usb_walk.specs.declared.role.Role.TheVariants as roles
-use Rattle.usb_explain.specs.Numbered.{Numbered, first_numbered, next_position, numbered, numbered_next}
-use Rattle.usb_explain.specs.OwnedEndpoints.{OwnedEndpoint, endpoint_by_role}
+use Rattle.usb_remarks.specs.Numbered.{Numbered, first_numbered, next_position, numbered, numbered_next}
+use Rattle.usb_remarks.specs.OwnedEndpoints.{OwnedEndpoint, endpoint_by_role}
 use Rattle.usb_walk.specs.Owners.{owner_of}
 use Rattle.usb_walk.specs.Positions.{first_position, noted}
 use Rattle.usb_walk.specs.Roles.{next_role}
-use Rattle.usb_explain.proofs.EndpointsShown.{among, in_tree}
-use Rattle.usb_explain.proofs.NumberedLemmas.{numbered_none, numbered_some}
-use Rattle.usb_explain.proofs.Outlines.{next_bounds}
+use Rattle.usb_remarks.proofs.EndpointsShown.{among, in_tree}
+use Rattle.usb_remarks.proofs.NumberedLemmas.{numbered_none, numbered_some}
+use Rattle.usb_remarks.proofs.Outlines.{next_bounds}
 use Rattle.usb_walk.proofs.Positions.{noted_at, same_at}
-use Rattle.usb_explain.proofs.Spans.{next_first}
+use Rattle.usb_remarks.proofs.Spans.{next_first}
 use Rattle.usb_c.specs.declared.descriptor.NzgDescriptor.{NzgDescriptor}
 use Rattle.usb_c.specs.Descriptors.{all_as_numbers, as_numbers, nothing}
 use Rattle.usb_c.specs.WalkedEndpoints.{WalkHasEndpoints, endpoint_walked}

@@ -14,7 +14,7 @@ use Rattle.usb_walk.specs.declared.role.Role.{Role}
 use Rattle.usb_walk.specs.declared.role.Role.TheVariants as roles
 use Rattle.usb_explain.specs.FieldLaws.{first_place, has_fields, span_of_field}
 use Rattle.usb_explain.specs.Fields.{PlacedField, fields_of, placed_of}
-use Rattle.usb_explain.specs.Laws.{Follow, Span}
+use Rattle.usb_remarks.specs.OutlineLaws.{Follow, Span}
 use Rattle.usb_explain.proofs.FieldsCover.{fields_have_all_bytes}
 use Rattle.usb_walk.specs.Positions.{Counted}
 use Rattle.usb_c.specs.Descriptors.{is_counted}

@@ -17,16 +17,16 @@ use Rattle.usb_file_data.specs.Findings.{found_in_order, part_of_kind}
 use Rattle.usb_file_data.specs.Inputs.{IsInput}
 use Rattle.usb_file_data.specs.Places.{at_each}
 use Rattle.usb_file_data.proofs.Counts.{AllStrings, all_strings}
-use Rattle.usb_explain.specs.Laws.{as_in_tree}
-use Rattle.usb_explain.specs.Numbered.{FactsByPosition, Numbered, facts_by_position, facts_of, numbered}
+use Rattle.usb_remarks.specs.OutlineLaws.{as_in_tree}
+use Rattle.usb_remarks.specs.Numbered.{FactsByPosition, Numbered, facts_by_position, facts_of, numbered}
 use Rattle.usb_walk.specs.Owners.{of_set as owner_of_set}
-use Rattle.usb_explain.specs.Outline.{Described, outline}
+use Rattle.usb_remarks.specs.Outline.{Described, outline}
 use Rattle.usb_walk.specs.Positions.{first_position}
 use Rattle.usb_walk.specs.Roles.{next_role}
 use Rattle.usb_set.specs.Layout.{set_length}
 use Rattle.usb_walk.specs.Trees.{TreeDescriptor, other_descriptors, set_descriptors, string_descriptors, text_descriptor, tree_descriptors}
-use Rattle.usb_explain.proofs.NumberedLemmas.{numbers_are_outline}
-use Rattle.usb_explain.proofs.rest.Inputs.{whole_shows}
+use Rattle.usb_remarks.proofs.NumberedLemmas.{numbers_are_outline}
+use Rattle.usb_remarks.proofs.rest.Inputs.{whole_shows}
 use Rattle.usb_c.specs.Descriptors.{indices_in, list_at, nothing, string_among, with_index}
 use Rattle.usb_c.specs.Strings.{WalkHasStrings, indexed, indexed_strings, strings_among, strings_of, string_places}
 use Rattle.usb_c.proofs.NamedIndices.{indices_named}

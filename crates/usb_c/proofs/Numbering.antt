@@ -1,7 +1,7 @@
 -- On the remarks that there are, as numbers.
 use Rattle.std.proofs.Common.{◌≡◌, ◌∙◌, List, [], ◌∷◌, Option, None, Some, ap, flat_map, map, refl}
-use Rattle.usb_explain.specs.declared.remark.Remark.{Remark}
-use Rattle.usb_explain.specs.RemarkValues.{there}
+use Rattle.usb_remarks.specs.declared.remark.Remark.{Remark}
+use Rattle.usb_remarks.specs.RemarkValues.{there}
 
 -- what is made of the remarks that there are
 map_there : {A : Type 0} (f : Remark → A) (remarks : List (Option Remark)) → flat_map (λ (r : Option Remark). map f (there r)) remarks ≡ map f (flat_map there remarks)

@@ -5,7 +5,7 @@ use Rattle.std.proofs.lemmas.List.{length-map, map_more, set_split}
 use Rattle.std.proofs.lemmas.Slice.{drop-append-drop}
 use Rattle.std.proofs.Math.ListN.{set}
 use Rattle.std.proofs.Math.Seq.{take-append_seam}
-use Rattle.usb_explain.specs.Outline.{Described}
+use Rattle.usb_remarks.specs.Outline.{Described}
 use Rattle.usb_c.specs.Facts.{placed, placed_at}
 
 -- as many are put as stand at the descriptors

@@ -5,12 +5,12 @@ use Rattle.std.proofs.lemmas.List.{drop-drop, length-take-le}
 use Rattle.usb_walk.specs.declared.position.Position.{Position}
 use Rattle.usb_walk.specs.declared.role.Role.{Role}
 use Rattle.usb_walk.specs.declared.role.Role.TheVariants as roles
-use Rattle.usb_explain.specs.Numbered.{Numbered, first_numbered, numbered_next, next_position}
+use Rattle.usb_remarks.specs.Numbered.{Numbered, first_numbered, numbered_next, next_position}
 use Rattle.usb_walk.specs.Positions.{noted, position_at, with_set}
 use Rattle.usb_walk.specs.Roles.{next_role}
-use Rattle.usb_explain.proofs.NumberedLemmas.{numbered_none, numbered_some}
-use Rattle.usb_explain.proofs.Outlines.{next_bounds}
-use Rattle.usb_explain.proofs.Spans.{next_first}
+use Rattle.usb_remarks.proofs.NumberedLemmas.{numbered_none, numbered_some}
+use Rattle.usb_remarks.proofs.Outlines.{next_bounds}
+use Rattle.usb_remarks.proofs.Spans.{next_first}
 use Rattle.usb_walk.proofs.Positions.{noted_at, same_at}
 use Rattle.usb_c.specs.declared.descriptor.NzgDescriptor.{NzgDescriptor}
 use Rattle.usb_c.specs.declared.string_place.StringPlace.{StringPlace}

@@ -20,16 +20,16 @@ use Rattle.usb_walk.specs.declared.position.Position.{Position}
 use Rattle.usb_walk.specs.declared.role.Role.{Role}
 use Rattle.usb_walk.specs.declared.role.Role.TheVariants as roles
 use Rattle.usb_walk.specs.Surroundings.{depth_of}
-use Rattle.usb_explain.specs.Laws.{as_in_tree}
-use Rattle.usb_explain.specs.Numbered.{FactsByPosition, Numbered, facts_by_position, facts_of, first_numbered, next_position, numbered, numbered_next}
-use Rattle.usb_explain.specs.Outline.{Described, outline}
+use Rattle.usb_remarks.specs.OutlineLaws.{as_in_tree}
+use Rattle.usb_remarks.specs.Numbered.{FactsByPosition, Numbered, facts_by_position, facts_of, first_numbered, next_position, numbered, numbered_next}
+use Rattle.usb_remarks.specs.Outline.{Described, outline}
 use Rattle.usb_walk.specs.Owners.{of_endpoint, of_interface, of_set, owner_of}
 use Rattle.usb_walk.specs.Positions.{first_position, noted, position_at, with_set}
 use Rattle.usb_walk.specs.Roles.{next_role}
 use Rattle.usb_walk.specs.Trees.{TreeDescriptor, endpoint_descriptors, extra_descriptors, other_descriptors, set_descriptors, setting_descriptors, string_descriptors, text_descriptor, tree_descriptor, tree_descriptors}
-use Rattle.usb_explain.proofs.NumberedLemmas.{numbered_none, numbered_some, numbers_are_outline}
-use Rattle.usb_explain.proofs.rest.Inputs.{whole_shows}
-use Rattle.usb_explain.proofs.rest.Steps.{four_parts}
+use Rattle.usb_remarks.proofs.NumberedLemmas.{numbered_none, numbered_some, numbers_are_outline}
+use Rattle.usb_remarks.proofs.rest.Inputs.{whole_shows}
+use Rattle.usb_remarks.proofs.rest.Steps.{four_parts}
 use Rattle.usb_c.specs.declared.descriptor.NzgDescriptor.{NzgDescriptor}
 use Rattle.usb_c.specs.Descriptors.{all_as_numbers, as_numbers, holder_of_role, nothing, part_of_role, role_number, set_part}
 use Rattle.usb_c.specs.WalkedTrees.{TreeNumbers, WalkIsTree, endpoint_numbers, extra_numbers, numbers_of, other_numbers, part_number, plain_numbers, set_numbers, setting_numbers, string_numbers, tree_numbers}

@@ -6,12 +6,12 @@ use Rattle.std.proofs.lemmas.List.{drop-drop, length-take-le}
 use Rattle.std.proofs.lemmas.Option.{none-some}
 use Rattle.usb_walk.specs.declared.position.Position.{Position}
 use Rattle.usb_walk.specs.declared.role.Role.{Role}
-use Rattle.usb_explain.specs.Numbered.{first_numbered, numbered_next, next_position}
+use Rattle.usb_remarks.specs.Numbered.{first_numbered, numbered_next, next_position}
 use Rattle.usb_walk.specs.Positions.{Counted, first_position}
 use Rattle.usb_walk.specs.Roles.{next_role}
-use Rattle.usb_explain.proofs.NumberedLemmas.{numbered_none, numbered_some}
-use Rattle.usb_explain.proofs.Outlines.{next_bounds}
-use Rattle.usb_explain.proofs.Spans.{next_first}
+use Rattle.usb_remarks.proofs.NumberedLemmas.{numbered_none, numbered_some}
+use Rattle.usb_remarks.proofs.Outlines.{next_bounds}
+use Rattle.usb_remarks.proofs.Spans.{next_first}
 use Rattle.usb_walk.proofs.Positions.{counted_at, counted_noted, noted_at, same_at}
 use Rattle.usb_c.specs.declared.descriptor.NzgDescriptor.{NzgDescriptor}
 use Rattle.usb_c.specs.Descriptors.{AllGoOn, GoesOn, WalkIsNumbered, first_walked, is_counted, next_of, nothing, as_numbers, all_as_numbers, next_as_numbers}

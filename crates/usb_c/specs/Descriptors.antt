@@ -9,7 +9,7 @@ use Rattle.usb_walk.specs.declared.position.Position.{Position}
 use Rattle.usb_walk.specs.declared.role.Role.{Role}
 use Rattle.usb_walk.specs.declared.role.Role.TheVariants as roles
 use Rattle.usb_walk.specs.Surroundings.{depth_of}
-use Rattle.usb_explain.specs.Numbered.{Numbered, numbered, numbered_next, next_position}
+use Rattle.usb_remarks.specs.Numbered.{Numbered, numbered, numbered_next, next_position}
 use Rattle.usb_walk.specs.Positions.{first_position}
 use Rattle.usb_walk.specs.Roles.{next_role}
 use Rattle.usb_c.specs.declared.descriptor.NzgDescriptor.{NzgDescriptor}

@@ -3,12 +3,12 @@ use Rattle.std.specs.Prelude.{◌≡◌, ℕ, ◌⊎◌, List, flat_map, map, Op
 use Rattle.usb_file_data.specs.declared.file.Input.{Input}
 use Rattle.usb_file_data.specs.Findings.{found_in_order}
 use Rattle.usb_file_data.specs.Inputs.{InputFaulty, IsInput}
-use Rattle.usb_explain.specs.declared.remark.Remark.{Remark}
-use Rattle.usb_explain.specs.declared.speed.SetSpeed.{SetSpeed}
-use Rattle.usb_explain.specs.Findings.{part_number}
-use Rattle.usb_explain.specs.Outline.{Described, outline}
-use Rattle.usb_explain.specs.RemarkNumbers.{remark_number}
-use Rattle.usb_explain.specs.Remarks.{remarks_on}
+use Rattle.usb_remarks.specs.declared.remark.Remark.{Remark}
+use Rattle.usb_remarks.specs.declared.speed.SetSpeed.{SetSpeed}
+use Rattle.usb_remarks.specs.Findings.{part_number}
+use Rattle.usb_remarks.specs.Outline.{Described, outline}
+use Rattle.usb_remarks.specs.RemarkNumbers.{remark_number}
+use Rattle.usb_remarks.specs.Remarks.{remarks_on}
 use Rattle.usb_c.specs.declared.answer.Verdict.{Verdict}
 use Rattle.usb_c.specs.declared.remark.NzgRemark.{NzgRemark}
 use Rattle.usb_c.specs.Descriptors.{role_number}

@@ -13,8 +13,8 @@ use Rattle.usb_listing.specs.declared.fault.ListWhy.{ListWhy}
 use Rattle.usb_explain.specs.Explanations.{IsExplanation}
 use Rattle.usb_explain.specs.Subjects.{Reading}
 use Rattle.usb_explain.specs.declared.manner.Manner.{Manner}
-use Rattle.usb_explain.specs.declared.speed.SetSpeed.{SetSpeed}
-use Rattle.usb_explain.specs.declared.speed.SetSpeed.TheVariants as speeds
+use Rattle.usb_remarks.specs.declared.speed.SetSpeed.{SetSpeed}
+use Rattle.usb_remarks.specs.declared.speed.SetSpeed.TheVariants as speeds
 use Rattle.usb_file_data.specs.declared.file.DescriptorFile.{DescriptorFile}
 use Rattle.usb_file_data.specs.Findings.{input_findings}
 use Rattle.usb_listing.specs.Listing.{input_lines}

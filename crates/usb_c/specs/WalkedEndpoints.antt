@@ -4,7 +4,7 @@ use Rattle.std.specs.List.{flat_map}
 use Rattle.usb_file_data.specs.declared.file.Input.{Input}
 use Rattle.usb_file_data.specs.Inputs.{IsInput}
 use Rattle.usb_walk.specs.declared.role.Role.TheVariants as roles
-use Rattle.usb_explain.specs.OwnedEndpoints.{OwnedEndpoint, input_endpoints}
+use Rattle.usb_remarks.specs.OwnedEndpoints.{OwnedEndpoint, input_endpoints}
 use Rattle.usb_walk.specs.Owners.{of_endpoint, of_interface, set_of}
 use Rattle.usb_c.specs.declared.descriptor.NzgDescriptor.{NzgDescriptor}
 use Rattle.usb_c.specs.Descriptors.{role_number, walked}

@@ -2,8 +2,8 @@
 ghost use Rattle.std.specs.Prelude.{◌≡◌, ◌+◌, ◌≤◌, ◌++◌, None, drop, flat_map, length, take};
 ghost use Rattle.usb_file_data.specs.Inputs.{IsInput};
 ghost use Rattle.usb_file_data.specs.Numbers.{rule_numbered};
-ghost use Rattle.usb_explain.specs.Findings.{part_number};
-ghost use Rattle.usb_explain.specs.Outline.{described, outline};
+ghost use Rattle.usb_remarks.specs.Findings.{part_number};
+ghost use Rattle.usb_remarks.specs.Outline.{described, outline};
 ghost use Rattle.usb_c.specs.Answers.{AnswersOn, Fills};
 ghost use Rattle.usb_c.specs.Facts.{Finds, TellsRule, placed, placed_at, placed_findings};
 ghost use Rattle.usb_c.specs.declared.answer.Verdict.TheVariants as verdicts;
@@ -12,10 +12,10 @@ use crate::answer::{Answer, Verdict, refused_input};
 use crate::buffer::fill_done;
 use crate::walk::role_number;
 use std::alloc::Global;
-use usb_explain::laws::each_finding_is_reported_once;
-use usb_explain::{Descriptor, Outline};
 use usb_file::{Input, read_input};
 use usb_file_data::{Found, Part, Rule, found_in_order};
+use usb_remarks::laws::each_finding_is_reported_once;
+use usb_remarks::{Descriptor, Outline};
 
 /// A broken rule at the descriptor that breaks it: the struct `nzg_finding` of nozzlegorse.h.
 #[repr(C)]

@@ -1,8 +1,8 @@
 //! What is remarked of descriptors, as numbers.
 ghost use Rattle.std.specs.Prelude.{◌≡◌, ◌++◌, IfOk, OnOk, map};
 ghost use Rattle.std.specs.List.{flat_map};
-ghost use Rattle.usb_explain.specs.Outline.{described};
-ghost use Rattle.usb_explain.specs.RemarkValues.{there};
+ghost use Rattle.usb_remarks.specs.Outline.{described};
+ghost use Rattle.usb_remarks.specs.RemarkValues.{there};
 ghost use Rattle.usb_c.specs.Answers.{AnswersOn, Fills};
 ghost use Rattle.usb_c.specs.Remarks.{TellsRemarks, numbered, numbered_remarks, remarks_at};
 ghost use Rattle.usb_c.specs.Texts.{running_speed_told};
@@ -14,9 +14,9 @@ use crate::finding::part_number;
 use crate::text::running_speed;
 use crate::walk::role_number;
 use std::alloc::{AllocError, Global};
-use usb_explain::{Descriptor, Outline, Remark, SetSpeed};
 use usb_file::{Input, read_input};
 use usb_file_data::found_in_order;
+use usb_remarks::{Descriptor, Outline, Remark, SetSpeed};
 
 /// A remark on a descriptor, which breaks no rule: the struct `nzg_remark` of nozzlegorse.h.
 #[repr(C)]

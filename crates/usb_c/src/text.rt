@@ -14,10 +14,11 @@ use crate::answer::{Verdict, refused_input, refused_list, wants_memory};
 use crate::buffer::{fill_broken, fill_done};
 use crate::taken::{read_checked, read_listing, read_shown};
 use std::alloc::{AllocError, Global};
-use usb_explain::{Look, Manner, SetSpeed, explain};
+use usb_explain::{Look, Manner, explain};
 use usb_file::{DescriptorFile, Input, WriteFault, read_input, write_file};
 use usb_file_data::{InputFault, check_input, findings_text};
 use usb_listing::{list_input, list_set};
+use usb_remarks::SetSpeed;
 use usb_set::Configuration;
 use usb_text::OutFault;
 

@@ -1,6 +1,6 @@
 //! The walk from a descriptor to the next one.
 ghost use Rattle.std.specs.Prelude.{◌≡◌, ◌≤◌, ◌+◌, ◌<◌, ◌^◌, is_some, length, unwrap_or};
-ghost use Rattle.usb_explain.specs.Numbered.{numbered_next};
+ghost use Rattle.usb_remarks.specs.Numbered.{numbered_next};
 ghost use Rattle.usb_walk.specs.Positions.{Counted};
 ghost use Rattle.usb_c.specs.Descriptors.{is_counted, next_of, role_number, set_part, string_of_role, as_numbers, next_as_numbers, with_role};
 

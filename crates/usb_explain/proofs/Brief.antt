@@ -3,7 +3,7 @@ use Rattle.std.proofs.Common.{◌≡◌, List, ◌++◌, true, false, refl, sym,
 use Rattle.usb_text.specs.Shown.{Shown}
 use Rattle.usb_explain.specs.Descriptors.{field_lines, fields, formats_shown, found_lines, heading, heading_shown, lines_of}
 use Rattle.usb_explain.specs.Laws.{BriefLeavesOutFields, looking}
-use Rattle.usb_explain.specs.Outline.{Described}
+use Rattle.usb_remarks.specs.Outline.{Described}
 use Rattle.usb_explain.specs.RemarkLines.{remark_lines}
 use Rattle.usb_explain.specs.Subjects.{Subject}
 use Rattle.usb_walk.specs.declared.role.Role.{Role}

@@ -21,7 +21,7 @@ use Rattle.usb_explain.specs.Faults.{fault_lines, fault_shown, look_line}
 use Rattle.usb_file_data.specs.declared.cause.Found.{Found}
 use Rattle.usb_explain.specs.Lines.{place_shown}
 use Rattle.usb_explain.specs.LastLines.{count_shown, last_line, remark_count}
-use Rattle.usb_explain.specs.Outline.{Described, bytes_of, outline}
+use Rattle.usb_remarks.specs.Outline.{Described, bytes_of, outline}
 use Rattle.usb_explain.specs.RemarkLines.{remark_lines}
 use Rattle.usb_explain.specs.Subjects.{Reading, Subject, subject_of}
 use Rattle.usb_explain.specs.inside.Explaining.{Breaking, DoneSoFar, LosesLines, Passing, PassesLines, ShowsEach, ShowsExplanation, StopsAtOne, StopsBetween, StopsExplanation, line_count}

@@ -12,7 +12,7 @@ use Rattle.usb_walk.specs.declared.role.Role.TheVariants.{Device, Qualifier, Con
 use Rattle.usb_explain.specs.FieldLaws.{AllFieldsHaveAllBytes, span_of_field}
 use Rattle.usb_explain.specs.Fields.{PlacedField, class_layout, fields_in_bytes, fields_of, groups_in, laid, left_over, placed, repeated}
 use Rattle.usb_explain.specs.Headers.{row_of_bytes}
-use Rattle.usb_explain.specs.Laws.{Follow}
+use Rattle.usb_remarks.specs.OutlineLaws.{Follow}
 use Rattle.usb_explain.specs.Layouts.{Layout, association_layout, configuration_layout, device_layout, endpoint_layout, interface_layout, is_audio, qualifier_layout, group_count, width_of}
 use Rattle.usb_explain.proofs.TableWords.{AllRows, row_passes}
 

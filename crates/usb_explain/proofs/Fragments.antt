@@ -9,18 +9,18 @@ use Rattle.usb_text.proofs.Pages.{appends_nothing, keeps_refl}
 use Rattle.usb_text.proofs.ShownLines.{showing_joined}
 use Rattle.usb_explain.specs.declared.fragment.FragmentPosition.{FragmentPosition}
 use Rattle.usb_explain.specs.declared.manner.Manner.{Manner}
-use Rattle.usb_explain.specs.declared.speed.SetSpeed.{SetSpeed}
+use Rattle.usb_remarks.specs.declared.speed.SetSpeed.{SetSpeed}
 use Rattle.usb_explain.specs.Descriptors.{lines_of}
 use Rattle.usb_explain.specs.Fragments.{AllFragmentBytesOnce, described_alone, descriptors_lines, fragment, fragment_from, fragment_lines, fragment_start, is_setup, position_past, setup_field, setup_fields, setup_lines}
 use Rattle.usb_explain.specs.Explanations.{first_line}
-use Rattle.usb_explain.specs.Laws.{Follow, span_of}
-use Rattle.usb_explain.specs.Outline.{Described, bytes_of}
+use Rattle.usb_remarks.specs.OutlineLaws.{Follow, span_of}
+use Rattle.usb_remarks.specs.Outline.{Described, bytes_of}
 use Rattle.usb_walk.specs.Roles.{is_association}
 use Rattle.usb_explain.specs.Subjects.{Subject}
 use Rattle.usb_walk.specs.Trees.{descriptor_length, descriptors, first_descriptors}
 use Rattle.usb_walk.proofs.Cuts.{descriptors_end, descriptors_step, first_step, length_within}
 use Rattle.usb_explain.proofs.Explaining.{ends_joined, put_is}
-use Rattle.usb_explain.proofs.Spans.{left_behind}
+use Rattle.usb_remarks.proofs.Spans.{left_behind}
 
 -- the bytes of descriptors
 abbrev pub joined : List (List ℕ) → List ℕ

@@ -1,17 +1,6 @@
-pub mod Standings
-pub mod Outlines
-pub mod NumberedLemmas
 pub mod Explaining
 pub mod Fragments
-pub mod Telling
-pub mod Spans
-pub mod EndpointsShown
 pub mod Brief
-pub mod rest
-pub mod Coming
-pub mod Tables
-pub mod Classes
-pub mod Open
 pub mod Messages
 pub mod Guids
 pub mod ShownInTurn
@@ -20,7 +9,3 @@ pub mod FieldsCover
 pub mod TableWords
 pub mod RemarksShown
 pub mod RemarksCounted
-pub mod SettingSteps
-pub mod AssociationSteps
-pub mod EndpointSteps
-pub mod NumberSteps

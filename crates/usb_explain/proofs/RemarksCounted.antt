@@ -2,8 +2,8 @@
 use Rattle.std.proofs.Common.{◌≡◌, ◌≤◌, ◌<◌, ◌∙◌, suc, ◌+◌, ℕ, List, ◌∷◌, Option, Some, None, ap, arith, drop, get_or, length, length-append, min, sym}
 use Rattle.std.specs.List.{flat_map}
 use Rattle.std.proofs.Math.Seq.{drop-cons}
-use Rattle.usb_explain.specs.declared.remark.Remark.{Remark}
-use Rattle.usb_explain.specs.RemarkValues.{there}
+use Rattle.usb_remarks.specs.declared.remark.Remark.{Remark}
+use Rattle.usb_remarks.specs.RemarkValues.{there}
 use Rattle.std.proofs.Math.Nat.{min-eq_left}
 
 -- where nothing is left to count, what was counted is all

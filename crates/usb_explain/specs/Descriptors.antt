@@ -10,7 +10,7 @@ use Rattle.usb_explain.specs.FormatWords.{format_shown}
 use Rattle.usb_explain.specs.Forms.{form_shown}
 use Rattle.usb_explain.specs.Headers.{raw_shown}
 use Rattle.usb_explain.specs.Lines.{field_line, heading_line}
-use Rattle.usb_explain.specs.Outline.{Described}
+use Rattle.usb_remarks.specs.Outline.{Described}
 use Rattle.usb_explain.specs.RemarkLines.{remark_lines}
 use Rattle.usb_explain.specs.Sets.{device_shown, version_shown, association_shown, configuration_shown, interface_shown, languages_shown, string_shown}
 use Rattle.usb_explain.specs.StringNames.{StringNames}

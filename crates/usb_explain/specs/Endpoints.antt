@@ -5,10 +5,11 @@ use Rattle.usb_set.specs.Descriptors.{number_of, packet_size_of, transactions_of
 use Rattle.usb_set.specs.declared.endpoint.TransferType.{TransferType}
 use Rattle.usb_set.specs.declared.endpoint.TransferType.TheVariants.{Isochronous, Interrupt}
 use Rattle.usb_text.specs.Shown.{Shown, Number}
-use Rattle.usb_explain.specs.declared.speed.SetSpeed.{SetSpeed}
-use Rattle.usb_explain.specs.declared.speed.SetSpeed.TheVariants.{FullOrHigh, High, Super}
-use Rattle.usb_explain.specs.SetSpeeds.{has_multiple}
-use Rattle.usb_explain.specs.Speeds.{interval_at, is_periodic, milliamperes}
+use Rattle.usb_remarks.specs.declared.speed.SetSpeed.{SetSpeed}
+use Rattle.usb_remarks.specs.declared.speed.SetSpeed.TheVariants.{FullOrHigh, High, Super}
+use Rattle.usb_remarks.specs.SetSpeeds.{has_multiple}
+use Rattle.usb_remarks.specs.Power.{milliamperes}
+use Rattle.usb_explain.specs.Speeds.{interval_at, is_periodic}
 
 -- so many packets of so many bytes in a microframe, where there are several; `None` is the reserved value of bits 12..11
 abbrev pub packets_shown : Option ℕ → ℕ → List Shown

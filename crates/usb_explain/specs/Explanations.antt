@@ -8,10 +8,11 @@ use Rattle.usb_text.specs.Written.{AreLines, WritesLines}
 use Rattle.usb_explain.specs.declared.manner.Look.{Look}
 use Rattle.usb_explain.specs.declared.manner.Manner.{Manner}
 use Rattle.usb_explain.specs.Descriptors.{lines_of}
-use Rattle.usb_explain.specs.Faults.{fault_lines, place_of_fault}
+use Rattle.usb_remarks.specs.FaultPlaces.{place_of_fault}
+use Rattle.usb_explain.specs.Faults.{fault_lines}
 use Rattle.usb_explain.specs.LastLines.{last_line, remark_count}
 use Rattle.usb_explain.specs.Lines.{field_line, heading_line}
-use Rattle.usb_explain.specs.Outline.{Described, bytes_of, outline}
+use Rattle.usb_remarks.specs.Outline.{Described, bytes_of, outline}
 use Rattle.usb_explain.specs.Subjects.{Reading, subject_of}
 
 -- What is left of an input after the descriptors that were explained.

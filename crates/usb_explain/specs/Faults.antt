@@ -11,12 +11,6 @@ use Rattle.usb_explain.specs.Containers.{container_of, magic}
 use Rattle.usb_explain.specs.declared.container.Container.{Container}
 use Rattle.usb_text.specs.Shown.{Shown, End, Number}
 
--- the place of the fault in the input
-abbrev pub place_of_fault : InputFault → ℕ
-place_of_fault (faults.Set fault) = fault.at
-place_of_fault (faults.Trailing at) = at
-place_of_fault (faults.File fault) = fault.at
-
 -- the fault's number, if it has one, and its place
 abbrev pub fault_shown : InputFault → List Shown
 fault_shown (faults.Set fault) = Number (set_why_number fault.why) ∷ Number fault.at ∷ []

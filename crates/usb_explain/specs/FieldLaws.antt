@@ -4,7 +4,7 @@ use Rattle.usb_names.specs.declared.codes.ClassCodes.{ClassCodes}
 use Rattle.usb_walk.specs.declared.role.Role.{Role}
 use Rattle.usb_walk.specs.declared.role.Role.TheVariants.{Raw, Languages, Text}
 use Rattle.usb_explain.specs.Fields.{PlacedField, fields_of}
-use Rattle.usb_explain.specs.Laws.{Follow, Span}
+use Rattle.usb_remarks.specs.OutlineLaws.{Follow, Span}
 
 -- descriptors of this role have fields; the heading of a language list and of a string says all
 abbrev pub has_fields : Role → Bool

@@ -5,7 +5,7 @@ use Rattle.usb_names.specs.declared.field.Form.TheVariants as forms
 use Rattle.usb_names.specs.Bits.{abstract_control_bits, call_management_bits, firmware_upgrade_bits}
 use Rattle.usb_names.specs.Terminals.{audio_terminals, video_terminals}
 use Rattle.usb_text.specs.Shown.{Shown, Bytes, Number}
-use Rattle.usb_explain.specs.declared.speed.SetSpeed.{SetSpeed}
+use Rattle.usb_remarks.specs.declared.speed.SetSpeed.{SetSpeed}
 use Rattle.usb_explain.specs.Endpoints.{address_value, interval_value, packet_value, power_value, release_value, size_value}
 use Rattle.usb_explain.specs.Names.{bits_field, class_field, function_class_field, guid_shown, protocol_field, subclass_field, terminal_shown}
 use Rattle.usb_explain.specs.Speeds.{frame_interval}

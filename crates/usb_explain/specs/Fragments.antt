@@ -12,18 +12,18 @@ use Rattle.usb_explain.specs.declared.manner.Look.{Look}
 use Rattle.usb_explain.specs.declared.manner.Manner.{Manner}
 use Rattle.usb_walk.specs.declared.role.Role.{Role}
 use Rattle.usb_walk.specs.declared.role.Role.TheVariants.{Device, Qualifier, Configuration, Association, Interface, Endpoint, Raw, Languages, Text}
-use Rattle.usb_explain.specs.declared.speed.SetSpeed.{SetSpeed}
-use Rattle.usb_explain.specs.declared.speed.SetSpeed.TheVariants.{FullOrHigh}
+use Rattle.usb_remarks.specs.declared.speed.SetSpeed.{SetSpeed}
+use Rattle.usb_remarks.specs.declared.speed.SetSpeed.TheVariants.{FullOrHigh}
 use Rattle.usb_explain.specs.declared.string_names.Missing.TheVariants.{NotInInput}
-use Rattle.usb_explain.specs.ClassRemarks.{hid_length}
+use Rattle.usb_remarks.specs.ClassRemarks.{hid_length}
 use Rattle.usb_explain.specs.Descriptors.{lines_of}
 use Rattle.usb_explain.specs.Explanations.{first_line, rest_lines}
-use Rattle.usb_explain.specs.Laws.{Follow, span_of}
+use Rattle.usb_remarks.specs.OutlineLaws.{Follow, span_of}
 use Rattle.usb_explain.specs.Lines.{field_line, heading_line}
-use Rattle.usb_explain.specs.Outline.{Described, bytes_of}
+use Rattle.usb_remarks.specs.Outline.{Described, bytes_of}
 use Rattle.usb_walk.specs.Places.{outside}
 use Rattle.usb_walk.specs.Roles.{is_association, is_interface, typed_role}
-use Rattle.usb_explain.specs.SetSpeeds.{other_speed}
+use Rattle.usb_remarks.specs.SetSpeeds.{other_speed}
 use Rattle.usb_explain.specs.StringNames.{no_names}
 use Rattle.usb_explain.specs.Subjects.{Subject}
 use Rattle.usb_walk.specs.Trees.{descriptors}

@@ -2,8 +2,8 @@
 use Rattle.std.specs.Prelude.{ℕ, List, [], ◌∷◌, ◌++◌, length, min, ◌==◌, if◌then◌else◌}
 use Rattle.std.specs.List.{sum_by}
 use Rattle.usb_text.specs.Shown.{Shown, End, Number}
-use Rattle.usb_explain.specs.Outline.{Described}
-use Rattle.usb_explain.specs.Remarks.{remarks_on}
+use Rattle.usb_remarks.specs.Outline.{Described}
+use Rattle.usb_remarks.specs.Remarks.{remarks_on}
 
 -- how many remarks there are on a descriptor
 abbrev pub remarks_of : Described → ℕ

@@ -2,13 +2,13 @@
 use Rattle.std.specs.Prelude.{ℕ, List, [], ◌∷◌, ◌++◌, nat_lt, if◌then◌else◌}
 use Rattle.std.specs.List.{flat_map}
 use Rattle.usb_text.specs.Shown.{Shown, Number}
-use Rattle.usb_explain.specs.declared.remark.PacketSizes.{PacketSizes}
-use Rattle.usb_explain.specs.declared.remark.PacketSizes.TheVariants.{NoEndpoint, Only, UpTo}
-use Rattle.usb_explain.specs.declared.remark.Remark.{Remark}
-use Rattle.usb_explain.specs.declared.remark.Remark.TheVariants as remarks
+use Rattle.usb_remarks.specs.declared.remark.PacketSizes.{PacketSizes}
+use Rattle.usb_remarks.specs.declared.remark.PacketSizes.TheVariants.{NoEndpoint, Only, UpTo}
+use Rattle.usb_remarks.specs.declared.remark.Remark.{Remark}
+use Rattle.usb_remarks.specs.declared.remark.Remark.TheVariants as remarks
 use Rattle.usb_explain.specs.Lines.{line_below}
-use Rattle.usb_explain.specs.Outline.{Described}
-use Rattle.usb_explain.specs.Remarks.{remarks_on}
+use Rattle.usb_remarks.specs.Outline.{Described}
+use Rattle.usb_remarks.specs.Remarks.{remarks_on}
 
 -- the size that packets have, or the greatest one
 abbrev pub sizes_shown : PacketSizes → List Shown

@@ -4,9 +4,9 @@ use Rattle.usb_fields.specs.Bytes.{big_endian, little_endian_at}
 use Rattle.usb_text.specs.Characters.{units_in}
 use Rattle.usb_text.specs.Shown.{Shown, Bytes, Number, Units}
 use Rattle.usb_explain.specs.declared.string_names.StringPlace.{StringPlace}
-use Rattle.usb_explain.specs.declared.speed.SetSpeed.{SetSpeed}
+use Rattle.usb_remarks.specs.declared.speed.SetSpeed.{SetSpeed}
 use Rattle.usb_explain.specs.Names.{class_names, function_class_names}
-use Rattle.usb_explain.specs.Speeds.{milliamperes}
+use Rattle.usb_remarks.specs.Power.{milliamperes}
 
 -- The device descriptor and the device qualifier, by their bytes (USB 2.0, 9.6.1 and 9.6.2).
 

@@ -1,20 +1,11 @@
--- What is counted in units of a speed, and frame intervals.
+-- Intervals, which are counted in units of a speed, and frame intervals.
 use Rattle.std.specs.Prelude.{ℕ, List, ◌++◌, ◌-◌, ◌*◌, ◌/◌, ◌^◌, ◌==◌, ◌||◌, nat_lt, Bool, true, false, Option, Some, None, if◌then◌else◌, ◌+◌, ◌%◌, [], ◌∷◌, take}
 use Rattle.std.specs.Option.{option_map}
 use Rattle.usb_set.specs.declared.endpoint.TransferType.{TransferType}
 use Rattle.usb_set.specs.declared.endpoint.TransferType.TheVariants.{Isochronous, Interrupt}
 use Rattle.usb_text.specs.Shown.{Shown, Bytes, Name, Number}
-use Rattle.usb_explain.specs.declared.speed.SetSpeed.{SetSpeed}
-use Rattle.usb_explain.specs.declared.speed.SetSpeed.TheVariants.{High, FullOrHigh, Super}
-
--- the unit of bMaxPower in milliamperes (USB 2.0, 9.6.3, and USB 3.2, 9.6.3)
-abbrev pub power_unit : SetSpeed → ℕ
-power_unit Super = 8
-power_unit _ = 2
-
--- bMaxPower in milliamperes
-abbrev pub milliamperes : SetSpeed → ℕ → ℕ
-milliamperes speed power = power_unit speed * power
+use Rattle.usb_remarks.specs.declared.speed.SetSpeed.{SetSpeed}
+use Rattle.usb_remarks.specs.declared.speed.SetSpeed.TheVariants.{High, FullOrHigh, Super}
 
 -- a period of 2^(n-1) frames or microframes, for n from 1 to 16 (9.6.6)
 abbrev pub period : ℕ → Option ℕ

@@ -3,9 +3,8 @@ ghost use Rattle.std.specs.Prelude.{◌≡◌, IfOk, OnOk};
 ghost use Rattle.usb_text.specs.Shown.{showing_all};
 ghost use Rattle.usb_explain.specs.Descriptors.{lines_of};
 ghost use Rattle.usb_explain.specs.LastLines.{remarks_of};
-ghost use Rattle.usb_explain.specs.Outline.{described};
+ghost use Rattle.usb_remarks.specs.Outline.{described};
 
-use crate::descriptor::Descriptor;
 use crate::field_line::put_fields;
 use crate::finding::put_findings;
 use crate::heading::put_heading;
@@ -13,6 +12,7 @@ use crate::remark_line::put_remarks;
 use crate::subject::Subject;
 use crate::table_names::row_in;
 use std::alloc::AllocError;
+use usb_remarks::Descriptor;
 use usb_text::Page;
 
 /// Puts the lines of a descriptor: its heading, its findings, its remarks and its fields. Answers how many remarks there are.

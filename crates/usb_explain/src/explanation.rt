@@ -5,21 +5,24 @@ ghost use Rattle.usb_text.specs.Shown.{ends, showing_all};
 ghost use Rattle.usb_text.specs.Written.{WritesLess, WritesLines, is_words};
 ghost use Rattle.usb_explain.specs.Explanations.{EndsBetween, before_fault, descriptors_of, ending, explanation, first_line, found_of};
 ghost use Rattle.usb_explain.specs.LastLines.{remark_count};
-ghost use Rattle.usb_explain.specs.Outline.{bytes_of, outline};
+ghost use Rattle.usb_remarks.specs.Outline.{bytes_of, outline};
 ghost use Rattle.usb_explain.specs.inside.Explaining.{ShowsEach, ShowsExplanation, StopsAtOne, StopsExplanation};
 
+mod last_line;
+mod passing_page;
+
 use crate::descriptor_lines::put_descriptor;
+use crate::explanation::last_line::put_last_line;
+use crate::explanation::passing_page::PassingPage;
 use crate::fault_line::{fault_place, put_fault_lines};
-use crate::last_line::put_last_line;
 use crate::manner::Manner;
-use crate::outline::Outline;
-use crate::passing_page::PassingPage;
 use crate::rest_lines::put_rest;
 use crate::subject::Subject;
 use std::alloc::{AllocError, Global};
 use std::io::Write;
 use usb_fields::{after, byte_at, descriptor_type, prefix};
 use usb_file_data::{Found, Input, InputFault, found_in_order};
+use usb_remarks::Outline;
 use usb_text::{Lines, OutFault, Page};
 
 /// Writes the explanation of bytes of which this was read: of an input, or of bytes that are none, as far as they go, with

@@ -1,7 +1,8 @@
 //! The lines of the fault of a broken input: what is wrong, and what its bytes look like.
 ghost use Rattle.std.specs.Prelude.{◌≡◌, ◌∷◌, [], OnOk};
 ghost use Rattle.usb_text.specs.Shown.{Number, showing_all};
-ghost use Rattle.usb_explain.specs.Faults.{fault_lines, fault_shown, likeness_line, likeness_shown, look_line, place_of_fault, seen_likeness};
+ghost use Rattle.usb_remarks.specs.FaultPlaces.{place_of_fault};
+ghost use Rattle.usb_explain.specs.Faults.{fault_lines, fault_shown, likeness_line, likeness_shown, look_line, seen_likeness};
 ghost use Rattle.usb_explain.specs.Containers.{container_of};
 
 use crate::container::{container_of, put_container};

@@ -7,10 +7,9 @@ ghost use Rattle.usb_text.specs.Shown.{showing_all};
 ghost use Rattle.usb_explain.specs.Descriptors.{field_lines, fields, line_of_field};
 ghost use Rattle.usb_explain.specs.Fields.{placed_of};
 ghost use Rattle.usb_explain.specs.Headers.{row_in, row_layout};
-ghost use Rattle.usb_explain.specs.Outline.{described};
+ghost use Rattle.usb_remarks.specs.Outline.{described};
 ghost use Rattle.usb_explain.specs.inside.FieldsLeft.{layout_has_words};
 
-use crate::descriptor::Descriptor;
 use crate::field::Field;
 use crate::fields::Fields;
 use crate::form::put_form;
@@ -19,6 +18,7 @@ use crate::string_names::Names;
 use crate::subject::Subject;
 use std::alloc::AllocError;
 use usb_names::ClassDescriptor;
+use usb_remarks::Descriptor;
 use usb_text::Page;
 use usb_walk::Role;
 

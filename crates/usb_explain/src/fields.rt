@@ -6,10 +6,12 @@ ghost use Rattle.usb_explain.specs.Fields.{class_layout, fields_of, laid, left_o
 ghost use Rattle.usb_explain.specs.Headers.{row_in, row_layout};
 ghost use Rattle.usb_explain.specs.Layouts.{width_of};
 ghost use Rattle.usb_explain.specs.inside.FieldsLeft.{is_name, layout_has_words, layout_left, left_in, lists_have_words, no_layout, piece_of};
-ghost use Rattle.usb_explain.specs.inside.Walking.{layout_of};
+ghost use Rattle.usb_explain.specs.inside.DescriptorLayouts.{layout_of};
+
+mod standard_layouts;
 
 use crate::field::Field;
-use crate::standard_layouts::{
+use crate::fields::standard_layouts::{
     DescriptorLayout, association_layout, configuration_layout, device_layout, endpoint_layout,
     interface_layout, qualifier_layout,
 };

@@ -3,21 +3,32 @@ ghost use Rattle.std.specs.Prelude.{◌≡◌, ◌∷◌, [], ◌-◌, slice_ind
 ghost use Rattle.usb_text.specs.Shown.{Number, showing_all};
 ghost use Rattle.usb_explain.specs.Forms.{decimal_shown, form_shown, hexadecimal_shown, packet_size_shown, release_shown};
 
-use crate::bits::put_bits;
-use crate::endpoint::{put_address, put_attributes_value, put_interval_value, put_size_value};
+mod bits;
+pub(crate) mod endpoint;
+pub(crate) mod frame_interval;
+mod interval;
+pub(crate) mod value;
+
 use crate::field::Field;
+use crate::form::bits::put_bits;
+use crate::form::endpoint::{
+    put_address, put_attributes_value, put_interval_value, put_size_value,
+};
+use crate::form::frame_interval::put_frame_interval;
+use crate::form::value::{
+    put_packet_value, put_power_value, put_release_value, put_set_attributes,
+};
+use crate::heading::string::put_index;
 use crate::names::{
     put_audio_terminal, put_class, put_function_class, put_guid, put_protocol, put_subclass,
     put_video_terminal,
 };
-use crate::speed::{SetSpeed, put_frame_interval};
-use crate::string::put_index;
 use crate::string_names::Names;
 use crate::table_names::{abstract_control_bits, call_management_bits, firmware_upgrade_bits};
-use crate::value::{put_packet_value, put_power_value, put_release_value, put_set_attributes};
 use std::alloc::AllocError;
 use usb_fields::byte_at;
 use usb_names::Form;
+use usb_remarks::SetSpeed;
 use usb_text::Page;
 
 /// The place of bmAttributes in an endpoint descriptor (USB 2.0, 9.6.6).

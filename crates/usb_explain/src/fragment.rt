@@ -7,22 +7,19 @@ ghost use Rattle.usb_text.specs.Written.{WritesLess, WritesLines};
 ghost use Rattle.usb_explain.specs.Descriptors.{lines_of};
 ghost use Rattle.usb_explain.specs.Explanations.{first_line};
 ghost use Rattle.usb_explain.specs.Fragments.{class_alone, described_alone, descriptors_lines, fragment, fragment_lines, fragment_start, hub_length, interface_codes, position_past, role_alone, speed_alone, speed_there, string_alone};
-ghost use Rattle.usb_explain.specs.Outline.{bytes_of, described};
+ghost use Rattle.usb_remarks.specs.Outline.{bytes_of, described};
 
-use crate::class_remark::hid_length;
-use crate::descriptor::Descriptor;
 use crate::descriptor_lines::put_descriptor;
 use crate::manner::Manner;
 use crate::rest_lines::put_rest;
-use crate::set_speed::other_speed;
 use crate::setup_lines::{is_setup, put_setup};
-use crate::speed::SetSpeed;
 use crate::subject::Subject;
 use std::alloc::{AllocError, Global};
 use std::io::Write;
 use usb_fields::{after, byte_at, descriptor_type, prefix};
 use usb_file_data::{Part, names_languages};
 use usb_names::ClassCodes;
+use usb_remarks::{Descriptor, SetSpeed, hid_length, other_speed};
 use usb_text::{Lines, OutFault, Page};
 use usb_walk::{Role, descriptor_length, is_association, is_interface, outside, typed_role};
 

@@ -6,19 +6,24 @@ ghost use Rattle.usb_text.specs.Shown.{showing_all};
 ghost use Rattle.usb_text.specs.Written.{is_words};
 ghost use Rattle.usb_explain.specs.Descriptors.{formats_shown, heading, heading_shown};
 ghost use Rattle.usb_explain.specs.Headers.{row_in};
-ghost use Rattle.usb_explain.specs.Outline.{described};
+ghost use Rattle.usb_remarks.specs.Outline.{described};
 
-use crate::descriptor::Descriptor;
-use crate::endpoint::put_endpoint_words;
-use crate::format_words::put_format_words;
+mod format_words;
+mod raw;
+mod set;
+pub(crate) mod string;
+
+use crate::form::endpoint::put_endpoint_words;
+use crate::heading::format_words::put_format_words;
+use crate::heading::raw::{put_device_words, put_qualifier_words, put_row_words};
+use crate::heading::set::{put_association_words, put_configuration_words, put_interface_words};
+use crate::heading::string::{put_languages_words, put_string_words};
 use crate::line::put_place;
-use crate::raw::{put_device_words, put_qualifier_words, put_row_words};
-use crate::set::{put_association_words, put_configuration_words, put_interface_words};
-use crate::string::{put_languages_words, put_string_words};
 use crate::subject::Subject;
 use std::alloc::AllocError;
 use usb_fields::byte_at;
 use usb_names::ClassDescriptor;
+use usb_remarks::Descriptor;
 use usb_text::Page;
 use usb_walk::Role;
 

@@ -1,5 +1,5 @@
 //! How an input is explained, and how an explanation is written.
-use crate::speed::SetSpeed;
+use usb_remarks::SetSpeed;
 
 /// How an input is explained.
 #[derive(Clone, Copy, Debug, PartialEq, Eq, Hash)]

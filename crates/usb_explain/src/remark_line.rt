@@ -4,14 +4,13 @@ ghost use Rattle.std.specs.List.{flat_map};
 ghost use Rattle.usb_text.specs.Shown.{Number, showing_all};
 ghost use Rattle.usb_text.specs.Written.{is_words};
 ghost use Rattle.usb_explain.specs.LastLines.{remarks_of};
-ghost use Rattle.usb_explain.specs.Outline.{described};
+ghost use Rattle.usb_remarks.specs.Outline.{described};
 ghost use Rattle.usb_explain.specs.RemarkLines.{length_shown, packet_shown, remark_line, remark_lines, remark_shown, sizes_shown, speed_shown, value_shown};
-ghost use Rattle.usb_explain.specs.RemarkValues.{there};
+ghost use Rattle.usb_remarks.specs.RemarkValues.{there};
 
-use crate::descriptor::Descriptor;
-use crate::remark::{PacketSizes, Remark};
-use crate::speed::SetSpeed;
+use crate::speed_words::speed_words;
 use std::alloc::AllocError;
+use usb_remarks::{Descriptor, PacketSizes, Remark, SetSpeed};
 use usb_set::TransferType;
 use usb_text::Page;
 use usb_walk::Role;
@@ -87,7 +86,7 @@ fn put_speed_words<P: Page>(page: &mut P, remark: Remark) -> Result<(), AllocErr
             page.put("bInterval is ")?;
             page.put_decimal(u64::from(found))?;
             page.put("; at ")?;
-            page.put(speed.words())?;
+            page.put(speed_words(speed))?;
             page.put(" it must be ")?;
             page.put_decimal(u64::from(range.least))?;
             page.put(" to ")?;
@@ -108,14 +107,14 @@ fn put_speed_words<P: Page>(page: &mut P, remark: Remark) -> Result<(), AllocErr
             page.put("bMaxPacketSize0 is ")?;
             page.put_decimal(u64::from(found))?;
             page.put("; at ")?;
-            page.put(speed.words())?;
+            page.put(speed_words(speed))?;
             page.put(" it must be ")?;
             put_sizes(page, sizes)?;
             page.put(packet_section(speed))
         }
         Remark::OneSpeed { speed } => {
             page.put("its sets are at ")?;
-            page.put(speed.words())?;
+            page.put(speed_words(speed))?;
             page.put(", as are those before it; they must differ (9.6.2)")
         }
         _ => Ok(()),
@@ -274,14 +273,14 @@ fn put_packet<P: Page>(
         PacketSizes::NoEndpoint => {
             put_a_type(page, transfer)?;
             page.put(" endpoint; at ")?;
-            page.put(speed.words())?;
+            page.put(speed_words(speed))?;
             page.put(" there are none")?;
             page.put(access_section(transfer))
         }
         _ => {
             put_size_found(page, found)?;
             page.put("; at ")?;
-            page.put(speed.words())?;
+            page.put(speed_words(speed))?;
             page.put(" it must be ")?;
             put_sizes(page, sizes)?;
             page.put(size_section(transfer))

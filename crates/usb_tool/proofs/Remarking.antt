@@ -5,7 +5,7 @@ use Rattle.std.specs.Io.KnownBytes.{Appends}
 use Rattle.usb_file_data.specs.declared.file.Input.{Input}
 use Rattle.usb_file_data.specs.declared.finding.Finding.{Finding}
 use Rattle.usb_file_data.specs.FindingLine.{check_text, finding_lines}
-use Rattle.usb_explain.specs.declared.speed.SetSpeed.{SetSpeed}
+use Rattle.usb_remarks.specs.declared.speed.SetSpeed.{SetSpeed}
 use Rattle.usb_text.specs.Output.{Held}
 use Rattle.usb_tool.specs.Endings.{AppendsNone, Refusal, Refuses, Telling, Writes}
 use Rattle.usb_tool.specs.RemarkChecks.{TellsRemarks, checked_lines, lines_or_none, lines_status, taken_for}

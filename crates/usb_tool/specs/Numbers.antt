@@ -30,11 +30,11 @@ use Rattle.usb_device.specs.Conformance.{difference_number}
 use Rattle.usb_device.specs.declared.acceptance.DescriptionFault.TheVariants as descriptions
 use Rattle.usb_device.specs.declared.beside.Unanswered.TheVariants as unanswereds
 use Rattle.usb_device.specs.declared.conformance.Difference.TheVariants as differences
-use Rattle.usb_explain.specs.RemarkNumbers.{remark_number}
-use Rattle.usb_explain.specs.declared.remark.IntervalRange.{IntervalRange}
-use Rattle.usb_explain.specs.declared.remark.PacketSizes.{PacketSizes}
-use Rattle.usb_explain.specs.declared.remark.Remark.TheVariants as remarks
-use Rattle.usb_explain.specs.declared.speed.SetSpeed.{SetSpeed}
+use Rattle.usb_remarks.specs.RemarkNumbers.{remark_number}
+use Rattle.usb_remarks.specs.declared.remark.IntervalRange.{IntervalRange}
+use Rattle.usb_remarks.specs.declared.remark.PacketSizes.{PacketSizes}
+use Rattle.usb_remarks.specs.declared.remark.Remark.TheVariants as remarks
+use Rattle.usb_remarks.specs.declared.speed.SetSpeed.{SetSpeed}
 use Rattle.usb_tool.specs.Faults.{fault_number}
 use Rattle.usb_tool.specs.OptionFaults.{fates_fault_number, settings_fault_number}
 use Rattle.usb_tool.specs.declared.fault.ToolFault.TheVariants as faults

@@ -5,8 +5,8 @@ use Rattle.usb_file_data.specs.declared.laws.TheConstants.{FILE_LIMIT}
 use Rattle.usb_file_data.specs.FindingLine.{check_text, finding_lines}
 use Rattle.usb_file_data.specs.Findings.{found_in_order, input_findings}
 use Rattle.usb_file_data.specs.Inputs.{InputFaulty, IsInput}
-use Rattle.usb_explain.specs.declared.speed.SetSpeed.{SetSpeed}
-use Rattle.usb_explain.specs.PlacedRemarks.{remarks_text}
+use Rattle.usb_remarks.specs.declared.speed.SetSpeed.{SetSpeed}
+use Rattle.usb_remarks.specs.PlacedRemarks.{remarks_text}
 use Rattle.usb_text.specs.Output.{Held}
 use Rattle.usb_tool.specs.Endings.{AppendsNone, Fails, Refuses, Told, Left}
 use Rattle.usb_tool.specs.Explains.{running_said}

@@ -25,7 +25,7 @@ use Rattle.usb_tool.specs.declared.hex_input.HexCommand.TheVariants as commands
 use Rattle.usb_tool.specs.CommandLine.{Asks, no_flags, usbdesc_app, word_texts}
 use Rattle.usb_tool.specs.declared.fault.ToolFault.{ToolFault}
 use Rattle.usb_explain.specs.declared.manner.Manner.{Manner}
-use Rattle.usb_explain.specs.declared.speed.SetSpeed.{SetSpeed}
+use Rattle.usb_remarks.specs.declared.speed.SetSpeed.{SetSpeed}
 use Rattle.usb_tool.specs.declared.checking.Checking.{Checking}
 use Rattle.usb_tool.specs.OptionFaults.{settings_line, settings_meaning, settings_status}
 use Rattle.usb_tool.specs.Damages.{IsDamageSettled, RefusesBeside}

@@ -14,9 +14,9 @@ use crate::input::read_all;
 use crate::output::write_flushed;
 use std::alloc::{AllocError, Global};
 use std::io::{Read, Write};
-use usb_explain::{SetSpeed, remarks_text};
 use usb_file::{FILE_LIMIT, Input, read_file, read_input};
 use usb_file_data::{Finding, check_input, findings_text, found_in_order};
+use usb_remarks::{SetSpeed, remarks_text};
 
 /// Does what [`run_check`](crate::run_check) does, or with `any` [`run_check_any`](crate::run_check_any), and writes a line for
 /// each remark too: findings come first, by rule, and then remarks, in the order of the bytes. The device ran at `speed`, if

@@ -4,7 +4,7 @@ ghost use Rattle.usb_tool.specs.RemarkChecks.{IsRunningSpeed, RefusesChecking};
 
 use crate::manner::speed_of;
 use crate::settings::SettingsFault;
-use usb_explain::SetSpeed;
+use usb_remarks::SetSpeed;
 
 /// Which of the flags of `check` are given, and the text of its speed.
 #[derive(Clone, Copy, Debug, PartialEq, Eq, Hash)]

@@ -9,9 +9,9 @@ use crate::input::read_all;
 use crate::show::{run_show, run_show_any};
 use std::alloc::Global;
 use std::io::{Read, Write};
-use usb_explain::SetSpeed;
 use usb_file::FILE_LIMIT;
 use usb_hex::{HexFault, parse};
+use usb_remarks::SetSpeed;
 
 /// What is done with the bytes of a hexadecimal text.
 #[derive(Clone, Copy, Debug, PartialEq, Eq, Hash)]

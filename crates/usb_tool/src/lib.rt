@@ -81,5 +81,6 @@ pub use settings::{
 };
 pub use show::{run_show, run_show_any};
 pub use usb_bus::{BitChange, Fate, Reply, Run, Talk, converse, enumerate, laws};
-pub use usb_explain::{Look, Manner, SetSpeed};
+pub use usb_explain::{Look, Manner};
 pub use usb_listing::LISTING_LIMIT;
+pub use usb_remarks::SetSpeed;

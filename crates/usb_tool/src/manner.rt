@@ -4,7 +4,8 @@ ghost use Rattle.usb_tool.specs.Explains.{IsManner, HasBadSpeed, running_said, r
 ghost use Rattle.usb_tool.specs.declared.settings.SettingsFault.TheVariants.{Speed};
 
 use crate::settings::SettingsFault;
-use usb_explain::{Look, Manner, SetSpeed};
+use usb_explain::{Look, Manner};
+use usb_remarks::SetSpeed;
 
 /// What the options of `explain` mean. Fields and places are written unless they are left out, and without a speed the
 /// descriptors say it.

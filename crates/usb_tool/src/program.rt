@@ -28,7 +28,7 @@ use clap::error::ErrorKind;
 use std::alloc::Global;
 use std::io;
 use std::io::{Read, Write};
-use usb_explain::SetSpeed;
+use usb_remarks::SetSpeed;
 use usb_text::write_all;
 
 /// The line that goes to standard error where the words of the command line could not be taken, and the exit

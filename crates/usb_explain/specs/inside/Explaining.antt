@@ -8,7 +8,7 @@ use Rattle.usb_text.specs.declared.output.OutFault.TheVariants as outs
 use Rattle.usb_explain.specs.declared.manner.Manner.{Manner}
 use Rattle.usb_explain.specs.Descriptors.{lines_of}
 use Rattle.usb_explain.specs.Explanations.{descriptors_of, ending, first_line}
-use Rattle.usb_explain.specs.Outline.{Described, bytes_of}
+use Rattle.usb_remarks.specs.Outline.{Described, bytes_of}
 use Rattle.usb_explain.specs.Subjects.{Reading, Subject, subject_of}
 
 -- Any page and writer.

@@ -1,5 +1,5 @@
 use Rattle.std.proofs.Common.{◌≡◌, ◌∷◌, subst}
-use Rattle.usb_explain.specs.Outline.{described}
+use Rattle.usb_remarks.specs.Outline.{described}
 use Rattle.usb_c.specs.Facts.{placed_at}
 use Rattle.usb_c.proofs.Placed.{PutSoFar, none_put, one_put, room_for_one}
 use Rattle.usb_c.proofs.finding.put_all.Goals as goal

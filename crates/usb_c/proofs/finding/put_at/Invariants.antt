@@ -1,5 +1,5 @@
 use Rattle.std.proofs.Common.{◌≡◌, ◌+◌, ◌++◌, drop, map, take}
-use Rattle.usb_explain.specs.Outline.{described}
+use Rattle.usb_remarks.specs.Outline.{described}
 use Rattle.usb_c.specs.Facts.{placed}
 use Rattle.usb_c.proofs.finding.put_at.Given as goal
 

@@ -1,5 +1,5 @@
 use Rattle.std.proofs.Common.{List, ◌++◌, ap, map}
-use Rattle.usb_explain.specs.Outline.{described}
+use Rattle.usb_remarks.specs.Outline.{described}
 use Rattle.usb_c.specs.declared.remark.NzgRemark.{NzgRemark}
 use Rattle.usb_c.specs.Remarks.{numbered}
 use Rattle.usb_c.proofs.Numbering.{all_there}

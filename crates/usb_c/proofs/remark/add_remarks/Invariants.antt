@@ -1,8 +1,8 @@
 use Rattle.std.proofs.Common.{◌≡◌, ◌++◌, Option, drop, map}
 use Rattle.std.specs.List.{flat_map}
-use Rattle.usb_explain.specs.declared.remark.Remark.{Remark}
-use Rattle.usb_explain.specs.Outline.{described}
-use Rattle.usb_explain.specs.RemarkValues.{there}
+use Rattle.usb_remarks.specs.declared.remark.Remark.{Remark}
+use Rattle.usb_remarks.specs.Outline.{described}
+use Rattle.usb_remarks.specs.RemarkValues.{there}
 use Rattle.usb_c.specs.Remarks.{numbered, remarks_at}
 use Rattle.usb_c.proofs.remark.add_remarks.Given as goal
 

@@ -1,7 +1,7 @@
 use Rattle.std.proofs.Common.{◌≡◌, ◌≤◌, ◌+◌, length, min}
 use Rattle.std.specs.List.{sum_by}
 use Rattle.usb_explain.specs.LastLines.{remark_count, remarks_of}
-use Rattle.usb_explain.specs.Outline.{bytes_of, outline}
+use Rattle.usb_remarks.specs.Outline.{bytes_of, outline}
 use Rattle.usb_explain.specs.inside.Explaining.{ShowsSoFar}
 use Rattle.usb_explain.proofs.explanation.put_descriptors.Given as goal
 

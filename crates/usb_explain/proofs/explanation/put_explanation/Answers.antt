@@ -3,9 +3,9 @@ use Rattle.usb_fields.proofs.Exits.{exit_err}
 use Rattle.usb_text.specs.Shown.{showing_all}
 use Rattle.usb_text.specs.declared.output.OutFault.TheVariants.{Memory}
 use Rattle.usb_explain.specs.Explanations.{ending}
-use Rattle.usb_explain.specs.Outline.{Described, bytes_of}
+use Rattle.usb_remarks.specs.Outline.{Described, bytes_of}
 use Rattle.usb_explain.proofs.Explaining.{same_outline, shows_these, stops_at_these}
-use Rattle.usb_explain.proofs.Spans.{bytes_within}
+use Rattle.usb_remarks.proofs.Spans.{bytes_within}
 use Rattle.usb_explain.proofs.explanation.put_explanation.Goals as goal
 
 pub put_descriptors-requires : goal.put_descriptors-requires

@@ -4,7 +4,7 @@ use Rattle.usb_text.specs.Shown.{showing_all}
 use Rattle.usb_text.proofs.ShownLines.{showing_joined}
 use Rattle.usb_explain.specs.Descriptors.{line_of_field}
 use Rattle.usb_explain.specs.Fields.{PlacedField, placed_of}
-use Rattle.usb_explain.specs.Outline.{described}
+use Rattle.usb_remarks.specs.Outline.{described}
 use Rattle.usb_explain.proofs.field_line.put_all_fields.Goals as goal
 
 pub loop-field-init : goal.loop-field-init

@@ -2,7 +2,7 @@ use Rattle.std.proofs.Common.{◌≡◌}
 use Rattle.std.specs.List.{flat_map}
 use Rattle.usb_text.specs.Shown.{showing_all}
 use Rattle.usb_explain.specs.Descriptors.{field_lines, line_of_field}
-use Rattle.usb_explain.specs.Outline.{described}
+use Rattle.usb_remarks.specs.Outline.{described}
 use Rattle.usb_explain.proofs.field_line.put_all_fields.Given as goal
 
 abbrev pub invariant-loop-field : goal.invariant-loop-field

@@ -3,7 +3,7 @@ use Rattle.std.proofs.lemmas.List.{length-take-le}
 use Rattle.usb_text.specs.Shown.{showing_all}
 use Rattle.usb_explain.specs.Descriptors.{lines_of}
 use Rattle.usb_explain.specs.Fragments.{described_alone, position_past}
-use Rattle.usb_explain.specs.Outline.{Described}
+use Rattle.usb_remarks.specs.Outline.{Described}
 use Rattle.usb_walk.specs.Trees.{descriptor_length}
 use Rattle.usb_explain.proofs.Fragments.{counted_next, ends_next, ends_none, shown_next, shown_none}
 use Rattle.usb_explain.proofs.fragment.put_descriptors.Goals as goal

@@ -3,7 +3,7 @@ use Rattle.std.specs.List.{flat_map}
 use Rattle.usb_text.specs.Shown.{showing_all}
 use Rattle.usb_explain.specs.Descriptors.{lines_of}
 use Rattle.usb_explain.specs.Fragments.{fragment, fragment_from}
-use Rattle.usb_explain.specs.Outline.{bytes_of}
+use Rattle.usb_remarks.specs.Outline.{bytes_of}
 use Rattle.usb_walk.specs.Trees.{descriptors}
 use Rattle.usb_explain.proofs.fragment.put_descriptors.Given as goal
 

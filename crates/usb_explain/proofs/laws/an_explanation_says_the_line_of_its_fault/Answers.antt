@@ -4,7 +4,7 @@ use Rattle.usb_explain.specs.Explanations.{beginning, descriptors_of, explanatio
 use Rattle.usb_explain.specs.Containers.{container_of}
 use Rattle.usb_explain.specs.Faults.{fault_lines, fault_shown, look_line}
 use Rattle.usb_explain.specs.Laws.{AllSayLineOfFault}
-use Rattle.usb_explain.specs.Outline.{bytes_of}
+use Rattle.usb_remarks.specs.Outline.{bytes_of}
 use Rattle.usb_explain.proofs.laws.an_explanation_says_the_line_of_its_fault.Goals as goal
 
 says : AllSayLineOfFault

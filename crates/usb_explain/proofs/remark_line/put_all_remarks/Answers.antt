@@ -1,10 +1,10 @@
 use Rattle.std.proofs.Common.{◌∙◌, ◌+◌, List, Option, None, ap, arith, drop, get_or, length, rules}
 use Rattle.std.specs.List.{flat_map}
 use Rattle.usb_text.specs.Shown.{Shown, showing_all}
-use Rattle.usb_explain.specs.declared.remark.Remark.{Remark}
-use Rattle.usb_explain.specs.Outline.{described}
+use Rattle.usb_remarks.specs.declared.remark.Remark.{Remark}
+use Rattle.usb_remarks.specs.Outline.{described}
 use Rattle.usb_explain.specs.RemarkLines.{remark_line}
-use Rattle.usb_explain.specs.RemarkValues.{there}
+use Rattle.usb_remarks.specs.RemarkValues.{there}
 use Rattle.usb_explain.proofs.RemarksCounted.{at_most_one, counted_next}
 use Rattle.usb_explain.proofs.RemarksShown.{all_lines}
 use Rattle.usb_explain.proofs.ShownInTurn.{shown_next}

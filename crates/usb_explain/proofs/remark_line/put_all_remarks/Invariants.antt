@@ -1,11 +1,11 @@
 use Rattle.std.proofs.Common.{◌≡◌, ◌≤◌, ◌+◌, Option, drop, length}
 use Rattle.std.specs.List.{flat_map}
 use Rattle.usb_text.specs.Shown.{showing_all}
-use Rattle.usb_explain.specs.declared.remark.Remark.{Remark}
+use Rattle.usb_remarks.specs.declared.remark.Remark.{Remark}
 use Rattle.usb_explain.specs.LastLines.{remarks_of}
-use Rattle.usb_explain.specs.Outline.{described}
+use Rattle.usb_remarks.specs.Outline.{described}
 use Rattle.usb_explain.specs.RemarkLines.{remark_line, remark_lines}
-use Rattle.usb_explain.specs.RemarkValues.{there}
+use Rattle.usb_remarks.specs.RemarkValues.{there}
 use Rattle.usb_explain.proofs.remark_line.put_all_remarks.Given as goal
 
 abbrev pub invariant-loop-remark : goal.invariant-loop-remark

@@ -1,7 +1,8 @@
 use Rattle.std.proofs.Common.{List, ap, length, sym}
 use Rattle.usb_text.specs.Shown.{Shown, showing_all}
-use Rattle.usb_explain.specs.Outline.{described}
-use Rattle.usb_explain.proofs.RemarksShown.{no_lines, no_remarks}
+use Rattle.usb_remarks.specs.Outline.{described}
+use Rattle.usb_remarks.proofs.RemarksPlaced.{no_remarks}
+use Rattle.usb_explain.proofs.RemarksShown.{no_lines}
 use Rattle.usb_explain.proofs.remark_line.put_remarks.Goals as goal
 
 pub returns-in-Raw-None : goal.returns-in-Raw-None

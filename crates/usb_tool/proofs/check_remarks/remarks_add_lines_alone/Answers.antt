@@ -1,5 +1,5 @@
 use Rattle.usb_file_data.specs.Findings.{found_in_order, input_findings}
-use Rattle.usb_explain.specs.PlacedRemarks.{remarks_text}
+use Rattle.usb_remarks.specs.PlacedRemarks.{remarks_text}
 use Rattle.usb_tool.proofs.Remarking.{more_lines_found}
 use Rattle.usb_tool.proofs.check_remarks.remarks_add_lines_alone.Goals as goal
 

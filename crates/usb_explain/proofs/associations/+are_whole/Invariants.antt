@@ -1,4 +1,0 @@
-use Rattle.usb_explain.proofs.associations.+are_whole.Given as goal
-
-abbrev pub decreases-are_whole : goal.decreases-are_whole
-decreases-are_whole l = l.sets

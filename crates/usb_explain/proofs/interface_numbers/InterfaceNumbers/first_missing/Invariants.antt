@@ -1,6 +1,0 @@
-use Rattle.std.proofs.Common.{◌≡◌, drop}
-use Rattle.usb_explain.specs.InterfaceNumbers.{first_missing}
-use Rattle.usb_explain.proofs.interface_numbers.InterfaceNumbers.first_missing.Given as goal
-
-abbrev pub invariant-loop-number : goal.invariant-loop-number
-invariant-loop-number l = first_missing l.self (drop l.number-index l.numbers) ≡ first_missing l.self l.numbers

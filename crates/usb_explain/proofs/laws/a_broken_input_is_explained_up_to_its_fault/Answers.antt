@@ -1,5 +1,0 @@
-use Rattle.usb_explain.proofs.rest.Broken.{broken_covers}
-use Rattle.usb_explain.proofs.laws.a_broken_input_is_explained_up_to_its_fault.Goals as goal
-
-pub returns : goal.returns
-returns c = broken_covers

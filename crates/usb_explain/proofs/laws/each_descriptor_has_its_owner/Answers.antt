@@ -1,5 +1,0 @@
-use Rattle.usb_explain.proofs.rest.Inputs.{whole_shows}
-use Rattle.usb_explain.proofs.laws.each_descriptor_has_its_owner.Goals as goal
-
-pub returns : goal.returns
-returns c = whole_shows

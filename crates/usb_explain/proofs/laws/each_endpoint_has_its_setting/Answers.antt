@@ -1,5 +1,0 @@
-use Rattle.usb_explain.proofs.EndpointsShown.{whole_shows_endpoints}
-use Rattle.usb_explain.proofs.laws.each_endpoint_has_its_setting.Goals as goal
-
-pub returns : goal.returns
-returns c = whole_shows_endpoints

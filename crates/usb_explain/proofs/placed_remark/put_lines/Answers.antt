@@ -1,8 +1,0 @@
-use Rattle.std.proofs.Common.{ℕ, List, ◌++◌, ap}
-use Rattle.usb_explain.specs.Outline.{described}
-use Rattle.usb_explain.proofs.RemarksShown.{all_placed}
-use Rattle.usb_explain.proofs.placed_remark.put_lines.Goals as goal
-
-pub loop-remark-init : goal.loop-remark-init
-loop-remark-init c =
-    ap (λ (l : List ℕ). c.args.text.now.items ++ l) (all_placed (described c.args.d.now) c.remarks-remarks.result c.remarks-remarks.ensures)

@@ -1,0 +1,16 @@
+pub mod AssociationSteps
+pub mod Classes
+pub mod Coming
+pub mod EndpointSteps
+pub mod EndpointsShown
+pub mod NumberSteps
+pub mod NumberedLemmas
+pub mod Open
+pub mod Outlines
+pub mod RemarksPlaced
+pub mod SettingSteps
+pub mod Spans
+pub mod Standings
+pub mod Tables
+pub mod Telling
+pub mod rest

@@ -1,0 +1,177 @@
+-- The descriptors of a walk, and where they stand.
+use Rattle.std.proofs.Common.{◌≡◌, ◌≤◌, ℕ, zero, suc, ◌+◌, List, [], ◌∷◌, ◌++◌, ◌||◌, if◌then◌else◌, nat_lt, flat_map, length, map, slice_index, take, drop, Option, Some, None, refl, sym, ap, subst, ◌∙◌, arith, append_assoc, length-append}
+use Rattle.std.proofs.lemmas.Bool.Decides.{nat_tests}
+use Rattle.std.proofs.lemmas.Option.{none-some}
+use Rattle.std.proofs.lemmas.List.{length-take-le, take-append-drop}
+use Rattle.std.proofs.Math.Seq.{drop-append_seam}
+use Rattle.usb_walk.specs.Trees.{descriptor_length, TreeDescriptor}
+use Rattle.usb_walk.specs.declared.role.Role.{Role}
+use Rattle.usb_walk.specs.declared.position.Position.{Position}
+use Rattle.usb_remarks.specs.declared.standing.Standing.{Standing}
+use Rattle.usb_remarks.specs.Outline.{Entry, after_next, bytes_of, end_of, entries, entry_next, findings_of, first_entries, here, left_next, outline}
+use Rattle.usb_remarks.specs.Findings.{found_at}
+use Rattle.usb_remarks.specs.OutlineLaws.{AllEachByteOnce, Cut, Follow, span_of}
+use Rattle.usb_walk.specs.Roles.{next_role}
+use Rattle.usb_remarks.specs.Standings.{start}
+use Rattle.usb_remarks.specs.declared.speed.SetSpeed.{SetSpeed}
+use Rattle.usb_file_data.specs.declared.cause.Found.{Found}
+use Rattle.usb_remarks.proofs.Outlines.{bytes_same, entries_next, entries_none, entry_in_tree, entry_span, next_bounds, next_says, spans_same}
+use Rattle.usb_walk.proofs.Positions.{noted_at, same_at}
+use Rattle.usb_remarks.proofs.Standings.{start_at}
+use Rattle.usb_remarks.proofs.Telling.{found_front}
+
+-- its two tests
+length_if : (len m n : ℕ) → (if nat_lt len 2 || nat_lt m len then None else Some len) ≡ Some n → (2 ≤ n) × (n ≤ m) × (len ≡ n)
+length_if len m n e = grind (arith, nat_tests)
+
+-- the first byte of a descriptor is its length
+first_byte : (k len : ℕ) (rest : List ℕ) → 2 ≤ k → slice_index (take k (len ∷ rest)) 0 ≡ len
+first_byte zero len rest some = absurd (omega arith)
+first_byte (suc k) len rest some = refl
+
+length_first : (b : List ℕ) (n : ℕ) → descriptor_length b ≡ Some n → slice_index (take n b) 0 ≡ n
+length_first [] n e = absurd (none-some n e)
+length_first (len ∷ rest) n e =
+    let bounds = length_if len (length rest + 1) n e in
+    first_byte n len rest bounds.0 ∙ bounds.2
+
+pub next_first : (p : Position) (ahead : List ℕ) (next : Role × ℕ) → next_role p ahead ≡ Some next → slice_index (take next.1 ahead) 0 ≡ next.1
+next_first p ahead next e = length_first ahead next.1 (next_says p ahead next e)
+
+-- What a walk shows from here on.
+pub record Walk (running : Option SetSpeed) (n : ℕ) (s : Standing) (found : List Found) (ahead : List ℕ) : Type 0 where
+  pub shown : List Entry
+  pub is : first_entries n running s found ahead ≡ shown
+  pub rest : List ℕ
+  pub end : ℕ
+  pub cut : Cut ahead shown rest
+  pub spans : Follow s.position.at (map entry_span shown) end
+  pub left : List Found
+  pub tells : flat_map findings_of shown ++ left ≡ found
+
+walk_none : (running : Option SetSpeed) (n : ℕ) (s : Standing) (found : List Found) (ahead : List ℕ) → first_entries n running s found ahead ≡ []
+    → Walk running n s found ahead
+walk_none running n s found ahead e = record { shown = []; is = e; rest = ahead; end = s.position.at; cut = refl; spans = refl; left = found; tells = refl }
+
+walk_more : (running : Option SetSpeed) (n : ℕ) (s : Standing) (found : List Found) (ahead : List ℕ) (next : Role × ℕ) → next_role s.position ahead ≡ Some next
+    → Walk running n (after_next running s ahead next) (left_next running s found ahead next) (drop next.1 ahead) → Walk running (suc n) s found ahead
+walk_more running n s found ahead next e w =
+    let bounds = next_bounds s.position ahead next e in
+    let taken : length (take next.1 ahead) ≡ next.1 = length-take-le next.1 ahead bounds.1 in
+    let at_here : (here running s ahead next).position.at ≡ s.position.at = same_at next.0 ahead s.position in
+    let mine = found_at (here running s ahead next) next.0 found in
+    let at_after : (after_next running s ahead next).position.at ≡ s.position.at + length (take next.1 ahead) =
+    ap (λ k. k + length (take next.1 ahead)) (noted_at next.0 (take next.1 ahead) (here running s ahead next).position ∙ at_here) in
+    record {
+      shown = entry_next running s found ahead next ∷ w.shown;
+      is = entries_next n running s found ahead next e ∙ ap (λ l. entry_next running s found ahead next ∷ l) w.is;
+      rest = w.rest;
+      end = w.end;
+      cut = (sym (take-append-drop next.1 ahead), next_first s.position ahead next e ∙ sym taken, w.cut);
+      spans = (at_here, omega (arith, taken, bounds.0), subst (λ k. Follow k (map entry_span w.shown) w.end) at_after w.spans);
+      left = w.left;
+      tells = append_assoc mine (flat_map findings_of w.shown) w.left ∙ ap (λ l. mine ++ l) w.tells ∙ found_front (here running s ahead next) next.0 found;
+    }
+
+walk_by : (running : Option SetSpeed) (n : ℕ) (s : Standing) (found : List Found) (ahead : List ℕ) (next : Option (Role × ℕ)) → next_role s.position ahead ≡ next
+    → ((s : Standing) (found : List Found) (ahead : List ℕ) → Walk running n s found ahead) → Walk running (suc n) s found ahead
+walk_by running n s found ahead None e onward = walk_none running (suc n) s found ahead (entries_none (suc n) running s found ahead e)
+walk_by running n s found ahead (Some next) e onward =
+    walk_more running n s found ahead next e (onward (after_next running s ahead next) (left_next running s found ahead next) (drop next.1 ahead))
+
+walk_zero : (running : Option SetSpeed) (s : Standing) (found : List Found) (ahead : List ℕ) → first_entries zero running s found ahead ≡ []
+unfolding first_entries
+walk_zero running s found ahead = refl
+
+-- each walk shows descriptors one after another
+pub walk_shows : (running : Option SetSpeed) (n : ℕ) (s : Standing) (found : List Found) (ahead : List ℕ) → Walk running n s found ahead
+walk_shows running zero s found ahead = walk_none running zero s found ahead (walk_zero running s found ahead)
+walk_shows running (suc n) s found ahead = walk_by running n s found ahead (next_role s.position ahead) refl (walk_shows running n)
+
+-- what is said of a walk: of the bytes that are left, and of its descriptors
+abbrev pub Aim : Type 1
+Aim = List ℕ → List TreeDescriptor → Type 0
+
+-- the same of a walk behind these descriptors
+abbrev pub adding : Aim → List TreeDescriptor → Aim
+adding E before = λ rest c. E rest (before ++ c)
+
+-- a walk of which this holds, and which comes to the end of the findings
+pub record Ended (E : Aim) (running : Option SetSpeed) (n : ℕ) (s : Standing) (found : List Found) (ahead : List ℕ) : Type 0 where
+  pub walk : Walk running n s found ahead
+  pub aimed : E walk.rest (map entry_in_tree walk.shown)
+  pub all_reported : walk.left ≡ []
+
+-- where no bytes are, no descriptor can stand
+none_of_nothing : (s : Standing) → next_role s.position [] ≡ None
+unfolding next_role
+none_of_nothing s = refl
+
+pub ended_none : (E : Aim) (running : Option SetSpeed) (n : ℕ) (s : Standing) (found : List Found) → found ≡ [] → E [] [] → Ended E running n s found []
+unfolding walk_none
+ended_none E running n s found none aimed =
+    record { walk = walk_none running n s found [] (entries_none n running s found [] (none_of_nothing s)); aimed = aimed; all_reported = none }
+
+pub ended_more : (E : Aim) (running : Option SetSpeed) (n : ℕ) (s : Standing) (found : List Found) (ahead : List ℕ) (next : Role × ℕ) → next_role s.position ahead ≡ Some next
+    → Ended (adding E (entry_in_tree (entry_next running s found ahead next) ∷ [])) running n (after_next running s ahead next) (left_next running s found ahead next) (drop next.1 ahead)
+    → Ended E running (suc n) s found ahead
+unfolding walk_more
+ended_more E running n s found ahead next e ended =
+    record { walk = walk_more running n s found ahead next e ended.walk; aimed = ended.aimed; all_reported = ended.all_reported }
+
+-- spans end where the lengths add up to
+spans_end : (shown : List Entry) (from to : ℕ) → Follow from (map entry_span shown) to → from + length (flat_map (λ d. d.bytes) shown) ≡ to
+spans_end [] from to e = omega (arith, e)
+spans_end (d ∷ ds) from to f =
+    let rest : (from + length d.bytes) + length (flat_map (λ d. d.bytes) ds) ≡ to = spans_end ds (from + length d.bytes) to f.2 in
+    let sum : length (d.bytes ++ flat_map (λ d. d.bytes) ds) ≡ length d.bytes + length (flat_map (λ d. d.bytes) ds) = length-append d.bytes (flat_map (λ d. d.bytes) ds) in
+    omega (arith, rest, sum)
+
+-- from the first place on they end where the lengths end
+pub ends_at : (shown : List Entry) (end : ℕ) → Follow start.position.at (map entry_span shown) end → length (flat_map (λ d. d.bytes) shown) ≡ end
+ends_at shown end f = omega (arith, start_at, spans_end shown start.position.at end f)
+
+-- what is cut is all of it
+pub cut_parts : (shown : List Entry) (b rest : List ℕ) → Cut b shown rest → b ≡ flat_map (λ d. d.bytes) shown ++ rest
+cut_parts [] b rest e = e
+cut_parts (d ∷ ds) b rest c =
+    c.0 ∙ ap (λ l. d.bytes ++ l) (cut_parts ds d.after rest c.2) ∙ sym (append_assoc d.bytes (flat_map (λ d. d.bytes) ds) rest)
+
+-- what is left behind the front of a list
+pub left_behind : (done rest b : List ℕ) (end : ℕ) → b ≡ done ++ rest → length done ≡ end → drop end b ≡ rest
+left_behind done rest b end parts ends = subst (λ k. drop k b ≡ rest) ends (ap (λ l. drop (length done) l) parts ∙ drop-append_seam done rest)
+
+-- each byte once, of any bytes
+pub once_by : AllEachByteOnce
+once_by running found b =
+    let w = walk_shows running (length b) start found b in
+    let ends : length (flat_map (λ e. e.bytes) w.shown) ≡ w.end = ends_at w.shown w.end w.spans in
+    let rest : drop w.end b ≡ w.rest = left_behind (flat_map (λ e. e.bytes) w.shown) w.rest b w.end (cut_parts w.shown b w.rest w.cut) ends in
+    let end : end_of running found b ≡ w.end =
+    ap (λ (l : List ℕ). length l) (bytes_same running (entries running found b) ∙ ap (λ l. flat_map (λ (e : Entry). e.bytes) l) w.is) ∙ ends in
+    let spans : map span_of (outline running found b) ≡ map entry_span w.shown =
+    spans_same running (entries running found b) ∙ ap (λ l. map entry_span l) w.is in
+    let bytes_are : bytes_of (outline running found b) ≡ flat_map (λ e. e.bytes) w.shown =
+    bytes_same running (entries running found b) ∙ ap (λ l. flat_map (λ (e : Entry). e.bytes) l) w.is in
+    record {
+      parts = cut_parts w.shown b w.rest w.cut ∙ ap (λ l. l ++ w.rest) (sym bytes_are)
+          ∙ ap (λ l. bytes_of (outline running found b) ++ l) (sym rest ∙ ap (λ k. drop k b) (sym end));
+      cut = subst (λ k. Cut b (entries running found b) (drop k b)) (sym end)
+          (subst (λ l. Cut b (entries running found b) l) (sym rest) (subst (λ l. Cut b l w.rest) (sym w.is) w.cut));
+      spans = subst (λ k. Follow 0 (map span_of (outline running found b)) k) (sym end)
+          (subst (λ l. Follow 0 l w.end) (sym spans) (subst (λ k. Follow k (map entry_span w.shown) w.end) start_at w.spans));
+    }
+
+-- where a walk ends, and what it leaves
+pub end_and_rest : (running : Option SetSpeed) (found : List Found) (b : List ℕ) (w : Walk running (length b) start found b)
+    → end_of running found b + length w.rest ≡ length b
+end_and_rest running found b w =
+    let parts : length b ≡ length (flat_map (λ e. e.bytes) w.shown) + length w.rest =
+    ap length (cut_parts w.shown b w.rest w.cut) ∙ length-append (flat_map (λ e. e.bytes) w.shown) w.rest in
+    ap (λ (l : List ℕ). length l + length w.rest) (bytes_same running (entries running found b) ∙ ap (λ l. flat_map (λ (e : Entry). e.bytes) l) w.is) ∙ sym parts
+
+-- the descriptors of bytes have no more than these
+pub bytes_within : (running : Option SetSpeed) (found : List Found) (b : List ℕ) → end_of running found b ≤ length b
+bytes_within running found b =
+    let w = walk_shows running (length b) start found b in
+    omega (arith, end_and_rest running found b w)

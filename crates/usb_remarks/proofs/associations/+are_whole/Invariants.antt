@@ -1,0 +1,4 @@
+use Rattle.usb_remarks.proofs.associations.+are_whole.Given as goal
+
+abbrev pub decreases-are_whole : goal.decreases-are_whole
+decreases-are_whole l = l.sets

@@ -1,0 +1,157 @@
+-- The outline of bytes: their descriptors one after another, each with all that is known of it at its place.
+use Rattle.std.specs.Prelude.{ℕ, Bool, zero, suc, List, [], ◌∷◌, length, map, take, drop, flat_map, slice_index, Option, unwrap_or}
+use Rattle.std.specs.Option.{option_copied, option_map}
+use Rattle.usb_file_data.specs.declared.cause.Found.{Found}
+use Rattle.usb_names.specs.declared.codes.ClassCodes.{ClassCodes}
+use Rattle.usb_remarks.specs.declared.descriptor.Descriptor.{Descriptor}
+use Rattle.usb_walk.specs.declared.owner.DescriptorOwner.{DescriptorOwner}
+use Rattle.usb_remarks.specs.declared.standing.Standing.{Standing}
+use Rattle.usb_walk.specs.declared.place.Place.{Place}
+use Rattle.usb_walk.specs.declared.role.Role.{Role}
+use Rattle.usb_remarks.specs.declared.speed.SetSpeed.{SetSpeed}
+use Rattle.usb_remarks.specs.Associations.{has_associations}
+use Rattle.usb_remarks.specs.Bindings.{bound_at}
+use Rattle.usb_remarks.specs.Contexts.{one_speed_at, speed_of}
+use Rattle.usb_walk.specs.Surroundings.{codes_of, depth_of, interface_number, rest_of_set}
+use Rattle.usb_remarks.specs.Findings.{found_at}
+use Rattle.usb_remarks.specs.InterfaceNumbers.{follows, is_late, missing_interface}
+use Rattle.usb_walk.specs.Owners.{owner_of}
+use Rattle.usb_walk.specs.Places.{place_in}
+use Rattle.usb_walk.specs.Roles.{next_role}
+use Rattle.usb_remarks.specs.SetStart.{entered}
+use Rattle.usb_remarks.specs.Standings.{passed, start}
+
+-- A descriptor of an input: its place in bytes and among sets, settings and endpoints, its bytes, what it is, how deep and whose,
+-- its speed, and what is found there. Then how many associations of its set come before it; the first one of its set that binds an
+-- interface of its number; the first interface that it names and its set lacks; whether an interface of its number follows in its
+-- set; what the interface is that it follows; how many strings come before it; the bytes of its set after it, where they are all
+-- there. Then whether it is an association after an interface that it binds; of a device or a qualifier whether its sets have
+-- associations, where that is known; and of a qualifier the speed of the sets before and after it, if both have one.
+pub record Described : Type 0 where
+  pub at : ℕ
+  pub place : Place
+  pub bytes : List ℕ
+  pub role : Role
+  pub depth : ℕ
+  pub owner : Option DescriptorOwner
+  pub speed : SetSpeed
+  pub findings : List Found
+  pub associations : ℕ
+  pub association : Option ℕ
+  pub missing : Option ℕ
+  pub follows : Bool
+  pub interface : Option ClassCodes
+  pub string : ℕ
+  pub rest : Option (List ℕ)
+  pub is_late : Bool
+  pub has_associations : Option Bool
+  pub one_speed : Option SetSpeed
+
+-- that which a descriptor of the code says
+abbrev pub described : Descriptor → Described
+described d = record {
+  at = d.at;
+  place = d.place;
+  bytes = d.bytes.now;
+  role = d.role;
+  depth = d.depth;
+  owner = d.owner;
+  speed = d.speed;
+  findings = d.findings.now;
+  associations = d.associations;
+  association = d.association;
+  missing = d.missing;
+  follows = d.follows;
+  interface = d.interface;
+  string = d.string;
+  rest = option_copied d.rest;
+  is_late = d.is_late;
+  has_associations = d.has_associations;
+  one_speed = d.one_speed;
+}
+
+-- a descriptor where it stands: what came before it, what it is there, its bytes, those after it, and what is found from it on
+pub record Entry : Type 0 where
+  pub standing : Standing
+  pub role : Role
+  pub bytes : List ℕ
+  pub after : List ℕ
+  pub found : List Found
+
+-- what is found there
+abbrev pub findings_of : Entry → List Found
+findings_of e = found_at e.standing e.role e.found
+
+-- all that is known of it, where the device ran at a speed that is known or isn't
+unfoldable pub describe : Option SetSpeed → Entry → Described
+describe running e = record {
+  at = e.standing.position.at;
+  place = place_in e.standing.position e.role;
+  bytes = e.bytes;
+  role = e.role;
+  depth = depth_of e.standing.position e.role;
+  owner = owner_of e.standing.position e.role e.bytes;
+  speed = speed_of running e.standing e.role e.bytes;
+  findings = findings_of e;
+  associations = e.standing.position.associations;
+  association = bound_at e.standing.bindings (slice_index e.bytes 2);
+  missing = missing_interface e.standing.interfaces (codes_of e.standing.position) e.bytes;
+  follows = follows (interface_number e.standing.position e.role e.bytes) (rest_of_set e.standing.position e.bytes e.after);
+  interface = codes_of e.standing.position;
+  string = e.standing.position.strings;
+  rest = rest_of_set e.standing.position e.bytes e.after;
+  is_late = is_late e.standing.before e.role e.bytes;
+  has_associations = has_associations e.role e.bytes e.after;
+  one_speed = one_speed_at e.standing e.role;
+}
+
+-- the state at the descriptor with which these bytes begin: in its set, where it begins one
+abbrev pub here : Option SetSpeed → Standing → List ℕ → Role × ℕ → Standing
+here running s ahead next = entered next.0 running ahead s
+
+-- the descriptor with which these bytes begin
+abbrev pub entry_next : Option SetSpeed → Standing → List Found → List ℕ → Role × ℕ → Entry
+entry_next running s found ahead next =
+    record { standing = here running s ahead next; role = next.0; bytes = take next.1 ahead; after = drop next.1 ahead; found = found }
+
+-- the findings that are left after it
+abbrev pub left_next : Option SetSpeed → Standing → List Found → List ℕ → Role × ℕ → List Found
+left_next running s found ahead next = drop (length (found_at (here running s ahead next) next.0 found)) found
+
+-- the state after that descriptor
+abbrev pub after_next : Option SetSpeed → Standing → List ℕ → Role × ℕ → Standing
+after_next running s ahead next = passed next.0 (take next.1 ahead) (here running s ahead next)
+
+-- the descriptors from here on, at most so many
+unfoldable pub first_entries : ℕ → Option SetSpeed → Standing → List Found → List ℕ → List Entry
+first_entries zero running s found ahead = []
+first_entries (suc n) running s found ahead =
+    unwrap_or
+    (option_map
+    (λ next. entry_next running s found ahead next ∷ first_entries n running (after_next running s ahead next) (left_next running s found ahead next) (drop next.1 ahead))
+    (next_role s.position ahead))
+    []
+
+-- all of them: there are no more than bytes
+abbrev pub entries_from : Option SetSpeed → Standing → List Found → List ℕ → List Entry
+entries_from running s found ahead = first_entries (length ahead) running s found ahead
+
+-- the same with what is known of each
+abbrev pub outline_from : Option SetSpeed → Standing → List Found → List ℕ → List Described
+outline_from running s found ahead = map (describe running) (entries_from running s found ahead)
+
+-- the descriptors of an input, where these are its findings in the order of its bytes
+abbrev pub entries : Option SetSpeed → List Found → List ℕ → List Entry
+entries running found b = entries_from running start found b
+
+-- the outline of an input
+abbrev pub outline : Option SetSpeed → List Found → List ℕ → List Described
+outline running found b = outline_from running start found b
+
+-- the bytes of descriptors
+abbrev pub bytes_of : List Described → List ℕ
+bytes_of ds = flat_map (λ d. d.bytes) ds
+
+-- where the descriptors of bytes end
+abbrev pub end_of : Option SetSpeed → List Found → List ℕ → ℕ
+end_of running found b = length (bytes_of (outline running found b))
