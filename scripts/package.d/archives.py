@@ -161,6 +161,7 @@ def installed(made, libdir, prefix):
     config = CONFIG.format(prefix=prefix, libdir=libdir, summary=SUMMARY, version=made.version)
     return {
         "bin/usbdesc": (read(f"{made.room}/usbdesc"), 0o755),
+        "share/doc/nozzlegorse/nozzlegorse.html": (read(f"{made.room}/nozzlegorse.html"), 0o644),
         f"{plain}.a": (read(f"{made.room}/libnozzlegorse.a"), 0o644),
         f"{plain}.so.{release}": (read(f"{made.room}/libnozzlegorse.so"), 0o644),
         f"{libdir}/{major}": (f"libnozzlegorse.so.{release}", 0o777),
@@ -174,7 +175,6 @@ def installed(made, libdir, prefix):
         "share/zsh/vendor-completions/_usbdesc": (pages.zsh(made.help).encode(), 0o644),
         "share/fish/vendor_completions.d/usbdesc.fish": (pages.fish(made.help).encode(), 0o644),
         "share/doc/nozzlegorse/copyright": (read(f"{ROOT}/LICENSE"), 0o644),
-        "share/doc/nozzlegorse/nozzlegorse.html": (read(f"{made.room}/nozzlegorse.html"), 0o644),
         **shared(),
     }
 
@@ -257,12 +257,11 @@ def wheel(made):
     name = f"nozzlegorse-{made.for_python()}"
     info = f"{name}.dist-info"
     files = {f"nozzlegorse/{os.path.basename(it)}": (with_version(it, made), 0o644) for it in python_module()}
-    for library in ("libnozzlegorse.so", "libnozzlegorse_bench.so"):
-        files[f"nozzlegorse/{library}"] = read(f"{made.room}/{library}"), 0o644
+    for it in ("libnozzlegorse.so", "libnozzlegorse_bench.so", "nozzlegorse.html"):
+        files[f"nozzlegorse/{it}"] = read(f"{made.room}/{it}"), 0o644
     files[f"{name}.data/scripts/usbdesc"] = read(f"{made.room}/usbdesc"), 0o755
     # In the package's folder, which pip removes whole.
     files |= {f"nozzlegorse/{path}": it for path, it in shared().items()}
-    files["nozzlegorse/nozzlegorse.html"] = read(f"{made.room}/nozzlegorse.html"), 0o644
     files["nozzlegorse/include/nozzlegorse.h"] = read(f"{made.room}/nozzlegorse.h"), 0o644
     files[f"{info}/METADATA"] = metadata(made).encode(), 0o644
     files[f"{info}/WHEEL"] = f"Wheel-Version: 1.0\nGenerator: nozzlegorse\nRoot-Is-Purelib: false\nTag: {WHEEL}\n".encode(), 0o644
