@@ -257,14 +257,15 @@ def wheel(made):
     name = f"nozzlegorse-{made.for_python()}"
     info = f"{name}.dist-info"
     files = {f"nozzlegorse/{os.path.basename(it)}": (with_version(it, made), 0o644) for it in python_module()}
-    for it in ("libnozzlegorse.so", "libnozzlegorse_bench.so", "nozzlegorse.html"):
-        files[f"nozzlegorse/{it}"] = read(f"{made.room}/{it}"), 0o644
+    for library in ("libnozzlegorse.so", "libnozzlegorse_bench.so"):
+        files[f"nozzlegorse/{library}"] = read(f"{made.room}/{library}"), 0o644
     files[f"{name}.data/scripts/usbdesc"] = read(f"{made.room}/usbdesc"), 0o755
     # In the package's folder, which pip removes whole.
     files |= {f"nozzlegorse/{path}": it for path, it in shared().items()}
     files["nozzlegorse/include/nozzlegorse.h"] = read(f"{made.room}/nozzlegorse.h"), 0o644
     files[f"{info}/METADATA"] = metadata(made).encode(), 0o644
     files[f"{info}/WHEEL"] = f"Wheel-Version: 1.0\nGenerator: nozzlegorse\nRoot-Is-Purelib: false\nTag: {WHEEL}\n".encode(), 0o644
+    files["nozzlegorse/nozzlegorse.html"] = read(f"{made.room}/nozzlegorse.html"), 0o644
     files[f"{info}/LICENSE"] = read(f"{ROOT}/LICENSE"), 0o644
     digests = {path: base64.urlsafe_b64encode(hashlib.sha256(data).digest()).rstrip(b"=").decode() for path, (data, _) in files.items()}
     record = "".join(f"{path},sha256={digest},{len(files[path][0])}\n" for path, digest in digests.items())
