@@ -52,17 +52,18 @@ enum nzg_status {
     NZG_CLOSED = 9,            /* the handle holds nothing */
     NZG_BAD_ARGUMENT = 10,     /* number: 1 address, 2 attempts, 3 speed, 4 a fate, 5 a rule, 6 no string, 7 a packet size, 8 a reply,
                                 * 9 a request without data to the device, 10 data that are not wLength bytes, 11 numbers of no transfer,
-                                * 12 no packet */
+                                * 12 no packet, 13 no such finding, remark, fault or trouble */
     NZG_TROUBLE = 11,          /* number 1..7: why a transfer or an enumeration failed */
     NZG_UNANSWERED = 12,       /* number 1..4: why the device doesn't take the answer to a request */
-    NZG_NO_BYTES = 13          /* number: why the file of a host has no bytes; a law of the library says it doesn't come */
+    NZG_NO_BYTES = 13,         /* number: why the file of a host has no bytes; a law of the library says it doesn't come */
+    NZG_TEXT_FAULT = 14        /* no hexadecimal text from line `place`, column `length` on, both from 1 */
 };
 
 struct nzg_answer {
     uint32_t status; /* enum nzg_status */
     uint32_t number;
     nzg_size place;
-    nzg_size length; /* how many bytes were taken or written, or are wanted */
+    nzg_size length; /* how many bytes were taken or written, or are wanted; of NZG_TEXT_FAULT a column */
 };
 
 /* The three functions by which the library takes memory. A block is aligned as asked for, at most to 16. Where `ok` is
@@ -74,8 +75,10 @@ void rattle_dealloc(unsigned char *at);
 
 /* --- from a buffer into a buffer: what `usbdesc` writes -------------------------------------------------------- */
 
-/* with NZG_UTF8 the text is UTF-8, else ASCII; NZG_FORMATS heads video frames with size and interval, audio formats with rates */
-enum nzg_options { NZG_BRIEF = 1, NZG_PLACES = 2, NZG_UTF8 = 4, NZG_FORMATS = 8 };
+/* with NZG_UTF8 the text is UTF-8, else ASCII; NZG_FORMATS heads video frames with size and interval, audio formats with rates;
+ * NZG_LOOSE takes descriptors one after another, of which no owner is asked for, or a setup packet, and finds no fault; NZG_HEX
+ * takes hexadecimal text, as nzg_from_text does, and explains its bytes, without the words `hexadecimal text` of `usbdesc` */
+enum nzg_options { NZG_BRIEF = 1, NZG_PLACES = 2, NZG_UTF8 = 4, NZG_FORMATS = 8, NZG_LOOSE = 16, NZG_HEX = 32 };
 enum nzg_speed { NZG_LOW = 1, NZG_FULL = 2, NZG_HIGH = 3, NZG_SUPER = 4 }; /* 0: not known; 0 and super for explain and remarks alone */
 
 /* one set where the second byte is 2 or 7, and else a file; with `any` a dump too */
@@ -84,6 +87,9 @@ struct nzg_answer nzg_show(const uint8_t *bytes, nzg_size len, bool any, uint8_t
 struct nzg_answer nzg_check(const uint8_t *bytes, nzg_size len, bool any, uint8_t *text, nzg_size room);
 /* one set, a file, a dump, and also broken bytes: then the status is the fault, and the text goes as far as they do */
 struct nzg_answer nzg_explain(const uint8_t *bytes, nzg_size len, uint32_t options, uint8_t speed, uint8_t *text, nzg_size room);
+/* The bytes of hexadecimal text, in any form that `usbdesc` reads: digits, a dump's columns, an array of a program. One that two
+ * readings would take differently is refused too. */
+struct nzg_answer nzg_from_text(const uint8_t *text, nzg_size len, uint8_t *bytes, nzg_size room);
 /* with `comments` lines that are empty or begin with # are dropped, and so is a carriage return before a line feed */
 struct nzg_answer nzg_build(const uint8_t *text, nzg_size len, bool comments, uint8_t *bytes, nzg_size room);
 
@@ -92,6 +98,9 @@ struct nzg_answer nzg_build(const uint8_t *text, nzg_size len, bool comments, ui
 struct nzg_outcome { uint64_t transactions; uint8_t attempts, address, selected, step, index; uint16_t language; };
 /* fates: one letter a transaction, as for `usbdesc enumerate --fates`. The text is the listing of what was read. */
 struct nzg_answer nzg_enumerate(const uint8_t *bytes, nzg_size len, uint8_t speed, uint16_t naks, uint8_t attempts, const uint8_t *fates, nzg_size fates_len, struct nzg_outcome *outcome, uint8_t *text, nzg_size room);
+
+/* The log of that enumeration, with success or without: what `usbdesc enumerate --log` writes before its last lines. */
+struct nzg_answer nzg_enumerate_log(const uint8_t *bytes, nzg_size len, uint8_t speed, uint16_t naks, uint8_t attempts, const uint8_t *fates, nzg_size fates_len, uint8_t *text, nzg_size room);
 
 /* --- descriptors as numbers: no memory is asked for ------------------------------------------------------------ */
 
@@ -146,6 +155,10 @@ struct nzg_field {
 };
 /* The n-th field of a descriptor, from 0. False where it has none, or is none of these bytes: nothing changes then. */
 bool nzg_field(const uint8_t *bytes, nzg_size len, const struct nzg_descriptor *descriptor, nzg_size n, struct nzg_field *field);
+/* All of them at once, and none where it is none of these bytes. Room and length count fields: at most 254. */
+struct nzg_answer nzg_fields(const uint8_t *bytes, nzg_size len, const struct nzg_descriptor *descriptor, struct nzg_field *fields, nzg_size room);
+/* The first with this name, as wMaxPacketSize. False as nzg_field. */
+bool nzg_field_named(const uint8_t *bytes, nzg_size len, const struct nzg_descriptor *descriptor, const uint8_t *name, nzg_size name_len, struct nzg_field *field);
 
 /* --- facts about bytes; these ask for memory ----------------------------------------------------------------------- */
 
@@ -166,6 +179,13 @@ struct nzg_remark {
 };
 /* The same of remarks, which break no rule: those of `usbdesc check --remarks`. The speed is that at which the device ran. */
 struct nzg_answer nzg_remarks(const uint8_t *bytes, nzg_size len, uint8_t speed, struct nzg_remark *remarks, nzg_size room);
+/* What a finding or a remark of these bytes says, in the words of `usbdesc explain`, which have its cause. Of the struct `place` and `rule`
+ * or `number` are looked at. A bad argument where there is none; of other bytes the fault of nzg_judge. */
+struct nzg_answer nzg_finding_text(const uint8_t *bytes, nzg_size len, const struct nzg_finding *finding, uint8_t *text, nzg_size room);
+struct nzg_answer nzg_remark_text(const uint8_t *bytes, nzg_size len, uint8_t speed, const struct nzg_remark *remark, uint8_t *text, nzg_size room);
+/* What is wrong with bytes, in the words of `usbdesc explain`: done, with the fault's place, and as number that of the set's fault,
+ * also where the set is in a file; else 0. A bad argument where nothing is. */
+struct nzg_answer nzg_fault_text(const uint8_t *bytes, nzg_size len, uint8_t *text, nzg_size room);
 /* what breaks a rule from 1 to 13, in words, as in docs/formats.md; this asks for no memory */
 struct nzg_answer nzg_rule(uint8_t rule, uint8_t *text, nzg_size room);
 /* A string, as UTF-8 with escapes as by `usbdesc explain --utf8`. Role, place and length say where it stands. */
@@ -330,6 +350,8 @@ bool nzg_host_step(struct nzg_host *host, struct nzg_step *step);
 uint8_t nzg_host_attempts(struct nzg_host *host);
 struct nzg_answer nzg_host_outcome(struct nzg_host *host, struct nzg_trouble *trouble, uint8_t *file, nzg_size room);
 void nzg_host_close(struct nzg_host *host);
+/* Why an enumeration failed, and at which step, in words: of nzg_enumerate `why` is the number of its answer. */
+struct nzg_answer nzg_trouble_text(const struct nzg_trouble *trouble, uint8_t *text, nzg_size room);
 
 /* --- a set in pieces -------------------------------------------------------------------------------------------------- */
 

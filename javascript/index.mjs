@@ -12,11 +12,13 @@ const utf8 = new TextDecoder();
 const SPEEDS = ['', 'low', 'full', 'high', 'super'];
 const KINDS = Object.fromEntries(Object.entries(enumerations.status).map(([name, number]) => [number, name.slice(4).toLowerCase()]));
 
-// What is wrong: its kind is that of enum nzg_status, as 'set_fault'; number and place are those of `usbdesc`.
+// What is wrong: its kind is that of enum nzg_status, as 'set_fault'; number and place are those of `usbdesc`. Of a 'text_fault' the
+// place is a line, which has a column.
 export class Fault extends Error {
-    constructor({ status, number, place }) {
-        super(`${KINDS[status].replaceAll('_', ' ')} ${number} at ${place}`);
-        Object.assign(this, { name: 'Fault', kind: KINDS[status], number, place });
+    constructor({ status, number, place, length }) {
+        const kind = KINDS[status], column = kind === 'text_fault' ? length : 0;
+        super(column ? `hexadecimal fault line ${place} column ${column}` : `${kind.replaceAll('_', ' ')} ${number} at ${place}`);
+        Object.assign(this, { name: 'Fault', kind, number, place, column });
     }
 }
 
@@ -40,27 +42,33 @@ async function moduleOf(source) {
 
 function texts(calls) {
     const text = (bytes) => utf8.decode(bytes);
+    const encoded = text => typeof text === 'string' ? new TextEncoder().encode(text) : text;
     return {
         // The text goes as far as the bytes do: then `fault` says where they end.
-        explain(bytes, { brief = false, places = true, utf8 = false, formats = false, speed = '' } = {}) {
-            const options = brief | places << 1 | utf8 << 2 | formats << 3;
-            const answer = calls.nzg_explain(bytes, options, speedOf(speed));
-            return { text: text(answer.text), fault: answer.status ? new Fault(answer) : null };
+        explain(bytes, { brief = false, places = true, utf8 = false, formats = false, loose = false, hex = false, speed = '' } = {}) {
+            const options = brief | places << 1 | utf8 << 2 | formats << 3 | loose << 4 | hex << 5;
+            const answer = calls.nzg_explain(hex ? encoded(bytes) : bytes, options, speedOf(speed));
+            const fault = answer.status ? new Fault(answer) : null;
+            return { text: fault?.column ? '' : text(answer.text), fault };
         },
+        // the bytes of hexadecimal text
+        fromText: text => done(calls.nzg_from_text(encoded(text))).bytes,
         show: (bytes, { any = true } = {}) => text(done(calls.nzg_show(bytes, any)).text),
         // the lines of `usbdesc check`
         report: (bytes, { any = true } = {}) => text(done(calls.nzg_check(bytes, any)).text),
-        build: (listing, { comments = false } = {}) => done(calls.nzg_build(new TextEncoder().encode(listing), comments)).bytes,
+        build: (listing, { comments = false } = {}) => done(calls.nzg_build(encoded(listing), comments)).bytes,
         withStrings: dump => done(calls.nzg_with_strings(dump)).file,
         rule: number => text(done(calls.nzg_rule(number)).text),
+        // what a finding or a remark of these bytes says, and what is wrong with bytes, in the words of explain
+        findingText: (bytes, finding) => text(done(calls.nzg_finding_text(bytes, finding)).text),
+        remarkText: (bytes, remark, { speed = '' } = {}) => text(done(calls.nzg_remark_text(bytes, speedOf(speed), remark)).text),
+        faultText: bytes => text(done(calls.nzg_fault_text(bytes)).text),
     };
 }
 
 function facts(calls) {
-    const fieldsOf = function* (bytes, descriptor) {
-        for (let i = 0, field = {}; calls.nzg_field(bytes, descriptor, i, field); i++, field = {})
-            yield { name: utf8.decode(field.name.subarray(0, field.name_length)), place: field.place, width: field.width, value: field.value };
-    };
+    const named = ({ name, name_length, place, width, value }) => ({ name: utf8.decode(name.subarray(0, name_length)), place, width, value });
+    const fieldsOf = (bytes, descriptor) => calls.nzg_fields(bytes, descriptor).fields.map(named);
     return {
         // 'set', 'file' or 'dump'
         judge: bytes => ['', 'set', 'file', 'dump'][done(calls.nzg_judge(bytes)).number],
@@ -70,7 +78,12 @@ function facts(calls) {
         * walk(bytes) {
             const cursor = {};
             while (calls.nzg_next(bytes, cursor))
-                yield { ...cursor, bytes: bytes.subarray(cursor.place, cursor.place + cursor.length), fields: [...fieldsOf(bytes, cursor)] };
+                yield { ...cursor, bytes: bytes.subarray(cursor.place, cursor.place + cursor.length), fields: fieldsOf(bytes, cursor) };
+        },
+        // its first field of a name, as 'wMaxPacketSize', or null
+        field(bytes, descriptor, name) {
+            const field = {};
+            return calls.nzg_field_named(bytes, descriptor, new TextEncoder().encode(name), field) ? named(field) : null;
         },
         string: (bytes, descriptor) => utf8.decode(done(calls.nzg_text(bytes, descriptor)).text),
     };

@@ -32,7 +32,7 @@ SOME = [REPORT, None, True, 5, -1, 128, 256, 257, 65536, 1 << 70, 1.5, float("na
         memoryview(b"abcdefgh"), memoryview(bytes(64))[::3], [], [9, 2], {}, (), object(), Odd(3), len, usb.Device, ends.ACK, ends.NAK, ends.Reply("data", 1, bytes(100)),
         ends.Transaction(0, "in"), ends.Transaction(0, "out", toggle=1), ends.Transaction.setup(0, bytes.fromhex("8006000100001200"))]
 MAKES = [usb.Decoder, ends.Device, ends.Host, ends.Transfer, ends.Write]
-CALLS = [getattr(usb, name) for name in ("read", "walk", "check", "remarks", "judge", "show", "build", "explain", "enumerate", "with_strings", "message")]
+CALLS = [getattr(usb, name) for name in ("read", "walk", "check", "remarks", "judge", "show", "build", "explain", "enumerate", "enumerate_log", "from_text", "with_strings", "message")]
 CALLS += [ends.Transaction, ends.Transaction.setup, ends.Reply, packets.Packet, packets.parse, packets.crc5, packets.crc16, *MAKES]
 raised = collections.Counter()
 
@@ -66,7 +66,7 @@ class Player:
             member(*self.rng.choice((self.words(), [], [self.rng.choice(SOME)]))) if callable(member) else None
 
     def of_descriptor(self, it):
-        copy.deepcopy(it), repr(it), it and it.fields, it and it[self.rng.choice(("bLength", "bDeviceClass", 5))]
+        copy.deepcopy(it), repr(it), it and it.fields, it and it[self.rng.choice(("bDescriptorType", "bDeviceClass", "ä\ud800", b"bInterval", 5))]
 
     def play(self, count):
         for _ in range(count):

@@ -155,7 +155,7 @@ def mistakes():
             ([MOUSE, "--answers", none], f"{none}: No such file or directory"), ([MOUSE, "--answers", wrong], f"{wrong}: line 3: the device answers 000500000000 itself"),
             ([MOUSE, "--answers", MOUSE], f"{MOUSE}: line 1: .*"), ([MOUSE, "--answers", MOUSE_ANSWERS, "--answers", wrong], f"--answers is there twice, of {MOUSE}"), (["--answers", wrong, "--answers", wrong, MOUSE], "--answers is there twice, before a file"), ([MOUSE, HUB, "--speed", "full", "--speed", "full"], f"--speed is there twice, of {HUB}"),
             (["--answers", wrong, MOUSE, "--answers", wrong], f"--answers is there twice, before and after {MOUSE}"), ([MOUSE, "--speed", "full", "--answers"], "argument --answers: expected one argument"), ([MOUSE, "--", "--speed"], "--speed: No such file or directory"),
-            (["testdata/files/every-rule-broken.file"], ".*every-rule-broken.file: description fault 1 .Finding., V11 at 0: bMaxPacketSize0 is not .*"), ([ACM, "--speed", "full"], f"{ACM}: endpoint 81 has packets of 512 bytes, too long for full speed"), (["--speed", "full", MOUSE, ACM], f"{ACM}: endpoint 81 .*"),
+            (["testdata/files/every-rule-broken.file"], ".*every-rule-broken.file: description fault 1 .Finding., V11 at 0: there is a subclass without a class"), ([ACM, "--speed", "full"], f"{ACM}: endpoint 81 has packets of 512 bytes, too long for full speed"), (["--speed", "full", MOUSE, ACM], f"{ACM}: endpoint 81 .*"),
             ([MOUSE, "--speed=full", "--answers=" + wrong], ".*line 3.*")):
             refused(wanted, *words)
 

@@ -16,7 +16,7 @@ from nozzlegorse import _library as c
 from nozzlegorse.faults import done
 
 EXAMPLES = os.path.join(os.path.dirname(os.path.abspath(__file__)), "../../testdata")
-INPUTS = [it for kind in ("sets/*.bin", "files/*.file", "dumps/*.descriptors", "rules/*.file", "explain/*.bin", "explain/*.descriptors")
+INPUTS = [it for kind in ("sets/*.bin", "files/*.file", "dumps/*.descriptors", "rules/*.file", "explain/*.bin", "explain/*.descriptors", "mistakes/*.bin")
           for it in sorted(glob.glob(f"{EXAMPLES}/{kind}"))]
 OWNERS = ("configuration", "interface", "endpoint")
 TYPED = {"device": 18, "qualifier": 10, "configuration": 9, "interface": 9, "endpoint": 7, "association": 8}
@@ -37,16 +37,17 @@ def line_of(it):
 
 
 def headings(text):
-    """Of each heading of an explanation the place, the length and the depth; its words; its fields; the rules that it breaks; and its remarks."""
+    """Of each heading of an explanation the place, the length and the depth; its words; its fields; the rules that it breaks, with what
+    is said of them; and what is remarked."""
     found = []
     for line in text.splitlines():
         indent = len(line) - len(line.lstrip(" "))
         if it := re.fullmatch(r" *(.*) @(\d+)\+(\d+)", line):
             found.append(((int(it[2]), int(it[3]), indent // 2), it[1], [], [], []))
-        elif it := re.match(r" +! V(\d+) ", line):
-            found[-1][3].append(int(it[1]))
+        elif it := re.fullmatch(r" +! V(\d+) (.*)", line):
+            found[-1][3].append((int(it[1]), it[2]))
         elif found and line.lstrip(" ").startswith("? "):
-            found[-1][4].append(line)
+            found[-1][4].append(line.lstrip(" ")[2:])
         elif (it := re.match(r" +(\w+) +(\S+)", line)) and found and indent == 2 * found[-1][0][2] + 4:
             found[-1][2].append((it[1], it[2]))
     return found[:-1] if found and found[-1][1] == "the rest" else found
@@ -101,6 +102,8 @@ def differs(data):
     walked, told = list(usb.walk(data)), headings(explained.text)
     if why := walk_differs(walked, told, fault):
         return why
+    if fault and "  ! " + re.sub(r" \(\w+\)", "", str(explained.fault)) not in explained.text.splitlines():
+        return f"{explained.fault} against {explained.text}"
     if fault:
         return None
     if sum(len(it.data) for it in walked) != len(data):
@@ -111,9 +114,9 @@ def differs(data):
     found = usb.check(data)
     if sorted(f"V{it.rule} {it.part} {it.set} {it.setting} {it.endpoint}" for it in found) != sorted(check_lines(data)):
         return f"findings {found} against {check_lines(data)}"
-    if [(it.place, it.rule) for it in found] != [(numbers[0], rule) for numbers, _, _, rules, _ in told for rule in rules]:
-        return f"places of {found}"
-    if [it.place for it in usb.remarks(data)] != [numbers[0] for numbers, *_, lines in told for _ in lines]:
+    if [(it.place, (it.rule, it.message)) for it in found] != [(numbers[0], rule) for numbers, _, _, rules, _ in told for rule in rules]:
+        return f"places and words of {found} against {told}"
+    if [(it.place, it.message) for it in usb.remarks(data)] != [(numbers[0], words) for numbers, *_, lines in told for words in lines]:
         return f"remarks {usb.remarks(data)} against {told}"
     return None
 

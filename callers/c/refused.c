@@ -9,7 +9,8 @@ static uint8_t bytes[1 << 16], text[1 << 20], again[1 << 20];
 static size_t length;
 static long calls, refusals;
 
-enum { SHOW, CHECK, CHECK_ANY, EXPLAIN, BUILD, BUILD_COMMENTS, ENUMERATE, JUDGE, FINDINGS, REMARKS, TEXT, WITH_STRINGS, DEVICE, HOST, DECODER, KINDS };
+enum { SHOW, CHECK, CHECK_ANY, EXPLAIN, LOOSE, HEX, FROM_TEXT, BUILD, BUILD_COMMENTS, ENUMERATE, JUDGE, FINDINGS, REMARKS, TEXT, WITH_STRINGS, DEVICE, HOST, DECODER,
+       FINDING_TEXT, REMARK_TEXT, FAULT_TEXT, TROUBLE_TEXT, ENUMERATE_LOG, KINDS };
 
 static struct nzg_answer in_pieces(uint8_t *out) {
     struct nzg_decoder decoder = {0};
@@ -89,6 +90,24 @@ static struct nzg_answer remarks(uint8_t *out) {
     return answer;
 }
 
+/* What is said of the last finding, or of none. */
+static struct nzg_answer finding_text(uint8_t *out) {
+    static struct nzg_finding found[64];
+    struct nzg_answer answer = nzg_findings(bytes, length, found, 64);
+    struct nzg_finding none = {0};
+    if (answer.status == NZG_NO_MEMORY) return answer;
+    return nzg_finding_text(bytes, length, answer.status == NZG_DONE && answer.length ? found + answer.length - 1 : &none, out, sizeof text);
+}
+
+/* The same of the last remark. */
+static struct nzg_answer remark_text(uint8_t *out) {
+    static struct nzg_remark found[64];
+    struct nzg_answer answer = nzg_remarks(bytes, length, NZG_HIGH, found, 64);
+    struct nzg_remark none = {0};
+    if (answer.status == NZG_NO_MEMORY) return answer;
+    return nzg_remark_text(bytes, length, NZG_HIGH, answer.status == NZG_DONE && answer.length ? found + answer.length - 1 : &none, out, sizeof text);
+}
+
 /* The last string, if there is one. */
 static struct nzg_answer last_string(uint8_t *out) {
     struct nzg_descriptor string = {0};
@@ -99,11 +118,15 @@ static struct nzg_answer last_string(uint8_t *out) {
 
 static struct nzg_answer call(int kind, uint8_t *out) {
     struct nzg_outcome outcome;
+    struct nzg_trouble trouble = {3, 10, 2, 0x409};
     switch (kind) {
     case SHOW: return nzg_show(bytes, length, true, out, sizeof text);
     case CHECK: return nzg_check(bytes, length, false, out, sizeof text);
     case CHECK_ANY: return nzg_check(bytes, length, true, out, sizeof text);
     case EXPLAIN: return nzg_explain(bytes, length, NZG_PLACES, 0, out, sizeof text);
+    case LOOSE: return nzg_explain(bytes, length, NZG_LOOSE, 0, out, sizeof text);
+    case HEX: return nzg_explain(bytes, length, NZG_HEX, 0, out, sizeof text);
+    case FROM_TEXT: return nzg_from_text(bytes, length, out, sizeof text);
     case BUILD: return nzg_build(bytes, length, false, out, sizeof text);
     case BUILD_COMMENTS: return nzg_build(bytes, length, true, out, sizeof text);
     case ENUMERATE: return nzg_enumerate(bytes, length, NZG_FULL, 16, 3, (const uint8_t *)"....a", 5, &outcome, out, sizeof text);
@@ -114,6 +137,11 @@ static struct nzg_answer call(int kind, uint8_t *out) {
     case WITH_STRINGS: return nzg_with_strings(bytes, length, out, sizeof text);
     case DEVICE: return opened_twice();
     case HOST: return by_host(out);
+    case FINDING_TEXT: return finding_text(out);
+    case REMARK_TEXT: return remark_text(out);
+    case FAULT_TEXT: return nzg_fault_text(bytes, length, out, sizeof text);
+    case TROUBLE_TEXT: return nzg_trouble_text(&trouble, out, sizeof text);
+    case ENUMERATE_LOG: return nzg_enumerate_log(bytes, length, NZG_FULL, 16, 3, (const uint8_t *)"....a", 5, out, sizeof text);
     default: return in_pieces(out);
     }
 }
@@ -139,7 +167,7 @@ static int refuse(const char *name, int kind, struct nzg_answer want, long place
     if (is_refusal(got) && (again[0] != 0xa5 || memcmp(again, again + 1, sizeof again - 1)))
         return printf("%s: call %d writes though request %ld is refused\n", name, kind, place), 1;
     if (is_refusal(got)) return refusals++, 0;
-    if (same(got, want) && !memcmp(text, again, got.length)) return 0;
+    if (same(got, want) && !memcmp(text, again, got.status == NZG_TEXT_FAULT ? 0 : got.length)) return 0;
     return printf("%s: call %d answers otherwise at request %ld: %u %u %zu\n", name, kind, place, got.status, got.number, got.place), 1;
 }
 

@@ -1,7 +1,7 @@
 /* texts COMMAND FILE [LENGTH]: what a call makes of the first LENGTH bytes of FILE. The commands are show and check, with a
- * dash behind them with `any`; build, so with `comments`; and explain as plain, brief, noplaces, high, utf8 or formats. Writes what it
- * makes, and behind it, on a line of its own, the status, the number and the place. Ends in 9 where a buffer that is too short
- * is written to. */
+ * dash behind them with `any`; build, so with `comments`; explain as plain, brief, noplaces, high, utf8, formats, fragment or hex;
+ * and text, the bytes of hexadecimal text. Writes what it makes, and behind it, on a line of its own, the status, the number, of such
+ * a text the column, and the place. Ends in 9 where a buffer that is too short is written to. */
 #include <nozzlegorse.h>
 #include "hosted.h"
 
@@ -19,6 +19,9 @@ static struct nzg_answer call(const char *command, size_t length, size_t room) {
     case 'h' + 'i': return nzg_explain(bytes, length, NZG_PLACES, NZG_HIGH, text, room);
     case 'f' + 'o': return nzg_explain(bytes, length, NZG_PLACES | NZG_FORMATS, 0, text, room);
     case 'u' + 't': return nzg_explain(bytes, length, NZG_PLACES | NZG_UTF8, 0, text, room);
+    case 'f' + 'r': return nzg_explain(bytes, length, NZG_PLACES | NZG_LOOSE, 0, text, room);
+    case 'h' + 'e': return nzg_explain(bytes, length, NZG_PLACES | NZG_HEX, 0, text, room);
+    case 't' + 'e': return nzg_from_text(bytes, length, text, room);
     default: return nzg_build(bytes, length, wide, text, room);
     }
 }
@@ -44,7 +47,8 @@ int main(int argc, char **argv) {
     if (room == (size_t)-1) return 9;
     struct nzg_answer a = call(argv[1], length, room);
     if (a.length != room) return 9;
-    for (size_t i = 0; i < room; i++) printf("%c", text[i]);
-    printf("\n%u %u %zu\n", a.status, a.number, a.place);
+    bool is_no_text = a.status == NZG_TEXT_FAULT;
+    for (size_t i = 0; i < (is_no_text ? 0 : room); i++) printf("%c", text[i]);
+    printf("\n%u %zu %zu\n", a.status, is_no_text ? a.length : a.number, a.place);
     return 0;
 }

@@ -7,9 +7,12 @@ int main(void) {
     static struct nzg_finding found[1000];
     size_t len = fread(bytes, 1, sizeof bytes, stdin);
     struct nzg_answer a = nzg_findings(bytes, len, found, 1000);
-    if (a.status != NZG_DONE) return printf("status %u, fault %u at %lu\n", a.status, a.number, (unsigned long)a.place), 2;
+    if (a.status != NZG_DONE) {
+        struct nzg_answer text = nzg_fault_text(bytes, len, words, sizeof words);
+        return printf("at %lu: %.*s\n", (unsigned long)a.place, (int)text.length, (char *)words), 2;
+    }
     for (size_t i = 0; i < a.length; i++) {
-        struct nzg_answer text = nzg_rule(found[i].rule, words, sizeof words);
+        struct nzg_answer text = nzg_finding_text(bytes, len, &found[i], words, sizeof words);
         printf("at %lu: V%u: %.*s\n", (unsigned long)found[i].place, found[i].rule, (int)text.length, (char *)words);
     }
     return a.length > 0;

@@ -527,7 +527,7 @@ static int tell_findings(const struct plugged *p, const uint8_t *file, size_t le
     struct nzg_answer all = nzg_findings(file, len, found, 1000);
     uint8_t words[300];
     for (size_t i = 0; all.status == NZG_DONE && i < all.length; i++)
-        printf("descriptors: V%u at %zu: %.*s\n", found[i].rule, found[i].place, (int)nzg_rule(found[i].rule, words, sizeof words).length, (char *)words);
+        printf("descriptors: V%u at %zu: %.*s\n", found[i].rule, found[i].place, (int)nzg_finding_text(file, len, &found[i], words, sizeof words).length, (char *)words);
     printf("%s: no device of this speed has these descriptors, so nothing was asked\n", p->name);
     return STATUS_DIFFERS;
 }

@@ -4,7 +4,6 @@ from __future__ import annotations
 import ctypes
 import operator
 import os
-import re
 
 # nozzlegorse.h without its comments, its numbers and the names of parameters.
 DECLARATIONS = """
@@ -32,14 +31,21 @@ struct nzg_decoder { void *held; };
 struct nzg_answer nzg_show(const uint8_t *, size_t, bool, uint8_t *, size_t);
 struct nzg_answer nzg_check(const uint8_t *, size_t, bool, uint8_t *, size_t);
 struct nzg_answer nzg_explain(const uint8_t *, size_t, uint32_t, uint8_t, uint8_t *, size_t);
+struct nzg_answer nzg_from_text(const uint8_t *, size_t, uint8_t *, size_t);
 struct nzg_answer nzg_build(const uint8_t *, size_t, bool, uint8_t *, size_t);
 struct nzg_answer nzg_enumerate(const uint8_t *, size_t, uint8_t, uint16_t, uint8_t, const uint8_t *, size_t, struct nzg_outcome *,
     uint8_t *, size_t);
+struct nzg_answer nzg_enumerate_log(const uint8_t *, size_t, uint8_t, uint16_t, uint8_t, const uint8_t *, size_t, uint8_t *, size_t);
 bool nzg_next(const uint8_t *, size_t, struct nzg_descriptor *);
 bool nzg_field(const uint8_t *, size_t, const struct nzg_descriptor *, size_t, struct nzg_field *);
+struct nzg_answer nzg_fields(const uint8_t *, size_t, const struct nzg_descriptor *, struct nzg_field *, size_t);
+bool nzg_field_named(const uint8_t *, size_t, const struct nzg_descriptor *, const uint8_t *, size_t, struct nzg_field *);
 struct nzg_answer nzg_judge(const uint8_t *, size_t);
 struct nzg_answer nzg_findings(const uint8_t *, size_t, struct nzg_finding *, size_t);
 struct nzg_answer nzg_remarks(const uint8_t *, size_t, uint8_t, struct nzg_remark *, size_t);
+struct nzg_answer nzg_finding_text(const uint8_t *, size_t, const struct nzg_finding *, uint8_t *, size_t);
+struct nzg_answer nzg_remark_text(const uint8_t *, size_t, uint8_t, const struct nzg_remark *, uint8_t *, size_t);
+struct nzg_answer nzg_fault_text(const uint8_t *, size_t, uint8_t *, size_t);
 struct nzg_answer nzg_rule(uint8_t, uint8_t *, size_t);
 struct nzg_answer nzg_text(const uint8_t *, size_t, const struct nzg_descriptor *, uint8_t *, size_t);
 struct nzg_answer nzg_with_strings(const uint8_t *, size_t, uint8_t *, size_t);
@@ -76,38 +82,50 @@ bool nzg_host_step(struct nzg_host *, struct nzg_step *);
 uint8_t nzg_host_attempts(struct nzg_host *);
 struct nzg_answer nzg_host_outcome(struct nzg_host *, struct nzg_trouble *, uint8_t *, size_t);
 void nzg_host_close(struct nzg_host *);
+struct nzg_answer nzg_trouble_text(const struct nzg_trouble *, uint8_t *, size_t);
 struct nzg_answer nzg_decoder_open(struct nzg_decoder *);
 struct nzg_answer nzg_decoder_feed(struct nzg_decoder *, const uint8_t *, size_t);
 struct nzg_answer nzg_decoder_list(struct nzg_decoder *, uint8_t *, size_t);
 void nzg_decoder_close(struct nzg_decoder *);
 """
 STATUSES = ("done", "open", "set_fault", "file_fault", "list_fault", "description_fault", "trailing", "no_room", "no_memory",
-            "closed", "bad_argument", "trouble", "unanswered", "no_bytes")
+            "closed", "bad_argument", "trouble", "unanswered", "no_bytes", "text_fault")
 SPEEDS = ("low", "full", "high", "super")
 _TYPES = {"void": None, "void *": ctypes.c_void_p, "bool": ctypes.c_bool, "size_t": ctypes.c_size_t, "uint8_t": ctypes.c_uint8,
           "uint16_t": ctypes.c_uint16, "uint32_t": ctypes.c_uint32, "uint64_t": ctypes.c_uint64,
           "const uint8_t *": ctypes.c_char_p, "uint8_t *": ctypes.c_void_p}
 
 
+# Without the module re, which takes a quarter of an import.
+def _field(kind: str, declared: str) -> tuple[str, type]:
+    name, _, count = declared.rstrip("]").partition("[")
+    it = _TYPES[kind + " *" * name.startswith("*")]
+    return name.lstrip("*"), it * int(count) if count else it
+
+
 def _struct(name: str, body: str) -> type:
     fields = []
-    for kind, declared in re.findall(r"((?:struct )?\w+) ([^;]+);", body):
-        for star, field, count in re.findall(r"(\*?)(\w+)(?:\[(\d+)\])?", declared):
-            it = _TYPES[kind + " *" * bool(star)]
-            fields.append((field, it * int(count) if count else it))
+    for declared in body.split(";")[:-1]:
+        first, *others = declared.split(", ")
+        kind, _, first = first.strip().rpartition(" ")
+        fields += [_field(kind, it) for it in (first, *others)]
     return type(name, (ctypes.Structure,), {"_fields_": fields})
 
 
 def _declared(library, text: str) -> dict[str, type]:
     """Gives each call of a library its types; the structs that are declared, by their names without nzg_."""
     structs = {}
-    for name, body in re.findall(r"struct nzg_(\w+) \{(.*?)\};", text, re.S):
+    *declared, calls = " ".join(text.split()).split("};")
+    for it in declared:
+        name, body = it.strip().removeprefix("struct nzg_").split(" {")
         it = structs[name] = _struct(name, body)
         pointer = ctypes.POINTER(it)
         _TYPES.update({f"struct nzg_{name}": it, f"struct nzg_{name} *": pointer, f"const struct nzg_{name} *": pointer})
-    for result, name, parameters in re.findall(r"^((?:struct )?\w+) (nzg_\w+)\((.*?)\);", text, re.S | re.M):
+    for it in calls.split(");")[:-1]:
+        head, parameters = it.strip().split("(")
+        result, _, name = head.rpartition(" ")
         call = getattr(library, name)
-        call.restype, call.argtypes = _TYPES[result], [_TYPES[" ".join(it.split())] for it in parameters.split(",")]
+        call.restype, call.argtypes = _TYPES[result], [_TYPES[it] for it in parameters.split(", ")]
     return structs
 
 

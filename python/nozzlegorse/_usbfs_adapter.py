@@ -74,4 +74,4 @@ def read_file(adapter: Adapter, is_stopped: Callable[[], bool] = lambda: False) 
             return host.outcome() or b""
         except Fault as trouble:
             late = ": no answer within 5 s (9.2.6)" if plugged.error == errno.ETIMEDOUT else ""
-            raise Refused(f"{trouble}{late}; {adapter.so_far()}") from None
+            raise Refused(f"trouble {trouble.number} ({trouble.name}) in {trouble.step}{late}; {adapter.so_far()}") from None

@@ -57,4 +57,4 @@ class Value:
         raise AttributeError(f"cannot delete field {name!r}")
 
     def __repr__(self):
-        return f"{type(self).__qualname__}({', '.join(f'{name}={self.__dict__[name]!r}' for name in self.__match_args__)})"
+        return f"{type(self).__qualname__}({', '.join(f'{name}={self.__dict__[name]!r}' for name in self.__match_args__ if name[0] != '_')})"

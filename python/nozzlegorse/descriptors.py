@@ -11,10 +11,6 @@ ROLES = (None, "device", "configuration", "interface", "endpoint", "association"
 PARTS = ("device", "main", "other")
 
 
-def _name(it) -> str:
-    return bytes(it.name)[:it.name_length].decode("ascii")
-
-
 class Field(Value):
     """A field of a descriptor: its name in the standard, its place in the input, and its bytes."""
 
@@ -63,19 +59,14 @@ class Descriptor(Value):
     @property
     def fields(self) -> list[Field]:
         """Each field in the order of the bytes, of descriptors of classes too."""
-        return [Field(_name(it), it.place, self._bytes_of(it)) for it in self._fields()]
+        _, found = c.into(c.lib.nzg_fields, self._input, len(self._input), self._numbers(), of=c.structs["field"], room=32)
+        return [Field(bytes(it.name)[:it.name_length].decode("ascii"), it.place, self._bytes_of(it)) for it in found]
 
     def __getitem__(self, name: str) -> int:
-        for it in self._fields():
-            if _name(it) == name:
-                return int.from_bytes(self._bytes_of(it), "little")
-        raise KeyError(name)
-
-    def _fields(self):
-        number, at, it = 0, self._numbers(), c.structs["field"]()
-        while c.lib.nzg_field(self._input, len(self._input), at, number, it):
-            yield it
-            number += 1
+        it, word = c.structs["field"](), name.encode(errors="replace") if isinstance(name, str) else b""
+        if not c.lib.nzg_field_named(self._input, len(self._input), self._numbers(), word, len(word), it):
+            raise KeyError(name)
+        return int.from_bytes(self._bytes_of(it), "little")
 
     def _bytes_of(self, it):
         return self._input[it.place:it.place + it.width]
@@ -225,8 +216,8 @@ class Configuration(Descriptor):
 
 
 class Finding(Value):
-    """A rule of chapter 9 that is broken, by which descriptor, and what breaks it in words. Sets, settings and endpoints are
-    numbers from 0, each in what it belongs to."""
+    """A rule of chapter 9 that is broken, by which descriptor. Sets, settings and endpoints are numbers from 0, each in what it belongs
+    to. `str` has its place, its rule and its message."""
 
     rule: int
     part: str
@@ -235,7 +226,13 @@ class Finding(Value):
     endpoint: int
     place: int
     role: str
-    message: str
+    _input: bytes
+    _free = ("_input",)
+
+    @property
+    def message(self) -> str:
+        """What breaks the rule, in the words of `usbdesc explain`: counts that differ too. The bytes are read anew for it."""
+        return text_of(c.lib.nzg_finding_text, *c.lend(self._input), c.structs["finding"](place=self.place, rule=self.rule))
 
     def __str__(self) -> str:
         return f"at {self.place}: V{self.rule}: {self.message}"
@@ -243,7 +240,7 @@ class Finding(Value):
 
 class Remark(Value):
     """What is remarked of a descriptor, which breaks no rule. The number is that of the table of remarks in docs/formats.md; the
-    others are as in a `Finding`. `str` is the line of `usbdesc check --remarks`."""
+    others are as in a `Finding`. `str` has its place, its number and its message."""
 
     number: int
     part: str
@@ -252,9 +249,17 @@ class Remark(Value):
     endpoint: int
     place: int
     role: str
+    _input: bytes
+    _speed: int
+    _free = ("_input", "_speed")
+
+    @property
+    def message(self) -> str:
+        """What is remarked, in the words of `usbdesc explain`. The bytes are read anew for it."""
+        return text_of(c.lib.nzg_remark_text, *c.lend(self._input), self._speed, c.structs["remark"](place=self.place, number=self.number))
 
     def __str__(self) -> str:
-        return f"R{self.number} {self.part} {self.set} {self.setting} {self.endpoint}"
+        return f"at {self.place}: R{self.number}: {self.message}"
 
 
 class Descriptors(Value):
@@ -305,7 +310,8 @@ def _walk(data, length, at):
 
 def judge(data: bytes) -> str:
     """What the bytes are: 'set', 'file' or 'dump'. Raises a `Fault` with its number and place where they are none."""
-    return ("set", "file", "dump")[done(c.lib.nzg_judge(*c.lend(data))).number - 1]
+    data, length = c.lend(data)
+    return ("set", "file", "dump")[done(c.lib.nzg_judge(data, length), data).number - 1]
 
 
 def read(data: bytes) -> Descriptors:
@@ -329,21 +335,28 @@ def read(data: bytes) -> Descriptors:
 
 def check(data: bytes) -> list[Finding]:
     """Each rule of chapter 9 that a set, a descriptor file or a dump breaks, in the order of the bytes."""
-    answer, found = c.into(c.lib.nzg_findings, *c.lend(data), of=c.structs["finding"], room=64)
-    done(answer)
-    return [Finding(it.rule, PARTS[it.part], it.set, it.setting, it.endpoint, it.place, ROLES[it.role], message(it.rule)) for it in found]
+    data, length = c.lend(data)
+    answer, found = c.into(c.lib.nzg_findings, data, length, of=c.structs["finding"], room=64)
+    done(answer, data)
+    return [Finding(it.rule, PARTS[it.part], it.set, it.setting, it.endpoint, it.place, ROLES[it.role], data) for it in found]
 
 
 def remarks(data: bytes, speed: str | None = None) -> list[Remark]:
     """What is remarked of a set, a descriptor file or a dump, in the order of the bytes. The device ran at this speed: 'low', 'full',
     'high', 'super', or None where it isn't known."""
-    answer, found = c.into(c.lib.nzg_remarks, *c.lend(data), c.speed_number(speed, (None, *c.SPEEDS)), of=c.structs["remark"], room=64)
-    done(answer)
-    return [Remark(it.number, PARTS[it.part], it.set, it.setting, it.endpoint, it.place, ROLES[it.role]) for it in found]
+    (data, length), running = c.lend(data), c.speed_number(speed, (None, *c.SPEEDS))
+    answer, found = c.into(c.lib.nzg_remarks, data, length, running, of=c.structs["remark"], room=64)
+    done(answer, data)
+    return [Remark(it.number, PARTS[it.part], it.set, it.setting, it.endpoint, it.place, ROLES[it.role], data, running) for it in found]
 
 
 def message(rule: int) -> str:
     """What breaks a rule, in words."""
-    answer, text = c.into(c.lib.nzg_rule, c.number(rule, 0, 255, "rule"))
+    return text_of(c.lib.nzg_rule, c.number(rule, 0, 255, "rule"))
+
+
+def text_of(call, *before) -> str:
+    """The text that a call puts."""
+    answer, text = c.into(call, *before)
     done(answer)
     return text.decode("ascii")

@@ -10,7 +10,7 @@ from __future__ import annotations
 from . import _library as c
 from ._handle import Handle
 from ._value import Value
-from .faults import STATUSES, Fault, done, step_word
+from .faults import STATUSES, Fault, done, step_word, trouble_of
 
 # The most bytes of an answer or a write, which a device keeps.
 ROOM = 512
@@ -254,5 +254,5 @@ class Host(Handle):
         trouble = c.structs["trouble"]()
         answer, out = c.into(lambda *rest: self._call("outcome", trouble, *rest))
         if STATUSES[answer.status] == "trouble":
-            raise Fault("trouble", answer.number, step=step_word(trouble))
+            raise trouble_of(answer.number, trouble)
         return out if STATUSES[done(answer).status] == "done" else None

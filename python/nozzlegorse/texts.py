@@ -4,7 +4,10 @@ from __future__ import annotations
 from . import _library as c
 from ._handle import Handle
 from ._value import Value
-from .faults import STATUSES, Fault, done, fault_of, step_word
+from .faults import STATUSES, Fault, TextFault, done, fault_of, trouble_of
+
+# that of Python, which a call below hides
+_numbered = enumerate
 
 
 class Explanation(Value):
@@ -34,47 +37,71 @@ class Enumeration(Value):
         return f"success {counts} address {self.address} value {self.selected}"
 
 
-def _whole(call, *before) -> bytes:
-    answer, out = c.into(call, *before)
-    done(answer)
+def _lend_text(text: str | bytes) -> tuple[bytes, int]:
+    return c.lend(text.encode() if isinstance(text, str) else text)
+
+
+def _whole(call, data: bytes, *rest) -> bytes:
+    data, length = _lend_text(data)
+    answer, out = c.into(call, data, length, *rest)
+    done(answer, data)
     return out
 
 
 def show(data: bytes) -> str:
     """The listing of a set, a descriptor file or a dump: a line for each descriptor."""
-    return _whole(c.lib.nzg_show, *c.lend(data), True).decode("ascii")
+    return _whole(c.lib.nzg_show, data, True).decode("ascii")
 
 
 def build(text: str | bytes, comments: bool = False) -> bytes:
     """The bytes that a text lists. With `comments` empty lines, lines that begin with # and carriage returns are dropped."""
-    return _whole(c.lib.nzg_build, *c.lend(text.encode() if isinstance(text, str) else text), bool(comments))
+    return _whole(c.lib.nzg_build, text, bool(comments))
+
+
+def from_text(text: str | bytes) -> bytes:
+    """The bytes of hexadecimal text: digits, a dump with its columns, an array of a program. Of a text that is none, or that two
+    readings would take differently, a `TextFault` with its line and column."""
+    return _whole(c.lib.nzg_from_text, text)
 
 
 def with_strings(dump: bytes) -> bytes:
     """A dump as a descriptor file, with the strings that `usbdesc enumerate --with-strings` puts."""
-    return _whole(c.lib.nzg_with_strings, *c.lend(dump))
+    return _whole(c.lib.nzg_with_strings, dump)
 
 
-def explain(data: bytes, brief: bool = False, places: bool = True, speed: str | None = None, utf8: bool = False,
-            formats: bool = False) -> Explanation:
+def explain(data: bytes | str, brief: bool = False, places: bool = True, speed: str | None = None, utf8: bool = False,
+            formats: bool = False, loose: bool = False, hex: bool = False) -> Explanation:
     """What descriptors mean, in words, also of broken bytes as far as they go. With `formats` headings tell video frames and audio
-    formats apart: by size and interval, by rates."""
-    options = bool(brief) | bool(places) << 1 | bool(utf8) << 2 | bool(formats) << 3
-    answer, out = c.into(c.lib.nzg_explain, *c.lend(data), options, c.speed_number(speed, (None, *c.SPEEDS)))
-    return Explanation(out.decode(), fault_of(answer))
+    formats apart: by size and interval, by rates. With `loose` they are descriptors one after another, or a setup packet; with `hex`
+    hexadecimal text."""
+    options = sum(bool(it) << bit for bit, it in _numbered((brief, places, utf8, formats, loose, hex)))
+    data, length = _lend_text(data)
+    answer, out = c.into(c.lib.nzg_explain, data, length, options, c.speed_number(speed, (None, *c.SPEEDS)))
+    fault = fault_of(answer, data)
+    return Explanation("" if isinstance(fault, TextFault) else out.decode(), fault)
 
 
 def enumerate(data: bytes, speed: str = "full", naks: int = 16, attempts: int = 3, fates: str | bytes = "") -> Enumeration:
     """A host enumerates a device with these descriptors, over a bus with these fates, a letter a transaction."""
-    outcome = c.structs["outcome"]()
-    answer, out = c.into(c.lib.nzg_enumerate, *c.lend(data), c.speed_number(speed), c.number(naks, 0, 65535, "naks"),
-                         c.number(attempts, 0, 255, "attempts"), *c.lend(fates.encode() if isinstance(fates, str) else fates), outcome)
-    trouble = None
-    if STATUSES[answer.status] == "trouble":
-        trouble = Fault("trouble", answer.number, step=step_word(outcome))
-    else:
-        done(answer)
+    outcome, given = c.structs["outcome"](), _given(data, speed, naks, attempts, fates)
+    answer, out = c.into(c.lib.nzg_enumerate, *given, outcome)
+    trouble = trouble_of(answer.number, outcome) if STATUSES[answer.status] == "trouble" else None
+    if not trouble:
+        done(answer, given[0])
     return Enumeration(outcome.attempts, outcome.transactions, outcome.address, outcome.selected, trouble, out.decode("ascii"))
+
+
+def enumerate_log(data: bytes, speed: str = "full", naks: int = 16, attempts: int = 3, fates: str | bytes = "") -> str:
+    """The log of that enumeration: what `usbdesc enumerate --log` writes before its last lines."""
+    given = _given(data, speed, naks, attempts, fates)
+    answer, out = c.into(c.lib.nzg_enumerate_log, *given)
+    done(answer, given[0])
+    return out.decode("ascii")
+
+
+def _given(data, speed, naks, attempts, fates):
+    return (*c.lend(data), c.speed_number(speed), c.number(naks, 0, 65535, "naks"), c.number(attempts, 0, 255, "attempts"),
+            *c.lend(fates.encode() if isinstance(fates, str) else fates))
 
 
 class Decoder(Handle):

@@ -1,6 +1,7 @@
 //! texts COMMAND [FATES] < FILE: what the crate makes of the bytes; a fault on standard error, as `usbdesc` says it.
 use nozzlegorse::{
-    build, check, configurations, descriptors, enumerate, explain, remarks, show, with_strings, Fault, Options, Speed,
+    build, check, configurations, descriptors, enumerate, explain, from_text, remarks, show, with_strings, Fault, Options,
+    Speed,
 };
 use std::io::{stdin, stdout, Read, Write};
 
@@ -11,7 +12,10 @@ fn walk(bytes: &[u8]) -> String {
         let (place, length, depth, set, setting) = (it.place(), it.bytes().len(), it.depth(), it.set(), it.setting());
         let (endpoint, interface, alternate, language, index) =
             (it.endpoint_number(), it.interface(), it.alternate(), it.language(), it.index());
-        let field = |f: nozzlegorse::Field| format!(" {}={}+{}:{}", f.name(), f.place(), f.width(), f.value());
+        let field = |f: nozzlegorse::Field| {
+            assert_eq!(it.field(f.name()), it.fields().find(|other| other.name() == f.name()));
+            format!(" {}={}+{}:{}", f.name(), f.place(), f.width(), f.value())
+        };
         let fields: String = it.fields().map(field).collect();
         format!("{place} {length} {role} {depth} {owner} {part} {set} {setting} {endpoint} {interface} {alternate} ")
             + &format!("{class} {subclass} {protocol} {language} {index}{fields}\n")
@@ -40,13 +44,16 @@ fn made(command: &str, fates: &str, bytes: &[u8]) -> Result<Vec<u8>, Fault> {
         no_places: command == "noplaces",
         utf8: command == "utf8",
         formats: command == "formats",
+        loose: command == "fragment",
+        hex: command == "hex",
         speed: (command == "high").then_some(Speed::High),
     };
     Ok(match command {
         "show-" => show(bytes)?.into(),
-        "check" => check(bytes)?.iter().map(|it| format!("{it}\n")).collect::<String>().into(),
+        "check" => check(bytes)?.iter().map(|it| format!("{} V{}\n", it.place, it.rule)).collect::<String>().into(),
         "remarks" => remarks(bytes, Some(Speed::High))?.iter().map(|it| format!("{it}\n")).collect::<String>().into(),
         "build" | "build-" => build(bytes, command == "build-")?,
+        "text" => from_text(bytes)?,
         "with_strings" => with_strings(bytes)?,
         "walk" => walk(bytes).into(),
         "tree" => tree(bytes).into(),

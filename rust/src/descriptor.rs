@@ -19,7 +19,7 @@ pub enum Input {
 
 /// What these bytes are, or their fault.
 pub fn judge(bytes: &[u8]) -> Result<Input, Fault> {
-    let answer = done(unsafe { sys::nzg_judge(bytes.as_ptr(), bytes.len()) })?;
+    let answer = done(unsafe { sys::nzg_judge(bytes.as_ptr(), bytes.len()) }).map_err(|it| it.of(bytes))?;
     Ok(match answer.number {
         1 => Input::Set,
         2 => Input::File,
@@ -185,11 +185,17 @@ impl<'a> Descriptor<'a> {
     }
     /// Its fields, in the order of the bytes.
     pub fn fields(&self) -> impl Iterator<Item = Field> + 'a {
-        let it = *self;
-        (0..).map_while(move |n| {
-            let mut field = nzg_field::default();
-            unsafe { sys::nzg_field(it.input.as_ptr(), it.input.len(), &it.at, n, &mut field) }.then_some(Field(field))
-        })
+        // A field has a byte at least.
+        let mut out = vec![nzg_field::default(); self.bytes().len()];
+        let (bytes, len) = (self.input.as_ptr(), self.input.len());
+        let answer = unsafe { sys::nzg_fields(bytes, len, &self.at, out.as_mut_ptr(), out.len()) };
+        out.into_iter().take(answer.length).map(Field)
+    }
+    /// Its first field of this name in the standard, as `wMaxPacketSize`.
+    pub fn field(&self, name: &str) -> Option<Field> {
+        let mut out = nzg_field::default();
+        let (bytes, len) = (self.input.as_ptr(), self.input.len());
+        unsafe { sys::nzg_field_named(bytes, len, &self.at, name.as_ptr(), name.len(), &mut out) }.then_some(Field(out))
     }
     /// Of a configuration, an interface at a setting and an endpoint: the descriptors of a class or a vendor, and the associations,
     /// that belong to it.
@@ -318,9 +324,31 @@ impl<'a> Iterator for Descriptors<'a> {
 
 impl FusedIterator for Descriptors<'_> {}
 
-/// A rule of chapter 9 that is broken.
+/// The bytes of which something is said. What is said is compared without them.
+#[derive(Clone, Copy)]
+struct Of<'a>(&'a [u8]);
+
+impl PartialEq for Of<'_> {
+    fn eq(&self, _: &Of<'_>) -> bool {
+        true
+    }
+}
+
+impl Eq for Of<'_> {}
+
+impl Hash for Of<'_> {
+    fn hash<H: Hasher>(&self, _: &mut H) {}
+}
+
+impl fmt::Debug for Of<'_> {
+    fn fmt(&self, f: &mut fmt::Formatter<'_>) -> fmt::Result {
+        write!(f, "{} bytes", self.0.len())
+    }
+}
+
+/// A rule of chapter 9 that is broken. It is shown with its place, the rule and its message.
 #[derive(Clone, Copy, Debug, PartialEq, Eq, Hash)]
-pub struct Finding {
+pub struct Finding<'a> {
     /// The rule's number: 1 to 13.
     pub rule: u8,
     /// In which part.
@@ -335,26 +363,29 @@ pub struct Finding {
     pub place: usize,
     /// What it is.
     pub role: Role,
+    input: Of<'a>,
 }
 
-impl Finding {
-    /// What breaks the rule, in words.
+impl Finding<'_> {
+    /// What breaks the rule, in the words of `usbdesc explain`: counts that differ too. The bytes are read anew for it; empty out of memory.
     pub fn message(&self) -> String {
-        text_of(into(|out, room| unsafe { sys::nzg_rule(self.rule, out, room) })).expect("a finding has a rule")
+        let (bytes, len) = (self.input.0.as_ptr(), self.input.0.len());
+        let it = nzg_finding { place: self.place, rule: self.rule, ..nzg_finding::default() };
+        text_of(into(|out, room| unsafe { sys::nzg_finding_text(bytes, len, &it, out, room) })).unwrap_or_default()
     }
 }
 
-impl fmt::Display for Finding {
+impl fmt::Display for Finding<'_> {
     fn fmt(&self, f: &mut fmt::Formatter<'_>) -> fmt::Result {
         write!(f, "at {}: V{}: {}", self.place, self.rule, self.message())
     }
 }
 
 /// Each rule of chapter 9 that a set, a descriptor file or a dump breaks, in the order of the bytes.
-pub fn check(bytes: &[u8]) -> Result<Vec<Finding>, Fault> {
-    let (bytes, len) = (bytes.as_ptr(), bytes.len());
-    let (answer, found) = into::<nzg_finding>(|out, room| unsafe { sys::nzg_findings(bytes, len, out, room) });
-    done(answer)?;
+pub fn check(bytes: &[u8]) -> Result<Vec<Finding<'_>>, Fault> {
+    let (data, len) = (bytes.as_ptr(), bytes.len());
+    let (answer, found) = into::<nzg_finding>(|out, room| unsafe { sys::nzg_findings(data, len, out, room) });
+    done(answer).map_err(|it| it.of(bytes))?;
     let finding = |it: nzg_finding| Finding {
         rule: it.rule,
         part: Part::of(it.part),
@@ -363,13 +394,14 @@ pub fn check(bytes: &[u8]) -> Result<Vec<Finding>, Fault> {
         endpoint: it.endpoint,
         place: it.place,
         role: Role::of(it.role).expect("a finding has a descriptor"),
+        input: Of(bytes),
     };
     Ok(found.into_iter().map(finding).collect())
 }
 
-/// What is remarked of a descriptor, which breaks no rule.
+/// What is remarked of a descriptor, which breaks no rule. It is shown with its place, its number and its message.
 #[derive(Clone, Copy, Debug, PartialEq, Eq, Hash)]
-pub struct Remark {
+pub struct Remark<'a> {
     /// The remark's number, from 1, in the table of remarks in docs/formats.md.
     pub number: u8,
     /// In which part.
@@ -384,21 +416,30 @@ pub struct Remark {
     pub place: usize,
     /// What it is.
     pub role: Role,
+    input: Of<'a>,
+    speed: Option<Speed>,
 }
 
-/// The line of `usbdesc check --remarks`.
-impl fmt::Display for Remark {
+impl Remark<'_> {
+    /// What is remarked, in the words of `usbdesc explain`. The bytes are read anew for it; empty out of memory.
+    pub fn message(&self) -> String {
+        let (bytes, len, speed) = (self.input.0.as_ptr(), self.input.0.len(), self.speed.map_or(0, |it| it as u8));
+        let it = nzg_remark { place: self.place, number: self.number, ..nzg_remark::default() };
+        text_of(into(|out, room| unsafe { sys::nzg_remark_text(bytes, len, speed, &it, out, room) })).unwrap_or_default()
+    }
+}
+
+impl fmt::Display for Remark<'_> {
     fn fmt(&self, f: &mut fmt::Formatter<'_>) -> fmt::Result {
-        let part = ["device", "main", "other"][self.part as usize];
-        write!(f, "R{} {part} {} {} {}", self.number, self.set, self.setting, self.endpoint)
+        write!(f, "at {}: R{}: {}", self.place, self.number, self.message())
     }
 }
 
 /// What is remarked of a set, a descriptor file or a dump, in the order of the bytes. The device ran at this speed, if it is known.
-pub fn remarks(bytes: &[u8], speed: Option<Speed>) -> Result<Vec<Remark>, Fault> {
-    let (bytes, len, speed) = (bytes.as_ptr(), bytes.len(), speed.map_or(0, |it| it as u8));
-    let (answer, found) = into::<nzg_remark>(|out, room| unsafe { sys::nzg_remarks(bytes, len, speed, out, room) });
-    done(answer)?;
+pub fn remarks(bytes: &[u8], speed: Option<Speed>) -> Result<Vec<Remark<'_>>, Fault> {
+    let (data, len, number) = (bytes.as_ptr(), bytes.len(), speed.map_or(0, |it| it as u8));
+    let (answer, found) = into::<nzg_remark>(|out, room| unsafe { sys::nzg_remarks(data, len, number, out, room) });
+    done(answer).map_err(|it| it.of(bytes))?;
     let remark = |it: nzg_remark| Remark {
         number: it.number,
         part: Part::of(it.part),
@@ -407,6 +448,8 @@ pub fn remarks(bytes: &[u8], speed: Option<Speed>) -> Result<Vec<Remark>, Fault>
         endpoint: it.endpoint,
         place: it.place,
         role: Role::of(it.role).expect("a remark has a descriptor"),
+        input: Of(bytes),
+        speed,
     };
     Ok(found.into_iter().map(remark).collect())
 }

@@ -1,5 +1,5 @@
 //! Both ends of endpoint zero, transaction by transaction, and a set in pieces.
-use crate::fault::{done, Fault, Kind, Step};
+use crate::fault::{done, Fault, Step};
 use crate::sys::{self, nzg_packet, nzg_setup, nzg_state, nzg_step, nzg_transaction, nzg_trouble};
 use crate::{into, text_of, Speed};
 
@@ -426,8 +426,7 @@ impl Host {
         let (answer, out) = into(|out, room| unsafe { sys::nzg_host_outcome(&mut self.0, &mut it, out, room) });
         match done(answer) {
             Ok(answer) => Ok((answer.status == 0).then_some(out)),
-            Err(fault) if fault.kind == Kind::Trouble => Err(Fault { step: Step::of(it.step, it.index, it.language), ..fault }),
-            Err(fault) => Err(fault),
+            Err(fault) => Err(fault.at(it.step, it.index, it.language)),
         }
     }
 }

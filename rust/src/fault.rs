@@ -1,5 +1,6 @@
 //! What the library refuses.
-use crate::sys::nzg_answer;
+use crate::into;
+use crate::sys::{self, nzg_answer, nzg_trouble};
 use std::{error, fmt};
 
 /// What kind of fault it is.
@@ -14,11 +15,13 @@ pub enum Kind {
     Listing,
     /// No device of the speed has these descriptors: 1, 2, 3 or 5.
     Description,
+    /// The text isn't hexadecimal: from a line and a column on, both from 1.
+    Text,
     /// The set ends at the place, and the bytes go on.
     Trailing,
     /// Out of memory.
     Memory,
-    /// A number or a letter has no meaning, or data and fields don't fit: 1 to 12.
+    /// A number or a letter has no meaning, data and fields don't fit, or nothing is there that is asked for: 1 to 13.
     Argument,
     /// A transfer or an enumeration failed: 1 to 7.
     Trouble,
@@ -93,8 +96,9 @@ impl fmt::Display for Step {
     }
 }
 
-/// Why the library refused.
-#[derive(Clone, Copy, Debug, PartialEq, Eq, Hash)]
+/// Why the library refused. It is shown with its place, and with what is wrong in words, where the library has them.
+#[derive(Clone, Debug, PartialEq, Eq, Hash)]
+#[non_exhaustive]
 pub struct Fault {
     /// What kind of fault it is.
     pub kind: Kind,
@@ -102,11 +106,46 @@ pub struct Fault {
     pub number: u32,
     /// Where, in bytes, or in which line.
     pub place: usize,
+    /// Of a text in which column of its line; else 0.
+    pub column: usize,
     /// At which step of an enumeration.
     pub step: Option<Step>,
+    /// Where a set in a file is at fault the number of the set's fault, else 0.
+    pub inner: u32,
+    message: String,
 }
 
 impl Fault {
+    /// What is wrong with bytes, or why an enumeration failed, in words; empty of other faults.
+    pub fn message(&self) -> &str {
+        &self.message
+    }
+    /// It with its words, where these are the bytes at fault.
+    pub(crate) fn of(self, bytes: &[u8]) -> Fault {
+        let (meant, words) = into(|out, room| unsafe { sys::nzg_fault_text(bytes.as_ptr(), bytes.len(), out, room) });
+        let is_this = match self.kind {
+            Kind::Set => meant.number == self.number,
+            Kind::File => (meant.number > 0) == (self.number == 2),
+            kind => kind == Kind::Trailing,
+        };
+        if meant.status > 0 || meant.place != self.place || !is_this {
+            return self;
+        }
+        let inner = if self.kind == Kind::File { meant.number } else { 0 };
+        Fault { inner, ..self.saying(words) }
+    }
+    /// It with the step of an enumeration that failed, where it is such a trouble.
+    pub(crate) fn at(self, step: u8, index: u8, language: u16) -> Fault {
+        if self.kind != Kind::Trouble {
+            return self;
+        }
+        let it = nzg_trouble { why: self.number as u8, step, index, language };
+        let (_, words) = into(|out, room| unsafe { sys::nzg_trouble_text(&it, out, room) });
+        Fault { step: Step::of(step, index, language), ..self.saying(words) }
+    }
+    fn saying(self, words: Vec<u8>) -> Fault {
+        Fault { message: String::from_utf8(words).expect("a text is UTF-8"), ..self }
+    }
     /// What the documents call it; empty where they have no name.
     pub fn name(&self) -> &'static str {
         let names: &[&str] = match self.kind {
@@ -118,11 +157,11 @@ impl Fault {
             Kind::Description => &["Finding", "Texts", "Speed", "Memory", "Unwritable"],
             Kind::Argument => &[
                 "address", "attempts", "speed", "fate", "rule", "string", "packet", "reply", "request", "data", "transfer",
-                "fields",
+                "fields", "text",
             ],
             Kind::Trouble => &["NoAnswer", "Busy", "Stalled", "TooLong", "Unexpected", "Malformed", "Memory"],
             Kind::Unanswered => &["Nothing", "Closed", "Shape", "Room"],
-            Kind::Trailing | Kind::Memory | Kind::Other => &[],
+            Kind::Text | Kind::Trailing | Kind::Memory | Kind::Other => &[],
         };
         names.get((self.number as usize).wrapping_sub(1)).unwrap_or(&"")
     }
@@ -135,6 +174,7 @@ impl fmt::Display for Fault {
             Kind::File => "file fault",
             Kind::Listing => "listing fault",
             Kind::Description => "description fault",
+            Kind::Text => "hexadecimal fault",
             Kind::Trailing => "trailing bytes",
             Kind::Memory => return write!(f, "out of memory"),
             Kind::Argument => "bad argument",
@@ -147,10 +187,15 @@ impl fmt::Display for Fault {
             write!(f, " {} ({})", self.number, self.name())?;
         }
         match (self.kind, self.step) {
-            (Kind::Set | Kind::File | Kind::Trailing, _) => write!(f, " at {}", self.place),
-            (Kind::Listing, _) => write!(f, " line {}", self.place),
-            (_, Some(step)) => write!(f, " in {step}"),
-            _ => Ok(()),
+            (Kind::Set | Kind::File | Kind::Trailing, _) => write!(f, " at {}", self.place)?,
+            (Kind::Listing, _) => write!(f, " line {}", self.place)?,
+            (Kind::Text, _) => write!(f, " line {} column {}", self.place, self.column)?,
+            (_, Some(step)) if self.message.is_empty() => write!(f, " in {step}")?,
+            _ => {}
+        }
+        match self.message() {
+            "" => Ok(()),
+            words => write!(f, ": {words}"),
         }
     }
 }
@@ -170,7 +215,9 @@ pub(crate) fn done(answer: nzg_answer) -> Result<nzg_answer, Fault> {
         10 => Kind::Argument,
         11 => Kind::Trouble,
         12 => Kind::Unanswered,
+        14 => Kind::Text,
         _ => Kind::Other,
     };
-    Err(Fault { kind, number: answer.number, place: answer.place, step: None })
+    let column = if kind == Kind::Text { answer.length } else { 0 };
+    Err(Fault { kind, number: answer.number, place: answer.place, column, step: None, inner: 0, message: String::new() })
 }

@@ -68,13 +68,17 @@ pub struct Options {
     pub utf8: bool,
     /// Size and interval in the headings of video frames, and rates in those of audio formats.
     pub formats: bool,
+    /// Descriptors one after another, of which no owner is asked for, or a setup packet: no fault is found.
+    pub loose: bool,
+    /// The bytes are hexadecimal text.
+    pub hex: bool,
     /// The speed at which the device runs, where that is known.
     pub speed: Option<Speed>,
 }
 
 /// The listing of a set, a descriptor file or a dump: a line for each descriptor.
 pub fn show(bytes: &[u8]) -> Result<String, Fault> {
-    text_of(into(|out, room| unsafe { sys::nzg_show(bytes.as_ptr(), bytes.len(), true, out, room) }))
+    text_of(into(|out, room| unsafe { sys::nzg_show(bytes.as_ptr(), bytes.len(), true, out, room) })).map_err(|it| it.of(bytes))
 }
 
 /// The bytes that a text lists. With `comments` empty lines, lines that begin with # and carriage returns are dropped.
@@ -83,19 +87,29 @@ pub fn build(listing: &[u8], comments: bool) -> Result<Vec<u8>, Fault> {
     done(answer).map(|_| out)
 }
 
+/// The bytes of hexadecimal text: digits, a dump with its columns, an array of a program. A text that is none, or that two readings
+/// would take differently, is a fault with its line and column.
+pub fn from_text(text: &[u8]) -> Result<Vec<u8>, Fault> {
+    let (answer, out) = into(|out, room| unsafe { sys::nzg_from_text(text.as_ptr(), text.len(), out, room) });
+    done(answer).map(|_| out)
+}
+
 /// A dump as a descriptor file, with the strings that `usbdesc enumerate --with-strings` puts.
 pub fn with_strings(dump: &[u8]) -> Result<Vec<u8>, Fault> {
     let (answer, out) = into(|out, room| unsafe { sys::nzg_with_strings(dump.as_ptr(), dump.len(), out, room) });
-    done(answer).map(|_| out)
+    done(answer).map(|_| out).map_err(|it| it.of(dump))
 }
 
 /// What bytes mean, in words, as far as they go, and the fault where they are broken.
 pub fn explain(bytes: &[u8], how: Options) -> (String, Option<Fault>) {
     let written = u32::from(how.brief) | u32::from(!how.no_places) << 1 | u32::from(how.utf8) << 2;
-    let options = written | u32::from(how.formats) << 3;
+    let options = written | u32::from(how.formats) << 3 | u32::from(how.loose) << 4 | u32::from(how.hex) << 5;
     let speed = how.speed.map_or(0, |it| it as u8);
     let (answer, out) = into(|out, room| unsafe { sys::nzg_explain(bytes.as_ptr(), bytes.len(), options, speed, out, room) });
-    (String::from_utf8(out).expect("a text is UTF-8"), done(answer).err())
+    match done(answer) {
+        Err(fault) if fault.kind == Kind::Text => (String::new(), Some(fault)),
+        other => (String::from_utf8(out).expect("a text is UTF-8"), other.err().map(|it| it.of(bytes))),
+    }
 }
 
 /// What came of an enumeration. It is shown as the line of `usbdesc enumerate`.
@@ -116,7 +130,7 @@ pub struct Enumeration {
 impl fmt::Display for Enumeration {
     fn fmt(&self, f: &mut fmt::Formatter<'_>) -> fmt::Result {
         let Enumeration { attempts, transactions, address, selected, .. } = self;
-        match self.read {
+        match &self.read {
             Ok(_) => write!(f, "success attempts {attempts} transactions {transactions} address {address} value {selected}"),
             Err(Fault { number, step: Some(step), .. }) => {
                 write!(f, "trouble {number} {step} attempts {attempts} transactions {transactions}")
@@ -134,9 +148,18 @@ pub fn enumerate(bytes: &[u8], speed: Speed, naks: u16, attempts: u8, fates: &[u
         sys::nzg_enumerate(data, len, speed as u8, naks, attempts, fates, fates_len, &mut it, out, room)
     }));
     let read = match read {
-        Err(fault) if fault.kind != Kind::Trouble => return Err(fault),
-        read => read.map_err(|fault| Fault { step: Step::of(it.step, it.index, it.language), ..fault }),
+        Err(fault) if fault.kind != Kind::Trouble => return Err(fault.of(bytes)),
+        read => read.map_err(|fault| fault.at(it.step, it.index, it.language)),
     };
     let (attempts, transactions, address, selected) = (it.attempts, it.transactions, it.address, it.selected);
     Ok(Enumeration { attempts, transactions, address, selected, read })
+}
+
+/// The log of that enumeration: what `usbdesc enumerate --log` writes before its last lines.
+pub fn enumerate_log(bytes: &[u8], speed: Speed, naks: u16, attempts: u8, fates: &[u8]) -> Result<String, Fault> {
+    let (data, len, fates, fates_len) = (bytes.as_ptr(), bytes.len(), fates.as_ptr(), fates.len());
+    text_of(into(|out, room| unsafe {
+        sys::nzg_enumerate_log(data, len, speed as u8, naks, attempts, fates, fates_len, out, room)
+    }))
+    .map_err(|it| it.of(bytes))
 }

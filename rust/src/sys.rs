@@ -50,17 +50,34 @@ structs! {
 extern "C" {
     pub fn nzg_show(bytes: *const u8, len: usize, any: bool, text: *mut u8, room: usize) -> nzg_answer;
     pub fn nzg_explain(bytes: *const u8, len: usize, options: u32, speed: u8, text: *mut u8, room: usize) -> nzg_answer;
+    pub fn nzg_from_text(text: *const u8, len: usize, bytes: *mut u8, room: usize) -> nzg_answer;
     pub fn nzg_build(text: *const u8, len: usize, comments: bool, bytes: *mut u8, room: usize) -> nzg_answer;
     pub fn nzg_enumerate(
         bytes: *const u8, len: usize, speed: u8, naks: u16, attempts: u8, fates: *const u8, fates_len: usize,
         outcome: *mut nzg_outcome, text: *mut u8, room: usize,
     ) -> nzg_answer;
+    pub fn nzg_enumerate_log(
+        bytes: *const u8, len: usize, speed: u8, naks: u16, attempts: u8, fates: *const u8, fates_len: usize, text: *mut u8,
+        room: usize,
+    ) -> nzg_answer;
     pub fn nzg_next(bytes: *const u8, len: usize, descriptor: *mut nzg_descriptor) -> bool;
-    pub fn nzg_field(bytes: *const u8, len: usize, descriptor: *const nzg_descriptor, n: usize, field: *mut nzg_field) -> bool;
+    pub fn nzg_fields(
+        bytes: *const u8, len: usize, descriptor: *const nzg_descriptor, fields: *mut nzg_field, room: usize,
+    ) -> nzg_answer;
+    pub fn nzg_field_named(
+        bytes: *const u8, len: usize, descriptor: *const nzg_descriptor, name: *const u8, name_len: usize,
+        field: *mut nzg_field,
+    ) -> bool;
     pub fn nzg_judge(bytes: *const u8, len: usize) -> nzg_answer;
     pub fn nzg_findings(bytes: *const u8, len: usize, found: *mut nzg_finding, room: usize) -> nzg_answer;
     pub fn nzg_remarks(bytes: *const u8, len: usize, speed: u8, remarks: *mut nzg_remark, room: usize) -> nzg_answer;
-    pub fn nzg_rule(rule: u8, text: *mut u8, room: usize) -> nzg_answer;
+    pub fn nzg_finding_text(
+        bytes: *const u8, len: usize, finding: *const nzg_finding, text: *mut u8, room: usize,
+    ) -> nzg_answer;
+    pub fn nzg_remark_text(
+        bytes: *const u8, len: usize, speed: u8, remark: *const nzg_remark, text: *mut u8, room: usize,
+    ) -> nzg_answer;
+    pub fn nzg_fault_text(bytes: *const u8, len: usize, text: *mut u8, room: usize) -> nzg_answer;
     pub fn nzg_text(bytes: *const u8, len: usize, string: *const nzg_descriptor, text: *mut u8, room: usize) -> nzg_answer;
     pub fn nzg_with_strings(dump: *const u8, len: usize, file: *mut u8, room: usize) -> nzg_answer;
     pub fn nzg_packet_parse(bytes: *const u8, len: usize, packet: *mut nzg_packet_fields) -> u8;
@@ -107,6 +124,7 @@ extern "C" {
     pub fn nzg_host_attempts(host: *mut nzg_host) -> u8;
     pub fn nzg_host_outcome(host: *mut nzg_host, trouble: *mut nzg_trouble, file: *mut u8, room: usize) -> nzg_answer;
     pub fn nzg_host_close(host: *mut nzg_host);
+    pub fn nzg_trouble_text(trouble: *const nzg_trouble, text: *mut u8, room: usize) -> nzg_answer;
     pub fn nzg_decoder_open(decoder: *mut nzg_decoder) -> nzg_answer;
     pub fn nzg_decoder_feed(decoder: *mut nzg_decoder, piece: *const u8, len: usize) -> nzg_answer;
     pub fn nzg_decoder_list(decoder: *mut nzg_decoder, text: *mut u8, room: usize) -> nzg_answer;

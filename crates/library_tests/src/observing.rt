@@ -22,9 +22,9 @@ struct Counter {
 }
 
 impl Observer for Counter {
-    ghost sees = { λ _ _ _ _. Unit {0} };
+    ghost sees = { λ _ _ _ _ _. Unit {0} };
 
-    fn answered(&mut self, answer: Answer<'_>, host: &Host) {
+    fn answered(&mut self, answer: Answer<'_>, _came: Answer<'_>, host: &Host) {
         self.transactions = self.transactions.saturating_add(1);
         if matches!(answer, Answer::Silence) {
             self.silent = self.silent.saturating_add(1);

@@ -62,7 +62,8 @@ pub mod device {
 /// The host's end of a control pipe, and a host that enumerates (USB 2.0, 9.1.2).
 pub mod host {
     pub use usb_host::{
-        Action, Heard, Host, LimitFault, Limits, Reply, Step, Transfer, Trouble, Why, Write,
+        Action, Choice, Heard, Host, LimitFault, Limits, NamedStrings, Reply, Step, Transfer,
+        Trouble, Why, Write,
     };
 }
 

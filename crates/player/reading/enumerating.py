@@ -229,13 +229,15 @@ def get(kind, number, language, length):
 class Host:
     """An enumerating host. `due` is reset, send or ended."""
 
-    def __init__(self, speed="full", address=1, naks=16, attempts=3):
+    def __init__(self, speed="full", address=1, naks=16, attempts=3, strings="needed", other_speed=True):
         self.speed, self.address, self.limit, self.attempts = speed, address, naks, attempts
+        self.strings, self.other_speed, self.forgiven = strings, other_speed, []
         self.resets, self.transactions, self.due, self.outcome = 0, 0, "reset", None
 
     def reset_done(self):
         if self.due == "reset":
             self.resets += 1
+            self.forgiven = []
             self.due = "send"
             self.steps = self.order()
             self.step, self.transfer = next(self.steps)
@@ -259,7 +261,7 @@ class Host:
             raise ValueError
         sets = yield from self.read_sets("", 2, device[17])
         qualifier, other_sets = b"", []
-        if word(device, 2) >= 0x0200 and self.speed != "low":
+        if self.other_speed and word(device, 2) >= 0x0200 and self.speed != "low":
             qualifier = yield self.begin("qualifier", get(6, 0, 0, 10))
             if qualifier is None:
                 qualifier = b""
@@ -267,7 +269,8 @@ class Host:
                 raise ValueError
             else:
                 other_sets = yield from self.read_sets("other_", 7, qualifier[8])
-        strings = yield from self.read_strings(named(device, sets + other_sets))
+        indices = [] if self.strings == "skipped" else named(device, sets + other_sets)
+        strings = yield from self.read_strings(indices)
         yield self.begin("configure", bytes([0, 9, sets[0][5], 0, 0, 0, 0, 0]))
         self.read = device + b"".join(sets) + qualifier + b"".join(other_sets) + strings
 
@@ -287,17 +290,24 @@ class Host:
     def read_strings(self, indices):
         if not indices:
             return b""
-        languages = yield self.begin("languages", get(3, 0, 0, 255))
-        if not units(languages):
-            raise ValueError
+        languages = yield from self.read_string("languages", get(3, 0, 0, 255), b"\x04\x03\x09\x04", units)
         read = languages
         for language in units(languages):
             for index in indices:
-                b = yield self.begin(f"text {language:04x} {index:02x}", get(3, index, language, 255))
-                if units(b) is None:
-                    raise ValueError
-                read += b
+                step = f"text {language:04x} {index:02x}"
+                is_string = lambda b: units(b) is not None
+                read += yield from self.read_string(step, get(3, index, language, 255), b"\x02\x03", is_string)
         return read
+
+    def read_string(self, step, setup, stand_in, is_right):
+        """What came, or the stand-in where strings may be missing and this one was stalled or is none."""
+        b = yield self.begin(step, setup)
+        if b is not None and is_right(b):
+            return b
+        if self.strings != "wanted":
+            raise ValueError
+        self.forgiven.append((STALLED if b is None else MALFORMED, step))
+        return stand_in
 
     def end(self, outcome):
         self.due, self.outcome = "ended", outcome
@@ -311,7 +321,7 @@ class Host:
             return
         if why in (NO_ANSWER, BUSY) and self.resets < self.attempts:
             self.due = "reset"
-        elif why and not (why == STALLED and self.step == "qualifier"):
+        elif why and not (why == STALLED and self.may_be_stalled()):
             self.end(why)
         else:
             try:
@@ -320,6 +330,9 @@ class Host:
                 self.end(MALFORMED)
             except StopIteration:
                 self.end(0)
+
+    def may_be_stalled(self):
+        return self.step == "qualifier" or self.strings == "wanted" and self.step.split()[0] in ("languages", "text")
 
     def result(self):
         """The outcome in words, with the attempts and the transactions."""

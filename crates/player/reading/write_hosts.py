@@ -5,7 +5,7 @@ enumerating.py. Run it in this folder: it writes ../data/hosts/*.script."""
 import os
 import sys
 
-from enumerating import Device, File, Host
+from enumerating import Device, File, Host, named, units
 
 sys.path.insert(0, os.path.join(os.path.dirname(os.path.abspath(__file__)), "../../examples"))
 from reading import listing  # noqa: E402
@@ -46,10 +46,13 @@ class Script:
     def __init__(self, title):
         self.lines = [f"# {title}", "# Written by write_hosts.py, a second reading of docs/control-transfers.md."]
 
-    def host(self, about, speed="full", address=1, naks=16, attempts=3):
-        host = Host(speed, address, naks, attempts)
-        self.lines += ["", f"# {about}"]
-        self.lines.append(f"host {speed} address {address} naks {naks} attempts {attempts} -> {due_text(host)}")
+    def host(self, about, speed="full", address=1, naks=16, attempts=3, strings=None, other_speed=None):
+        """A host that asks for everything, where nothing else is said of strings or of the other speed."""
+        host = Host(speed, address, naks, attempts, strings or "needed", other_speed != "no")
+        words = f"host {speed} address {address} naks {naks} attempts {attempts}"
+        words += f" strings {strings}" if strings else ""
+        words += f" other_speed {other_speed}" if other_speed else ""
+        self.lines += ["", f"# {about}", f"{words} -> {due_text(host)}"]
         return host
 
     def answer(self, host, answer):
@@ -60,8 +63,9 @@ class Script:
         host.reset_done()
         self.lines.append(f"reset_done -> {due_text(host)}")
 
-    def play(self, about, file, served=None, more=(), **limits):
-        """A host and a device of this file to the end, and then these further answers, which change nothing."""
+    def play(self, about, file, served=None, more=(), read=None, **limits):
+        """A host and a device of this file to the end, and then these further answers, which change nothing. What is read
+        is the file, or these bytes."""
         host, device = self.host(about, **limits), Device(File(file))
         while host.due != "ended":
             if host.due == "reset":
@@ -72,15 +76,21 @@ class Script:
             if isinstance(answer, tuple):
                 device.acked()
             self.answer(host, served(host, answer) if served else answer)
-        self.ended(host, file)
+        self.ended(host, file if read is None else read)
+        if {"strings", "other_speed"} & set(limits):
+            self.forgiven(host)
         for answer in more:
             self.answer(host, answer)
         return host
 
+    def forgiven(self, host):
+        troubles = ", ".join(f"{why} {step}" for why, step in host.forgiven)
+        self.lines.append(f"forgiven -> {troubles or 'none'}")
+
     def ended(self, host, file):
         if host.outcome == 0:
-            lines = listing("file", host.read).splitlines()
             assert host.read == file
+            lines = listing_of(host, file)
             for number, line in enumerate(lines, 1):
                 self.lines.append(f"listing {number} -> {line}")
             self.lines.append(f"listing {len(lines) + 1} -> none")
@@ -88,6 +98,26 @@ class Script:
     def write(self, name):
         with open(f"../data/hosts/{name}.script", "w", encoding="ascii") as target:
             target.write("\n".join(self.lines) + "\n")
+
+
+def listing_of(host, b):
+    """The lines of what a host read. Without its strings a file lists as with them, but for these."""
+    if host.strings != "skipped":
+        return listing("file", b).splitlines()
+    count = len(named_in(b))
+    stood_for = b"\4\3\x09\4" + count * b"\2\3" if count else b""
+    lines = listing("file", b + stood_for).splitlines()
+    return [line for line in lines if line.split()[0] not in ("languages", "string")]
+
+
+def named_in(b):
+    """The indices that are named in the bytes of a file without its strings."""
+    device, sets, place = b[:18], [], 18
+    while place < len(b):
+        length = 10 if b[place + 1] == 6 else b[place + 2] | b[place + 3] << 8
+        sets += [b[place : place + length]] if b[place + 1] != 6 else []
+        place += length
+    return named(device, sets)
 
 
 def lies(step, change):
@@ -288,9 +318,132 @@ def reasons():
     s.write("reasons")
 
 
+def of_strings(step):
+    return step.split()[0] in ("languages", "text")
+
+
+def stalls(*steps):
+    """A device that stalls the first IN of these steps, or of all reads of strings."""
+
+    def served(host, answer):
+        mine = host.step in steps if steps else of_strings(host.step)
+        return "stall" if mine and host.transfer.stage == "data" else answer
+
+    return served
+
+
+def with_stand_ins(file, forgiven):
+    """The file of a device whose reads of these steps were passed over: 0409 for the list, and empty strings."""
+    f = File(file)
+    strings = sum(map(len, f.strings.values())) + len(f.languages)
+    read = file[: len(file) - strings]
+    listed = "languages" not in forgiven
+    read += f.languages if listed else bytes.fromhex("04030904")
+    for language in units(f.languages) if listed else [0x0409]:
+        for index in f.named:
+            read += b"\2\3" if f"text {language:04x} {index:02x}" in forgiven else f.strings[language, index]
+    return read
+
+
+def without_strings(file):
+    """What a device tells that is asked for no string and no other speed: a dump."""
+    f = File(file)
+    return f.device + b"".join(f.sets)
+
+
+LIST, PRODUCT = "languages", "text 0409 02"
+EACH = [LIST] + [f"text 0409 {index:02x}" for index in (1, 2, 6, 9)]
+
+
+def forgiving():
+    s = Script("Strings that a device doesn't give, needed, wanted or skipped, and an other speed that isn't asked for.")
+    with open("../data/files/qemu-usb-mouse.file", "rb") as source:
+        mouse = source.read()
+    with open("../data/files/gadget-webcam.file", "rb") as source:
+        webcam = source.read()
+    # What must come: the transactions, and where strings are wanted what is passed over.
+    for about, served, needed, wanted, passed in [
+        ("all right", None, (0, 40), (0, 40), []),
+        ("string 2 is stalled", stalls(PRODUCT), (3, 31), (0, 39), [(3, PRODUCT)]),
+        ("the language list is stalled", stalls(LIST), (3, 25), (0, 39), [(3, LIST)]),
+        ("the list and all strings are stalled", stalls(), (3, 25), (0, 35), [(3, step) for step in EACH]),
+        ("string 2 lacks its last byte", lies(PRODUCT, lambda b: b[:-1]), (6, 32), (0, 40), [(6, PRODUCT)]),
+        ("a list without a language", lies(LIST, lambda b: b"\2\3"), (6, 26), (0, 40), [(6, LIST)]),
+        ("the header of the other speed has type 2", lies("other_header 0", with_bytes({1: 2})), (6, 20), (6, 20), []),
+        ("silence at string 2", Silent(PRODUCT, 3), (1, 96), (1, 96), []),
+    ]:
+        host = s.play(f"A mouse, needed: {about}.", mouse, served, speed="high")
+        assert (host.outcome, host.transactions) == needed, (about, host.result())
+        read = with_stand_ins(mouse, [step for _, step in passed])
+        host = s.play(f"Wanted: {about}.", mouse, served, speed="high", strings="wanted", read=read)
+        assert (host.outcome, host.transactions, host.forgiven) == (*wanted, passed), (about, host.result(), host.forgiven)
+        host = s.play(f"Skipped, without the other speed: {about}.", mouse, served, speed="high", strings="skipped", other_speed="no", read=without_strings(mouse))
+        assert (host.outcome, host.transactions, len(host.read)) == (0, 16, 52), (about, host.result())
+    f = File(mouse)
+    alone = mouse[:52] + mouse[len(mouse) - len(f.languages) - sum(map(len, f.strings.values())) :]
+    host = s.play("Wanted, without the other speed, whose header has type 2: it isn't asked for.", mouse, lies("other_header 0", with_bytes({1: 2})), speed="high", strings="wanted", other_speed="no", read=alone)
+    assert (host.outcome, host.transactions, len(host.read)) == (0, 31, 158), host.result()
+    s.play("Skipped, with the other speed.", mouse, speed="high", strings="skipped", read=mouse[:96])
+    s.play("Wanted at low speed, where there is no other one.", SMALL_PACKETS, speed="low", strings="wanted", other_speed="yes")
+    s.play("No index is named: no string is asked for.", MOUSE, strings="wanted")
+    host = s.play("A webcam.", webcam, speed="high", strings="wanted")
+    assert (host.transactions, host.forgiven) == (82, [])
+    steps = [LIST] + [f"text 0409 {index:02x}" for index in File(webcam).named]
+    host = s.play("All strings of a webcam are stalled.", webcam, stalls(), speed="high", strings="wanted", read=with_stand_ins(webcam, steps))
+    assert (host.transactions, len(host.forgiven)) == (69, 13), host.result()
+    host = s.play("A webcam, skipped.", webcam, speed="high", strings="skipped", other_speed="no", read=without_strings(webcam))
+    assert host.transactions == 25, host.result()
+    s.play("Two languages: a string of the first is stalled.", TWO_LANGUAGES, stalls("text 0409 02"), strings="wanted", read=with_stand_ins(TWO_LANGUAGES, ["text 0409 02"]))
+    s.play("Two languages: the list is stalled, and the strings are asked for in one.", TWO_LANGUAGES, stalls(LIST), strings="wanted", read=with_stand_ins(TWO_LANGUAGES, [LIST]))
+    stages_of_strings(s, mouse)
+    malformed_strings(s)
+    resets(s, mouse)
+    s.write("forgiving")
+
+
+def stages_of_strings(s, mouse):
+    small = mouse[:7] + b"\x08" + mouse[8:]
+    for step in (LIST, PRODUCT):
+        for stage in ("data", "status_out"):
+            s.play(f"{step}: stalled at {stage}.", mouse, at(step, stage, "stall"), speed="high", strings="wanted", read=with_stand_ins(mouse, [step]))
+        s.play(f"{step}: too long is not passed over.", mouse, at(step, "data", (True, bytes(65))), speed="high", strings="wanted")
+        s.play(f"{step}: unexpected is not passed over.", mouse, at(step, "data", "ack"), speed="high", strings="wanted")
+        s.play(f"{step}: busy is not passed over.", mouse, at(step, "data", "nak"), speed="high", naks=0, attempts=1, strings="wanted")
+    late = lambda host, honest: "stall" if host.step == PRODUCT and len(host.transfer.got) == 16 else honest
+    s.play("A string that is stalled after two packets: what came of it is dropped.", small, late, strings="wanted", read=with_stand_ins(small, [PRODUCT]))
+    for step in ("device", "header 0", "set 0", "other_set 0", "configure"):
+        stage = "status_in" if step == "configure" else "data"
+        s.play(f"{step}: stalled, which is not passed over.", mouse, at(step, stage, "stall"), speed="high", strings="wanted")
+
+
+def malformed_strings(s):
+    for about, step, change in [
+        ("Languages: bLength isn't the number of bytes.", LIST, with_bytes({0: 6})),
+        ("Languages: another type.", LIST, with_bytes({1: 2})),
+        ("Languages: three bytes.", LIST, lambda b: b"\x03" + b[1:3]),
+        ("Languages: one byte.", LIST, lambda b: b[:1]),
+        ("String: bLength isn't the number of bytes.", "text 0409 01", with_bytes({0: 10})),
+        ("String: another type.", "text 0409 01", with_bytes({1: 2})),
+        ("String: eleven bytes.", "text 0409 01", lambda b: b"\x0b" + b[1:11]),
+        ("String: one byte.", "text 0409 01", lambda b: b[:1]),
+    ]:
+        host = s.play(about, EVERYTHING, lies(step, change), strings="wanted", read=with_stand_ins(EVERYTHING, [step]))
+        assert host.forgiven == [(6, step)], (about, host.forgiven)
+
+
+def resets(s, mouse):
+    both = lambda host, honest: stalls(LIST)(host, Silent("configure", 1)(host, honest)) if host.resets == 1 else honest
+    host = s.play("A bus reset after something was passed over: the list is empty, and nothing is in the next attempt.", mouse, both, speed="high", strings="wanted")
+    assert host.resets == 2 and host.forgiven == []
+    again = lambda host, honest: stalls(PRODUCT)(host, Silent("configure", 1)(host, honest))
+    host = s.play("And passed over again.", mouse, again, speed="high", strings="wanted", read=with_stand_ins(mouse, [PRODUCT]))
+    assert host.resets == 2 and host.forgiven == [(3, PRODUCT)]
+
+
 if __name__ == "__main__":
     os.makedirs("../data/hosts", exist_ok=True)
     whole()
     hostile()
     malformed()
     reasons()
+    forgiving()

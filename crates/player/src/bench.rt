@@ -1,7 +1,7 @@
 //! All that steps are played with. Each part knows its own steps: a further one is a file of its own, and a line here.
 use crate::answer::Said;
 use crate::driven::Driven;
-use crate::host::{HostInWork, read_host};
+use crate::host::{HostInWork, HostWords};
 use crate::outcome::Outcome;
 use crate::steps::STEPS;
 use crate::talk::Bus;
@@ -102,12 +102,12 @@ impl Bench {
 
     /// A new host in place of what was in work, if the words say one and its limits are in their ranges.
     fn begin_host(&mut self, alloc: Global, words: &[&str]) -> Result<Option<Outcome>> {
-        let Some((speed, limits)) = read_host(words) else {
+        let Some(host) = HostWords::read(words) else {
             return Ok(None);
         };
-        match limits {
+        match host.limits {
             Ok(limits) => {
-                self.work = Work::Host(HostInWork::new(alloc, limits, speed));
+                self.work = Work::Host(HostInWork::new(alloc, limits, host.speed, host.choice));
                 Ok(Some(Outcome::Word("reset")))
             }
             Err(fault) => {
@@ -125,7 +125,7 @@ impl Bench {
         words: &[&str],
     ) -> Result<Option<String>> {
         let verb = words.first().map_or("", |verb| *verb);
-        if !self.traces || matches!(verb, "trace" | "state" | "listing") {
+        if !self.traces || matches!(verb, "trace" | "state" | "listing" | "forgiven") {
             return Ok(None);
         }
         if verb == "enumerate" {
@@ -158,6 +158,7 @@ fn is_hosts(words: &[&str]) -> bool {
                 | "host"
                 | "reset_done"
                 | "listing"
+                | "forgiven"
                 | "ack"
                 | "nak"
                 | "stall"

@@ -7,7 +7,7 @@ use anyhow::Result;
 use std::alloc::{AllocError, Global};
 use usb_fields::Speed;
 use usb_file::{DescriptorFile, list};
-use usb_host::{Action, Host, LimitFault, Limits, Trouble};
+use usb_host::{Action, Choice, Host, LimitFault, Limits, NamedStrings, Trouble};
 
 /// A host.
 #[derive(Drop)]
@@ -19,10 +19,10 @@ pub struct HostInWork {
 }
 
 impl HostInWork {
-    /// A new host, which reads a device of this speed.
-    pub fn new(alloc: Global, limits: Limits, speed: Speed) -> HostInWork {
+    /// A new host, which asks a device of this speed for so much.
+    pub fn new(alloc: Global, limits: Limits, speed: Speed, choice: Choice) -> HostInWork {
         HostInWork {
-            host: Host::new(alloc, limits, speed),
+            host: Host::with_choice(alloc, limits, speed, choice),
             transactions: 0,
             listing: None,
         }
@@ -33,6 +33,9 @@ impl HostInWork {
         match words {
             [verb] if *verb == "reset_done" => self.host.reset_done(),
             [verb, number] if *verb == "listing" => return self.line(alloc, number),
+            [verb] if *verb == "forgiven" => {
+                return Ok(Some(Outcome::Text(self.forgiven(alloc)?)));
+            }
             [verb, word] if *verb == "state" && *word == "host" => {
                 return Ok(Some(Outcome::Text(self.state(alloc)?)));
             }
@@ -79,6 +82,22 @@ impl HostInWork {
         )
     }
 
+    /// The troubles that were passed over, each with its number and its step, or `none`.
+    fn forgiven(&self, alloc: Global) -> Result<String, AllocError> {
+        let mut text = String::new(alloc);
+        for trouble in self.host.forgiven() {
+            let (why, step) = (trouble.why.number(), trouble.step);
+            if !text.is_empty() {
+                text.push_str(", ")?;
+            }
+            text.push_str(&format!(in alloc; "{why} {step}")?)?;
+        }
+        if text.is_empty() {
+            return String::from_str(alloc, "none");
+        }
+        Ok(text)
+    }
+
     /// A line of the listing of what was read, counted from 1, or `none` where there is no such line.
     fn line(&mut self, alloc: Global, number: &str) -> Result<Option<Outcome>> {
         let Ok(number) = number.parse::<usize>() else {
@@ -100,17 +119,73 @@ impl HostInWork {
     }
 }
 
-/// The speed and the limits of a host, as in `full address 1 naks 16 attempts 3`.
-pub fn read_host(words: &[&str]) -> Option<(Speed, Result<Limits, LimitFault>)> {
-    let [speed, first, address, second, naks, third, attempts] = words else {
-        return None;
-    };
-    if *first != "address" || *second != "naks" || *third != "attempts" {
-        return None;
+/// What a host is made of.
+#[derive(Clone, Copy, Debug)]
+pub struct HostWords {
+    pub speed: Speed,
+    pub limits: Result<Limits, LimitFault>,
+    pub choice: Choice,
+}
+
+impl HostWords {
+    /// As in `full address 1 naks 16 attempts 3`, with `strings needed`, `wanted` or `skipped` and `other_speed yes` or
+    /// `no` behind it where the host isn't to ask for everything.
+    pub fn read(words: &[&str]) -> Option<HostWords> {
+        let [
+            speed,
+            first,
+            address,
+            second,
+            naks,
+            third,
+            attempts,
+            rest @ ..,
+        ] = words
+        else {
+            return None;
+        };
+        if *first != "address" || *second != "naks" || *third != "attempts" {
+            return None;
+        }
+        let naks = naks.parse::<u16>().ok()?;
+        Some(HostWords {
+            speed: read_speed(speed)?,
+            limits: Limits::new(read_limit(address)?, naks, read_limit(attempts)?),
+            choice: read_choice(rest)?,
+        })
     }
-    let naks = naks.parse::<u16>().ok()?;
-    let limits = Limits::new(read_limit(address)?, naks, read_limit(attempts)?);
-    Some((read_speed(speed)?, limits))
+}
+
+/// What a host is to ask for, in words: everything where there are none.
+fn read_choice(words: &[&str]) -> Option<Choice> {
+    let everything = Choice::everything();
+    let (strings, words) = match words {
+        [first, strings, rest @ ..] if *first == "strings" => (read_strings(strings)?, rest),
+        _ => (everything.strings, words),
+    };
+    let other_speed = match words {
+        [] => everything.other_speed,
+        [first, other] if *first == "other_speed" => match *other {
+            "yes" => true,
+            "no" => false,
+            _ => return None,
+        },
+        _ => return None,
+    };
+    Some(Choice {
+        strings,
+        other_speed,
+    })
+}
+
+/// `needed`, `wanted` or `skipped`.
+fn read_strings(word: &str) -> Option<NamedStrings> {
+    match word {
+        "needed" => Some(NamedStrings::Needed),
+        "wanted" => Some(NamedStrings::Wanted),
+        "skipped" => Some(NamedStrings::Skipped),
+        _ => None,
+    }
 }
 
 /// An address or a number of attempts. One past a byte is as far out of range as the greatest byte.

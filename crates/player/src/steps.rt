@@ -1,7 +1,7 @@
 //! The steps that there are, by their forms.
 
 /// Each step's first word, and how it is written.
-pub const STEPS: [(&str, &str); 33] = [
+pub const STEPS: [(&str, &str); 34] = [
     ("file", "file NAME.file, or file HEX"),
     ("speed", "speed low, full or high, after a file"),
     ("setup", "setup HEX of eight bytes; setup HEX busy"),
@@ -28,9 +28,13 @@ pub const STEPS: [(&str, &str); 33] = [
         "transfer",
         "transfer ADDRESS PACKET NAKS HEX, or HEX DATA; a packet of 1 to 255 bytes",
     ),
-    ("host", "host SPEED address N naks N attempts N"),
+    (
+        "host",
+        "host SPEED address N naks N attempts N; then strings needed, wanted or skipped; then other_speed yes or no",
+    ),
     ("reset_done", "reset_done, to a host"),
     ("listing", "listing N, of a host"),
+    ("forgiven", "forgiven, of a host"),
     ("ack", "ack, to a host or a transfer"),
     ("nak", "nak, to a host or a transfer"),
     ("stall", "stall, to a host or a transfer"),

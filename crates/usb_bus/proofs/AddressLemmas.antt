@@ -2,15 +2,16 @@
 use Rattle.std.proofs.Common.{◌≡◌, ◌≤◌, ◌<◌, ◌+◌, ◌&&◌, nat_lt, ℕ, zero, suc, List, [], ◌∷◌, length, take, drop, Bool, true, false, if◌then◌else◌, inl, inr, refl, sym, subst, arith}
 use Rattle.usb_fields.specs.Packets.{Sent, SetupToken, InToken, OutToken, Reply, AckReply, NakReply, StallReply, DataReply, NoReply, is_same_toggle}
 use Rattle.usb_fields.specs.Setup.{setup_bytes}
-use Rattle.usb_fields.specs.declared.packet.Speed.{Speed}
 use Rattle.usb_fields.specs.declared.packet.Toggle.{Toggle}
 use Rattle.usb_fields.specs.declared.packet.Toggle.TheVariants.{Data0, Data1}
 use Rattle.usb_host.specs.Keeping.{Kept}
 use Rattle.usb_host.specs.Limits.{LimitView}
-use Rattle.usb_host.specs.Order.{asks, refused_leads}
+use Rattle.usb_host.specs.declared.choice.Terms.{Terms}
+use Rattle.usb_host.specs.declared.step.Trouble.{Trouble}
+use Rattle.usb_host.specs.Order.{asks, refused_leads, spared}
 use Rattle.usb_host.specs.Place.{Place, First, Address, Device, Header, Set, Qualifier, Languages, Text, Configure, Reported, Stopped}
 use Rattle.usb_host.specs.Plan.{Plan, Begin, Success, GivesUp}
-use Rattle.usb_host.specs.Steps.{HostPhase, HostView, ResetDue, Reading, Ended, WantsSent, TakesIn, Takes, TakesHeard, blames_bus, completed_leads, enter, entered, goes_on, reset, reset_in, sends, settled, wanted}
+use Rattle.usb_host.specs.Steps.{HostPhase, HostView, ResetDue, Reading, Ended, WantsSent, TakesIn, Takes, TakesHeard, blames_bus, completed_leads, enter, entered, goes_on, reset, reset_in, sends, settled, wanted, terms_of}
 use Rattle.usb_host.specs.Transfer.{Taken, TransferView, addressed, delayed, failed, kept_packet, struck, taken, taken_at, taken_data, taken_status, token_due, packet_due}
 use Rattle.usb_host.specs.declared.transfer.TransferStage.{TransferStage}
 use Rattle.usb_host.specs.declared.transfer.TransferStage.TheVariants as stages
@@ -100,27 +101,27 @@ entered_fits naks place (GivesUp why) h = tt
 enter_fits : (limits : LimitView) (place : Place) → limits.address < 128 → AddressFits (enter limits place)
 enter_fits limits place below = entered_fits limits.naks place (asks limits.address place) (asks_fits limits.address place below)
 
-goes_fits : (limits : LimitView) (speed : Speed) (place : Place) (t : TransferView) (k : Kept) (stage : TransferStage) → limits.address < 128 → t.address < 128
-    → AddressFits (goes_on limits speed place t k stage)
-goes_fits limits speed place t k stages.Completed below low = enter_fits limits (completed_leads speed place t k) below
-goes_fits limits speed place t k (stages.Failed whys.Stalled) below low = enter_fits limits (refused_leads place) below
-goes_fits limits speed place t k (stages.Failed whys.NoAnswer) below low = tt
-goes_fits limits speed place t k (stages.Failed whys.Busy) below low = tt
-goes_fits limits speed place t k (stages.Failed whys.TooLong) below low = tt
-goes_fits limits speed place t k (stages.Failed whys.Unexpected) below low = tt
-goes_fits limits speed place t k (stages.Failed whys.Malformed) below low = tt
-goes_fits limits speed place t k (stages.Failed whys.Memory) below low = tt
-goes_fits limits speed place t k stages.Setup below low = low
-goes_fits limits speed place t k stages.DataIn below low = low
-goes_fits limits speed place t k stages.DataOut below low = low
-goes_fits limits speed place t k stages.StatusOut below low = low
-goes_fits limits speed place t k stages.StatusIn below low = low
+goes_fits : (limits : LimitView) (terms : Terms) (place : Place) (t : TransferView) (k : Kept) (stage : TransferStage) → limits.address < 128 → t.address < 128
+    → AddressFits (goes_on limits terms place t k stage)
+goes_fits limits terms place t k stages.Completed below low = enter_fits limits (spared terms.choice.strings place (completed_leads terms place t k)) below
+goes_fits limits terms place t k (stages.Failed whys.Stalled) below low = enter_fits limits (spared terms.choice.strings place (refused_leads terms place)) below
+goes_fits limits terms place t k (stages.Failed whys.NoAnswer) below low = tt
+goes_fits limits terms place t k (stages.Failed whys.Busy) below low = tt
+goes_fits limits terms place t k (stages.Failed whys.TooLong) below low = tt
+goes_fits limits terms place t k (stages.Failed whys.Unexpected) below low = tt
+goes_fits limits terms place t k (stages.Failed whys.Malformed) below low = tt
+goes_fits limits terms place t k (stages.Failed whys.Memory) below low = tt
+goes_fits limits terms place t k stages.Setup below low = low
+goes_fits limits terms place t k stages.DataIn below low = low
+goes_fits limits terms place t k stages.DataOut below low = low
+goes_fits limits terms place t k stages.StatusOut below low = low
+goes_fits limits terms place t k stages.StatusIn below low = low
 
-heard_fits : (limits : LimitView) (speed : Speed) (place : Place) (old : Kept) (by : Taken) (new : HostPhase) → limits.address < 128 → by.transfer.address < 128
-    → TakesHeard limits speed place old by new → AddressFits new
-heard_fits limits speed place old by new below low (result, k, keeps, inl (lacks, e)) = subst AddressFits (sym e) tt
-heard_fits limits speed place old by new below low (result, k, keeps, inr (lacks, e)) =
-    subst AddressFits (sym e) (goes_fits limits speed place by.transfer k by.transfer.stage below low)
+heard_fits : (limits : LimitView) (terms : Terms) (place : Place) (old : Kept) (by : Taken) (new : HostPhase) (before after : List Trouble) → limits.address < 128
+    → by.transfer.address < 128 → TakesHeard limits terms place old by new before after → AddressFits new
+heard_fits limits terms place old by new b a below low (result, k, keeps, inl (lacks, e, same)) = subst AddressFits (sym e) tt
+heard_fits limits terms place old by new b a below low (result, k, keeps, inr (lacks, e, adds)) =
+    subst AddressFits (sym e) (goes_fits limits terms place by.transfer k by.transfer.stage below low)
 
 either_phase : (c : Bool) (x y : HostPhase) → AddressFits x → AddressFits y → AddressFits (if c then x else y)
 either_phase true x y p q = p
@@ -151,7 +152,7 @@ takes_fits v w (Reading place t k) reply at h low (phase, heard, e) =
     subst AsksWithin (sym e)
     (record {
       limits = h.limits;
-      phase = settled_fits v.limits.attempts v.resets phase (heard_fits v.limits v.speed place k (taken t reply) phase h.limits there heard);
+      phase = settled_fits v.limits.attempts v.resets phase (heard_fits v.limits (terms_of v) place k (taken t reply) phase v.forgiven w.forgiven h.limits there heard);
     })
 
 pub take_within : (v w : HostView) (reply : Reply) → AsksWithin v → Takes v reply w → AsksWithin w

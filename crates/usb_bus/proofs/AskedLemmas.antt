@@ -9,11 +9,12 @@ use Rattle.usb_fields.specs.Setup.{setup_bytes}
 use Rattle.usb_set.specs.declared.tree.Configuration.{Configuration}
 use Rattle.usb_file_data.specs.declared.file.DescriptorFile.{DescriptorFile}
 use Rattle.usb_file_data.specs.File.{file_bytes}
+use Rattle.usb_host.specs.Terms.{all_of}
 use Rattle.usb_host.specs.declared.transfer.TransferStage.{TransferStage}
 use Rattle.usb_host.specs.declared.transfer.TransferStage.TheVariants.{Setup, DataIn, DataOut, StatusOut, StatusIn, Completed, Failed}
 use Rattle.usb_host.specs.declared.reply.Reply.{Reply}
 use Rattle.usb_host.specs.declared.reply.Reply.TheVariants as replied
-use Rattle.usb_host.proofs.PartLemmas.{left_of, right_of}
+use Rattle.usb_host.proofs.SpareLemmas.{left_of, right_of}
 use Rattle.usb_host.specs.Keeping.{Kept}
 use Rattle.usb_host.specs.Limits.{LimitView, IsInRange}
 use Rattle.usb_host.specs.Order.{asks, next}
@@ -86,7 +87,7 @@ module _ (set_of : List ℕ → Option Configuration) (speed : Speed) (address :
   -- what is refused at a place of the script is open to no owner
   refused_closed : (end place : Place) (xs : List Exchange) (came todo : List Reply) (r : Reply) (other size : ℕ) (q : SetupPacket) →
       WalksScript set_of speed address end place xs → AreClosed xs → came ++ (r ∷ todo) ≡ replies_in xs →
-      asks address (reached set_of speed place came) ≡ Begin other size q → r ≡ replied.Refused → is_open q ≡ false
+      asks address (reached set_of (all_of speed) place came) ≡ Begin other size q → r ≡ replied.Refused → is_open q ≡ false
   refused_closed end place [] [] todo r other size q walks closed e begins refused = absurd (cc)
   refused_closed end place [] (y ∷ came) todo r other size q walks closed e begins refused = absurd (cc)
   refused_closed end place (x ∷ xs) [] todo r other size q walks closed e begins refused =
@@ -94,9 +95,9 @@ module _ (set_of : List ℕ → Option Configuration) (speed : Speed) (address :
       (closed.0 (sym (heads r x.reply todo (replies_in xs) e) ∙ refused))
   refused_closed end place (x ∷ xs) (y ∷ came) todo r other size q walks closed e begins refused =
       let same = heads y x.reply (came ++ (r ∷ todo)) (replies_in xs) e in
-      refused_closed end (next set_of speed place x.reply) xs came todo r other size q walks.1 closed.1
+      refused_closed end (next set_of (all_of speed) place x.reply) xs came todo r other size q walks.1 closed.1
       (tails y x.reply (came ++ (r ∷ todo)) (replies_in xs) e)
-      (subst (λ z. asks address (reached set_of speed (next set_of speed place z) came) ≡ Begin other size q) same begins) refused
+      (subst (λ z. asks address (reached set_of (all_of speed) (next set_of (all_of speed) place z) came) ≡ Begin other size q) same begins) refused
 
 -- ---- where a transaction of a transfer is due after its SETUP
 
@@ -211,7 +212,7 @@ module _ (set_of : List ℕ → Option Configuration) (exact : ReadsSets set_of)
     never_free : TogetherOn plan limits.naks no_data (answer f) size false (replies_in xs) last l b a replies h d →
         token_due h.transfer [] h.transfer.stage ≡ Some token → is_in_transfer token has ≡ true → free ≡ true → ⊥
     never_free t is inside at =
-        let either = asks_no_either f d.state limits.address (reached set_of speed First replies) t.s.address t.packet t.q t.planned.begins in
+        let either = asks_no_either f d.state limits.address (reached set_of (all_of speed) First replies) t.s.address t.packet t.q t.planned.begins in
         let refuses = left_alone (is_refusing d.stage && is_open h.transfer.request) (is_either f d.state h.transfer.request) at
         (ap (λ q. is_either f d.state q) t.in_one.stand.request ∙ either) in
         let refused = refuses_by_table (answer f) size t.s t.q t.packet limits.naks l b a h.transfer token has h.transfer.stage d.stage h.transfer.awaited h.got h.transfer.kept h.transfer.strikes d.state
@@ -225,7 +226,7 @@ module _ (set_of : List ℕ → Option Configuration) (exact : ReadsSets set_of)
         IsSame h.transfer.request token came has → came ≡ has
     no_status t (inl same) = same
     no_status t (inr (inside, status, alike)) =
-        let never = asks_no_status limits.address (reached set_of speed First replies) t.s.address t.packet t.q t.planned.begins in
+        let never = asks_no_status limits.address (reached set_of (all_of speed) First replies) t.s.address t.packet t.q t.planned.begins in
         absurd (let wrong = sym status ∙ ap is_device_status t.in_one.stand.request ∙ never in cc)
 
     same_together : TogetherOn plan limits.naks no_data (answer f) size false (replies_in xs) last l b a replies h d →

@@ -38,7 +38,7 @@ use Rattle.usb_bus.specs.Bus.{is_data, acknowledged, carried}
 use Rattle.usb_host.specs.Cost.{most, BringsBytes}
 use Rattle.usb_host.specs.Gathered.{Came, no_bytes, came_in}
 use Rattle.usb_host.specs.Laws.{Asks, HostsEnd}
-use Rattle.usb_host.specs.Steps.{HostView, new_host}
+use Rattle.usb_host.specs.Steps.{HostView, new_host, terms_of}
 use Rattle.usb_host.proofs.ReadLemmas.{byte_at}
 use Rattle.usb_bus.specs.Beside.{HasBytes, IsBeside, IsOfBytes}
 use Rattle.usb_bus.specs.Enumerate.{Pair, new_pair, RunsAt}
@@ -464,7 +464,7 @@ module _ (f : DescriptorFile) (bytes : AreBytes (file_bytes f)) (table : State �
       let reply = (carried table n x.device t.sent fate).reply in
       let carry = carries x.device t.sent fate fits in (
         x.host ∷ hosts,
-        came_in x.host.phase reply came,
+        came_in (terms_of x.host) x.host.phase reply came,
         inr (m, t.sent, reply, came, count, t.due, carry.reply, t.host, refl, asks),
         subst (λ d. DeviceFits d) (sym t.device) carry.device,
       )

@@ -7,6 +7,7 @@ use Rattle.usb_fields.specs.declared.setup.Setup.{Setup as SetupPacket}
 use Rattle.usb_fields.specs.Setup.{setup_bytes}
 use Rattle.usb_set.specs.declared.fault.SetFault.{SetFault}
 use Rattle.usb_set.specs.declared.decoder.Progress.{Progress}
+use Rattle.usb_host.specs.declared.choice.NamedStrings.TheVariants.{Needed}
 use Rattle.usb_host.specs.declared.transfer.TransferStage.{TransferStage}
 use Rattle.usb_host.specs.declared.transfer.TransferStage.TheVariants.{Setup, DataIn, DataOut, StatusOut, StatusIn, Completed, Failed}
 use Rattle.usb_host.specs.Transfer.{TransferView, Hearing, Taken, addressed, delayed, due, struck, taken, taken_at, token_due, packet_due}
@@ -29,7 +30,7 @@ neither (inr x) = x
 module _ (place : Place) (k : Kept) (result : Result Progress SetFault) where
   -- nothing is asked of memory
   abbrev Asks : Hearing → Type 0
-  Asks heard = LacksMemory heard k result ⊎ Grows heard place
+  Asks heard = LacksMemory heard k result ⊎ Grows Needed heard place
 
   if_none : (b : Bool) (x y : Taken) → (Asks x.heard → ⊥) → (Asks y.heard → ⊥) → Asks (if b then x else y).heard → ⊥
   if_none true x y p q = p

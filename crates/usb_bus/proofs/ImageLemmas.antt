@@ -8,6 +8,9 @@ use Rattle.usb_fields.specs.declared.setup.Direction.TheVariants as directions
 use Rattle.usb_fields.specs.Packets.{is_same_toggle, Reply as Packet, AckReply, NakReply, StallReply, DataReply, NoReply}
 use Rattle.usb_set.specs.declared.fault.SetFault.{SetFault}
 use Rattle.usb_set.specs.declared.decoder.Progress.{Progress}
+use Rattle.usb_host.specs.declared.choice.NamedStrings.TheVariants.{Needed}
+use Rattle.usb_host.specs.declared.step.Trouble.{Trouble}
+use Rattle.usb_host.specs.Terms.{all_of}
 use Rattle.usb_host.specs.declared.why.Why.{Why}
 use Rattle.usb_host.specs.declared.why.Why.TheVariants.{NoAnswer, Busy, Stalled, TooLong, Unexpected, Malformed, Memory}
 use Rattle.usb_host.specs.declared.transfer.TransferStage.{TransferStage}
@@ -115,7 +118,7 @@ counts got t (TheFailed why) packet at e r = (e, r)
 
 module _ (laws : SetLaws) (set_of : List ℕ → Option Configuration) (limits : LimitView) (speed : Speed) (exact : ReadsSets set_of) where
   abbrev at : List Reply → Place
-  at replies = reached set_of speed First replies
+  at replies = reached set_of (all_of speed) First replies
 
   abbrev plan : List Reply → Plan
   plan replies = plan_of set_of limits speed replies
@@ -142,53 +145,53 @@ module _ (laws : SetLaws) (set_of : List ℕ → Option Configuration) (limits :
       subst (λ x. Image replies (phase_of limits.naks (asks limits.address x)) (enter limits place)) (sym e) (entered_by replies place e)
 
   -- a transfer that has completed leads to one place
-  done_same : (place : Place) → IsInWork place → next set_of speed place replied.Done ≡ done_leads place
+  done_same : (place : Place) → IsInWork place → next set_of (all_of speed) place replied.Done ≡ done_leads place
   done_same (Reported f) h = absurd (h)
   done_same (Stopped trouble) h = absurd (h)
   done_same place h = refl
 
-  refused_same : (place : Place) → IsInWork place → next set_of speed place replied.Refused ≡ refused_leads place
+  refused_same : (place : Place) → IsInWork place → next set_of (all_of speed) place replied.Refused ≡ refused_leads (all_of speed) place
   refused_same (Reported f) h = absurd (h)
   refused_same (Stopped trouble) h = absurd (h)
   refused_same place h = refl
 
-  bytes_next : (place : Place) (b b' : List ℕ) → IsInWork place → FitsPlace place (kept.Bytes b) → next set_of speed place (replied.Bytes b') ≡ bytes_lead speed place b'
+  bytes_next : (place : Place) (b b' : List ℕ) → IsInWork place → FitsPlace place (kept.Bytes b) → next set_of (all_of speed) place (replied.Bytes b') ≡ bytes_lead (all_of speed) place b'
   bytes_next (Reported f) b b' h fits = absurd (h)
   bytes_next (Stopped trouble) b b' h fits = absurd (h)
   bytes_next (Set kind f total) b b' h fits = absurd (fits)
   bytes_next place b b' h fits = refl
 
   bytes_same : (place : Place) (e : HostEnd) (t : TransferView) (k : Kept) → IsInWork place → FitsPlace place k → IsTransfer e t k →
-      next set_of speed place (replied.Bytes e.got) ≡ read_leads speed place t.kept k
+      next set_of (all_of speed) place (replied.Bytes e.got) ≡ read_leads (all_of speed) place t.kept k
   bytes_same place e t (kept.Bytes bytes) open_ fits is =
-      bytes_next place bytes e.got open_ fits ∙ ap (λ b. bytes_lead speed place b) (sym is.is_kept)
+      bytes_next place bytes e.got open_ fits ∙ ap (λ b. bytes_lead (all_of speed) place b) (sym is.is_kept)
   bytes_same (Set kind f total) e t (kept.Set d over) open_ fits is =
-      ap (λ o. set_leads speed (Set kind f total) kind f total (length e.got) o) (same_set laws set_of exact e.got d over is.is_kept)
-      ∙ ap (λ n. set_leads speed (Set kind f total) kind f total n (set_kept d over)) (sym is.is_count)
+      ap (λ o. set_leads (all_of speed) (Set kind f total) kind f total (length e.got) o) (same_set laws set_of exact e.got d over is.is_kept)
+      ∙ ap (λ n. set_leads (all_of speed) (Set kind f total) kind f total n (set_kept d over)) (sym is.is_count)
   bytes_same place e t (kept.Set d over) open_ fits is = absurd (fits)
 
   completed_same : (place : Place) (e : HostEnd) (t : TransferView) (k : Kept) → IsInWork place → FitsPlace place k → IsTransfer e t k →
-      next set_of speed place (reply_from 0 e) ≡ completed_leads speed place t k
+      next set_of (all_of speed) place (reply_from 0 e) ≡ completed_leads (all_of speed) place t k
   completed_same place e t k open_ fits is =
-      ap (λ x. next set_of speed place (if x.request.length == 0 then replied.Done else replied.Bytes e.got)) is.is_transfer
+      ap (λ x. next set_of (all_of speed) place (if x.request.length == 0 then replied.Done else replied.Bytes e.got)) is.is_transfer
       ∙ by_length (t.request.length == 0)
     where
-      by_length : (z : Bool) → next set_of speed place (if z then replied.Done else replied.Bytes e.got)
-          ≡ (if z then done_leads place else read_leads speed place t.kept k)
+      by_length : (z : Bool) → next set_of (all_of speed) place (if z then replied.Done else replied.Bytes e.got)
+          ≡ (if z then done_leads place else read_leads (all_of speed) place t.kept k)
       by_length true = done_same place open_
       by_length false = bytes_same place e t k open_ fits is
 
   advanced : (replies : List Reply) (e : HostEnd) (stage : TransferStage) (d : DeviceView) (place : Place) (t : TransferView) (k : Kept) →
       at replies ≡ place → IsInWork place → FitsPlace place k → IsTransfer e t k →
-      (let x = advance plan limits.naks no_data replies e stage d in Image x.replies x.phase (goes_on limits speed place t k stage))
+      (let x = advance plan limits.naks no_data replies e stage d in Image x.replies x.phase (goes_on limits (all_of speed) place t k stage))
   advanced replies e Completed d place t k here open_ fits is =
-      entered (replies ++ reply_from 0 e ∷ []) (completed_leads speed place t k)
+      entered (replies ++ reply_from 0 e ∷ []) (completed_leads (all_of speed) place t k)
       (walk_append set_of speed First replies (reply_from 0 e)
-      ∙ ap (λ x. next set_of speed x (reply_from 0 e)) here ∙ completed_same place e t k open_ fits is)
+      ∙ ap (λ x. next set_of (all_of speed) x (reply_from 0 e)) here ∙ completed_same place e t k open_ fits is)
   advanced replies e (TheFailed Stalled) d place t k here open_ fits is =
-      entered (replies ++ replied.Refused ∷ []) (refused_leads place)
+      entered (replies ++ replied.Refused ∷ []) (refused_leads (all_of speed) place)
       (walk_append set_of speed First replies replied.Refused
-      ∙ ap (λ x. next set_of speed x replied.Refused) here ∙ refused_same place open_)
+      ∙ ap (λ x. next set_of (all_of speed) x replied.Refused) here ∙ refused_same place open_)
   advanced replies e (TheFailed NoAnswer) d place t k here open_ fits is = refl
   advanced replies e (TheFailed Busy) d place t k here open_ fits is = refl
   advanced replies e (TheFailed TooLong) d place t k here open_ fits is = refl
@@ -214,14 +217,15 @@ module _ (laws : SetLaws) (set_of : List ℕ → Option Configuration) (limits :
   keeps place got (kept.Set d over) (kept.Set new now) (Brings piece) result fits is e fine =
       (fits_set place d new over now fits, elim (feeds laws got piece d new over now result is e.0 e.1) [ inl wants ↦ absurd (fine wants) | inr ok ↦ ok ])
 
-  pub stays : (replies : List Reply) (h : HostEnd) (d : DeviceView) (place : Place) (t : TransferView) (k : Kept) (packet : Packet) (new : HostPhase) →
-      Image replies (Running h) (Reading place t k) → TakesHeard limits speed place k (taken t packet) new →
-      ((result : Result Progress SetFault) × (LacksMemory (taken t packet).heard k result ⊎ Grows (taken t packet).heard place)
+  pub stays : (replies : List Reply) (h : HostEnd) (d : DeviceView) (place : Place) (t : TransferView) (k : Kept) (packet : Packet) (new : HostPhase)
+      (before after : List Trouble) → Image replies (Running h) (Reading place t k) →
+      TakesHeard limits (all_of speed) place k (taken t packet) new before after →
+      ((result : Result Progress SetFault) × (LacksMemory (taken t packet).heard k result ⊎ Grows Needed (taken t packet).heard place)
       × (new ≡ Ended (stopped place Memory)))
       ⊎ (let e = hears false h packet in let x = advance plan limits.naks no_data replies e e.transfer.stage d in Image x.replies x.phase new)
-  stays replies h d place t k packet new (here, open_, fits, is) (result, after, works, inl (wants, e)) =
+  stays replies h d place t k packet new b a (here, open_, fits, is) (result, after, works, inl (wants, e, same)) =
       inl (result, elim wants [ inl lacks ↦ inl lacks | inr grows ↦ inr grows.0 ], e)
-  stays replies h d place t k packet new (here, open_, fits, is) (result, after, works, inr (fine, e)) =
+  stays replies h d place t k packet new b a (here, open_, fits, is) (result, after, works, inr (fine, e, adds)) =
       let by = taken t packet in
       let end : HostEnd = host_after h.got by in
       let c = counts h.got t t.stage packet refl is.is_count is.is_read in
@@ -231,4 +235,4 @@ module _ (laws : SetLaws) (set_of : List ℕ → Option Configuration) (limits :
       let same : hears false h packet ≡ end =
       ap (λ x. host_after h.got x) (taken_plain h.transfer h.transfer.stage packet) ∙ ap (λ x. host_after h.got (taken x packet)) is.is_transfer in
       inr (subst (λ s. (let z = hears false h packet in let x = advance plan limits.naks no_data replies z z.transfer.stage d in Image x.replies x.phase s)) (sym e)
-      (subst (λ z. (let x = advance plan limits.naks no_data replies z z.transfer.stage d in Image x.replies x.phase (goes_on limits speed place by.transfer after by.transfer.stage))) (sym same) image))
+      (subst (λ z. (let x = advance plan limits.naks no_data replies z z.transfer.stage d in Image x.replies x.phase (goes_on limits (all_of speed) place by.transfer after by.transfer.stage))) (sym same) image))

@@ -45,6 +45,7 @@ mod Tallies
 pub mod WireArrivals
 pub mod WireFates
 pub mod WireRunLemmas
+pub mod WireLogLemmas
 mod DamageLemmas
 mod AddressLemmas
 mod WireDamages

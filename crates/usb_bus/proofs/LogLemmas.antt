@@ -20,7 +20,9 @@ use Rattle.usb_host.specs.Steps.{Ended, HostPhase, Reading, ResetDue, WantsReset
 use Rattle.usb_bus.specs.Enumerate.{Pair, new_pair, Moves, answered}
 use Rattle.usb_bus.specs.Exchanges.{answered_in, cause_of}
 use Rattle.usb_bus.specs.Lines.{data_below, data_of, device_words, given_up_part, tally_line}
-use Rattle.usb_bus.specs.Bus.{brought}
+use Rattle.usb_bus.specs.Bus.{brought, carried}
+use Rattle.usb_bus.specs.declared.fate.Fate.TheVariants as fates
+use Rattle.usb_device.specs.Requests.{answer}
 use Rattle.usb_bus.specs.inside.Seeing.{HasSeen, done_lines}
 use Rattle.usb_bus.specs.Log.{CutsOff, IsLogOf, WritesLog, WritesLogLess, answered_part, count_before, exchange_lines, lines_with, log_text, step_lines, transfer_part}
 use Rattle.usb_bus.proofs.EnumerateLemmas.{runs_on}
@@ -33,31 +35,31 @@ abbrev pub is_brief : ℕ → Bool
 is_brief n = not (eqb n 0)
 
 -- a transfer wants no reset
-no_reset : (o : Option Sent) → sends o ≡ WantsReset → ⊥
+pub no_reset : (o : Option Sent) → sends o ≡ WantsReset → ⊥
 no_reset None e = absurd (cc)
 no_reset (Some sent) e = absurd (cc)
 
+pub lines_joined : (before part device below last : List ℕ) → before ++ part ++ device ++ below ++ last ≡ before ++ (part ++ device ++ below ++ last)
+lines_joined before part device below last =
+    ap (λ l. l ++ below ++ last) (append_assoc before part device)
+    ∙ ap (λ l. l ++ last) (append_assoc before (part ++ device) below)
+    ∙ append_assoc before (part ++ device ++ below) last
+
 -- what was seen of a transaction, and what both ends have then, are its lines
 seen_lines : (brief : Bool) (size number : ℕ) (fate : Fate) (step : Step) (t : TransferView) (answer : Reply) (y : Pair) (lines packet : List ℕ) (why : Option Why)
-    → HasSeen brief number fate (Some step) (Some t) answer y.host.phase [] lines packet why
+    → HasSeen brief number fate (Some step) (Some t) answer (brought fate answer) y.host.phase [] lines packet why
     → done_lines size true lines packet why y.host y.device ≡ lines_with brief size number fate (Some step) (Some t) answer y
 unfolding exchange_lines
 seen_lines brief size number fate step t answer y lines packet why (put, held, cause) =
-    let before = transfer_part step t in
-    let part = answered_part number fate t answer y.host.phase in
-    let device = device_words size y.device in
-    let below = data_below brief (data_of (due t) answer) in
-    let last = given_up_part y.host.resets (cause_of t (brought fate answer) y.host.phase) in
     rw (put, held, cause)
-    (ap (λ l. l ++ below ++ last) (append_assoc before part device)
-    ∙ ap (λ l. l ++ last) (append_assoc before (part ++ device) below)
-    ∙ append_assoc before (part ++ device ++ below) last)
+    (lines_joined (transfer_part step t) (answered_part number fate t answer (brought fate answer) y.host.phase) (device_words size y.device)
+    (data_below brief (data_of (due t) answer)) (given_up_part y.host.resets (cause_of t (brought fate answer) y.host.phase)))
 
 -- The lines of a step are those with the answer that was seen.
 lines_at : (brief : Bool) (f : DescriptorFile) (fates : List Fate) (d : DeviceView) (y : Pair) (phase : HostPhase) (n now : ℕ) (lines packet : List ℕ) (why : Option Why)
     → (wanted phase ≡ WantsReset)
     ⊎ ((sent : Sent) × (wanted phase ≡ WantsSent sent) × (now ≡ suc n)
-    × HasSeen brief now (fate_at fates n) (step_in phase) (transfer_in phase) (answered f d sent (fate_at fates n)) y.host.phase [] lines packet why)
+    × HasSeen brief now (fate_at fates n) (step_in phase) (transfer_in phase) (answered f d sent (fate_at fates n)) (brought (fate_at fates n) (answered f d sent (fate_at fates n))) y.host.phase [] lines packet why)
     → done_lines f.device.packet (is_some (transfer_in phase)) lines packet why y.host y.device
     ≡ lines_with brief f.device.packet now (fate_at fates (now - 1)) (step_in phase) (transfer_in phase) (answered_in f d (wanted phase) (fate_at fates (now - 1))) y
 lines_at brief f fates d y ResetDue n now lines packet why by = refl
@@ -71,11 +73,19 @@ lines_at brief f fates d y (Reading place t k) n now lines packet why (inr (sent
     ∙ ap (λ a. lines_with brief f.device.packet now (fate_at fates n) (Some (step_of place)) (Some t) a y) (sym same)
     ∙ ap (λ fate. lines_with brief f.device.packet now fate (Some (step_of place)) (Some t) (answered_in f d (wanted (Reading place t k)) (fate_at fates (now - 1))) y) (sym at)
 
+-- what comes back of a transaction is what its fate leaves of the answer
+came_is : (f : DescriptorFile) (d : DeviceView) (sent : Sent) (fate : Fate) → (carried (answer f) f.device.packet d sent fate).reply ≡ brought fate (answered f d sent fate)
+came_is f d sent fates.Pass = refl
+came_is f d sent fates.Busy = refl
+came_is f d sent fates.LostDown = refl
+came_is f d sent fates.LostUp = refl
+came_is f d sent fates.LostAck = refl
+
 -- by what is known of each part of it
 pub step_put : (brief : Bool) (f : DescriptorFile) (fates : List Fate) (x y : Pair) (n now number size : ℕ) (fate : Fate) (is : Bool) (step : Option Step) (transfer : Option TransferView)
     (old lines packet : List ℕ) (why : Option Why) (text : List ℕ) → Moves f fates x n y now
     → ((sent : Sent) → wanted x.host.phase ≡ WantsSent sent
-    → HasSeen brief number fate step transfer (answered f x.device sent (fate_at fates n)) y.host.phase old lines packet why)
+    → HasSeen brief number fate step transfer (answered f x.device sent (fate_at fates n)) (carried (answer f) f.device.packet x.device sent (fate_at fates n)).reply y.host.phase old lines packet why)
     → text ≡ done_lines size is lines packet why y.host y.device → is ≡ is_some (transfer_in x.host.phase) → old ≡ [] → size ≡ f.device.packet → fate ≡ fate_at fates n
     → (now ≡ suc n → number ≡ now) → step ≡ step_in x.host.phase → transfer ≡ transfer_in x.host.phase → text ≡ step_lines brief f fates now x y
 step_put brief f fates x y n now number size fate is step transfer old lines packet why text (inl (r, e)) seen put kind none of at count in_work before =
@@ -89,7 +99,8 @@ step_put brief f fates x y n now number size fate is step transfer old lines pac
       t.due,
       e,
       rw (sym counted, sym at, sym none, sym in_work, sym before)
-          (subst (λ u. HasSeen brief number fate step transfer (answered f x.device t.sent u) y.host.phase old lines packet why) (sym at) was),
+          (subst (λ u. HasSeen brief number fate step transfer (answered f x.device t.sent u) (brought u (answered f x.device t.sent u)) y.host.phase old lines packet why) (sym at)
+          (subst (λ came. HasSeen brief number fate step transfer (answered f x.device t.sent (fate_at fates n)) came y.host.phase old lines packet why) (came_is f x.device t.sent (fate_at fates n)) was)),
     )))
 
 -- the count before a step

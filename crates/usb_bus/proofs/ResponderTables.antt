@@ -14,7 +14,7 @@ use Rattle.usb_device.specs.Step.{is_set_address}
 use Rattle.usb_device.specs.Beside.{Response, Gives, Does, Takes, Declines, asks_for_bytes, beside, brings_bytes, is_in, is_open, is_open_to, is_other_descriptor, kept_open, kept_to, otherwise, overflows}
 use Rattle.usb_bus.specs.Beside.{IsTable}
 use Rattle.usb_bus.specs.Laws.{RespondersKeepTables}
-use Rattle.usb_host.proofs.PartLemmas.{left_of, right_of}
+use Rattle.usb_host.proofs.SpareLemmas.{left_of, right_of}
 use Rattle.usb_bus.proofs.TableLemmas.{Kept, when_kept}
 
 -- SET_ADDRESS is open to no responder

@@ -5,6 +5,7 @@ use Rattle.usb_fields.specs.declared.packet.Speed.{Speed}
 use Rattle.usb_fields.specs.Packets.{Sent, Reply as Answer}
 use Rattle.usb_set.specs.declared.tree.Configuration.{Configuration}
 use Rattle.usb_file_data.specs.declared.file.DescriptorFile.{DescriptorFile}
+use Rattle.usb_host.specs.Terms.{all_of, everything}
 use Rattle.usb_host.specs.declared.why.Why.{Why}
 use Rattle.usb_host.specs.declared.why.Why.TheVariants.{NoAnswer, Busy, Stalled, TooLong, Unexpected, Malformed, Memory}
 use Rattle.usb_host.specs.declared.transfer.TransferStage.{TransferStage}
@@ -28,7 +29,7 @@ use Rattle.usb_host.specs.Place.{Place, First, Reported, Stopped}
 use Rattle.usb_host.specs.Keeping.{Kept}
 use Rattle.usb_host.specs.Order.{stopped}
 use Rattle.usb_host.specs.Gathered.{reached}
-use Rattle.usb_host.specs.Steps.{HostPhase, ResetDue, Reading, Ended, HostView, WantsReset, WantsSent, wanted, sends, enter, settled, blames_bus, TakesHeard, TakesIn}
+use Rattle.usb_host.specs.Steps.{HostPhase, ResetDue, Reading, Ended, HostView, WantsReset, WantsSent, wanted, sends, enter, settled, blames_bus, terms_of, TakesHeard, TakesIn}
 use Rattle.usb_bus.specs.Enumerate.{brings, configured_state, ends_heard, Pair, new_pair, IsReset, IsTransactionAt, RunsAt}
 use Rattle.usb_host.proofs.AskingLemmas.{wants_reset, reset_is}
 use Rattle.usb_bus.specs.Series.{Series, fresh, settle, series_step, series_run}
@@ -81,6 +82,7 @@ module _ (set_of : List ℕ → Option Configuration) (limits : LimitView) (spee
   pub record Follows (y : Pair) (x : Series) : Type 0 where
     pub limits_are : y.host.limits ≡ limits
     pub speed_is : y.host.speed ≡ speed
+    pub choice_is : y.host.choice ≡ everything
     pub matches : Matches y.host.resets y.host.phase y.device x
 
   -- or memory was wanting
@@ -132,7 +134,7 @@ module _ (set_of : List ℕ → Option Configuration) (limits : LimitView) (spee
   resets_match x y s r m =
       let is = wants_reset x.host.phase r.due in
       let before = subst (λ p. Matches x.host.resets p x.device s) is m.matches in
-      let host_is : y.host ≡ record x.host { resets = suc x.host.resets; phase = enter x.host.limits First } = r.host ∙ reset_is x.host is in
+      let host_is : y.host ≡ record x.host { resets = suc x.host.resets; phase = enter x.host.limits First; forgiven = [] } = r.host ∙ reset_is x.host is in
       let attempt_is : s.attempt ≡ proceed plan limits.naks [] new_device = ap (λ z. z.attempt) before.1 in
       let now : Stands (suc x.host.resets) (enter limits First) y.device s = (
         (let below = before.0 in omega arith),
@@ -144,6 +146,7 @@ module _ (set_of : List ℕ → Option Configuration) (limits : LimitView) (spee
       record {
         limits_are = ap (λ h. h.limits) host_is ∙ m.limits_are;
         speed_is = ap (λ h. h.speed) host_is ∙ m.speed_is;
+        choice_is = ap (λ h. h.choice) host_is ∙ m.choice_is;
         matches =
             subst (λ h. Matches h.resets h.phase y.device s) (sym host_is)
             (subst (λ l. Matches (suc x.host.resets) (enter l First) y.device s) (sym m.limits_are) now);
@@ -173,24 +176,24 @@ module _ (set_of : List ℕ → Option Configuration) (limits : LimitView) (spee
         let y = attempt_step plan limits.naks no_data table f.device.packet fate replies p d in
         Image y.replies y.phase new × (y.device ≡ (carried table f.device.packet d sent fate).device)
 
-    attempt_matches : (fate : Fate) (replies : List Reply) (p : Phase) (d : DeviceView) (place : Place) (t : TransferView) (k : Kept) (sent : Sent) (new : HostPhase) →
-        Image replies p (Reading place t k) → due t ≡ Some sent →
-        TakesHeard limits speed place k (taken t (carried table f.device.packet d sent fate).reply) new →
+    attempt_matches : (fate : Fate) (replies : List Reply) (p : Phase) (d : DeviceView) (place : Place) (t : TransferView) (k : Kept) (sent : Sent) (new : HostPhase)
+        (before after : List Trouble) → Image replies p (Reading place t k) → due t ≡ Some sent →
+        TakesHeard limits (all_of speed) place k (taken t (carried table f.device.packet d sent fate).reply) new before after →
         ((new ≡ Ended (stopped place Memory)) × (brings fate ≡ true)) ⊎ Stepped fate replies p d sent new
-    attempt_matches fate replies (Running h) d place t k sent new image asks takes =
+    attempt_matches fate replies (Running h) d place t k sent new b a image asks takes =
         let r = carried table f.device.packet d sent fate in
         let z = hears false h r.reply in
         let asked : due h.transfer ≡ Some sent = ap due image.3.is_transfer ∙ asks in
         let there : exchanged table f.device.packet false h d (due h.transfer) fate ≡ record { host = z; device = r.device } =
         ap (λ o. exchanged table f.device.packet false h d o fate) asked in
-        elim (stays replies h r.device place t k r.reply new image takes) [
+        elim (stays replies h r.device place t k r.reply new b a image takes) [
           | inl (result, wants, e) ↦ inl (e, wanting_heard table f.device.packet t k place sent fate d result asks wants)
           | inr ok ↦
               inr (subst (λ e. (let y = advance plan limits.naks no_data replies e.host e.host.transfer.stage e.device in Image y.replies y.phase new × (y.device ≡ r.device)))
               (sym there) (ok, advanced_device replies z z.transfer.stage r.device))
         ]
-    attempt_matches fate replies Succeeded d place t k sent new image asks takes = absurd (image)
-    attempt_matches fate replies (Broken why) d place t k sent new image asks takes = absurd (image)
+    attempt_matches fate replies Succeeded d place t k sent new b a image asks takes = absurd (image)
+    attempt_matches fate replies (Broken why) d place t k sent new b a image asks takes = absurd (image)
 
     -- a transaction
     reading_matches : (fate : Fate) (x y : Pair) (s : Series) (sent : Sent) (p : HostPhase) → wanted p ≡ WantsSent sent → Follows x s → Matches x.host.resets p x.device s →
@@ -202,13 +205,16 @@ module _ (set_of : List ℕ → Option Configuration) (limits : LimitView) (spee
     reading_matches fate x y s sent (Reading place t k) asks m (few, attempts_are, image, device_is) (phase, heard, host_is) device =
         let a = s.attempt in
         let answered : DeviceView → Answer = λ d. (carried table f.device.packet d sent fate).reply in
-        let heard_here : TakesHeard limits speed place k (taken t (answered a.device)) phase =
-        subst (λ d. TakesHeard limits speed place k (taken t (answered d)) phase) (sym device_is)
-        (subst (λ v. TakesHeard limits v place k (taken t (answered x.device)) phase) m.speed_is
-        (subst (λ l. TakesHeard l x.host.speed place k (taken t (answered x.device)) phase) m.limits_are heard)) in
+        let before = x.host.forgiven in
+        let after = y.host.forgiven in
+        let heard_here : TakesHeard limits (all_of speed) place k (taken t (answered a.device)) phase before after =
+        subst (λ d. TakesHeard limits (all_of speed) place k (taken t (answered d)) phase before after) (sym device_is)
+        (subst (λ c. TakesHeard limits (record { speed = speed; choice = c }) place k (taken t (answered x.device)) phase before after) m.choice_is
+        (subst (λ v. TakesHeard limits (record { speed = v; choice = x.host.choice }) place k (taken t (answered x.device)) phase before after) m.speed_is
+        (subst (λ l. TakesHeard l (terms_of x.host) place k (taken t (answered x.device)) phase before after) m.limits_are heard))) in
         let phase_is : y.host.phase ≡ settled limits.attempts x.host.resets phase =
         ap (λ h. h.phase) host_is ∙ ap (λ l. settled l.attempts x.host.resets phase) m.limits_are in
-        elim (attempt_matches fate a.replies a.phase a.device place t k sent phase image (is_due (due t) sent asks) heard_here) [
+        elim (attempt_matches fate a.replies a.phase a.device place t k sent phase before after image (is_due (due t) sent asks) heard_here) [
           | inl (wants, arrived) ↦ inl ((place, phase_is ∙ ap (λ z. settled limits.attempts x.host.resets z) wants), arrived)
           | inr ok ↦
               let z = attempt_step plan limits.naks no_data table f.device.packet fate a.replies a.phase a.device in
@@ -219,6 +225,7 @@ module _ (set_of : List ℕ → Option Configuration) (limits : LimitView) (spee
               inr (record {
                 limits_are = ap (λ h. h.limits) host_is ∙ m.limits_are;
                 speed_is = ap (λ h. h.speed) host_is ∙ m.speed_is;
+                choice_is = ap (λ h. h.choice) host_is ∙ m.choice_is;
                 matches =
                     subst (λ p. Matches y.host.resets p y.device (stepped fate s)) (sym later)
                     (subst (λ n. Matches n (settled limits.attempts s.attempts phase) y.device (stepped fate s)) resets_are now);
@@ -247,7 +254,7 @@ module _ (set_of : List ℕ → Option Configuration) (limits : LimitView) (spee
     pub runs_match : (some : 0 < limits.attempts) (fates : List Fate) (earlier : List Pair) (n : ℕ) (last : Pair) → RunsAt table f.device.packet fates (new_pair limits speed) earlier n last →
         (IsWanting last.host × (ends_heard (fates_used fates n) ≡ true)) ⊎ Follows last (after fates n)
     runs_match some fates [] n last (e, none) =
-        let new : Follows (new_pair limits speed) (begin 1) = record { limits_are = refl; speed_is = refl; matches = (some, refl) } in
+        let new : Follows (new_pair limits speed) (begin 1) = record { limits_are = refl; speed_is = refl; choice_is = refl; matches = (some, refl) } in
         inr (subst (λ m. Follows last (after fates m)) (sym none) (subst (λ y. Follows y (begin 1)) (sym e) new))
     runs_match some fates (x ∷ earlier) n last (inl (r, more)) =
         elim (runs_match some fates earlier n x more) [
@@ -272,7 +279,7 @@ module _ (set_of : List ℕ → Option Configuration) (limits : LimitView) (spee
     Judged all used x p =
         Verdict limits.naks limits.attempts all (configured_state limits.address f) (losses used) (busies used) x.attempts x.attempt p
 
-    module _ (all : List Reply) (reads : reached set_of speed First all ≡ Reported f) (used : List Fate) where
+    module _ (all : List Reply) (reads : reached set_of (all_of speed) First all ≡ Reported f) (used : List Fate) where
       blames : (why : Why) → (why ≡ NoAnswer) ⊎ (why ≡ Busy) → blames_bus why ≡ true
       blames why (inl e) = ap blames_bus e
       blames why (inr e) = ap blames_bus e
@@ -281,7 +288,7 @@ module _ (set_of : List ℕ → Option Configuration) (limits : LimitView) (spee
           x.attempt.device ≡ d → Judged all used x p → PlaceEndsWell f limits used resets d.state place
       ends x (Running h) place resets d image few is device v = absurd (image)
       ends x Succeeded (Reported g) resets d image few is device v =
-          let same : Reported g ≡ Reported f = sym image ∙ ap (λ rs. reached set_of speed First rs) v.0 ∙ reads in
+          let same : Reported g ≡ Reported f = sym image ∙ ap (λ rs. reached set_of (all_of speed) First rs) v.0 ∙ reads in
           (cc, ap (λ z. z.state) (sym device) ∙ v.1)
       ends x Succeeded place resets d image few is device v = absurd (image)
       ends x (Broken why) (Stopped trouble) resets d image few is device v =
@@ -293,7 +300,7 @@ module _ (set_of : List ℕ → Option Configuration) (limits : LimitView) (spee
       goes x resets (Reading place t k) d m v = tt
       goes x resets (Ended place) d m v = ends x x.attempt.phase place resets d m.2 m.0 m.1 m.3 v
 
-    pub run_ends : (some : 0 < limits.attempts) (all : List Reply) → reached set_of speed First all ≡ Reported f →
+    pub run_ends : (some : 0 < limits.attempts) (all : List Reply) → reached set_of (all_of speed) First all ≡ Reported f →
         (fates : List Fate) (earlier : List Pair) (n : ℕ) (last : Pair) → RunsAt table f.device.packet fates (new_pair limits speed) earlier n last →
         (let x = after fates n in Judged all (fates_used fates n) x x.attempt.phase) →
         GoesWell f limits (fates_used fates n) last.host.resets last.device.state last.host.phase

@@ -1,5 +1,5 @@
 -- What a reply does to a transfer with data, and to one without.
-use Rattle.std.proofs.Common.{◌≡◌, ℕ, ◌<◌, Bool, true, false, List, [], ◌∷◌, drop, length, length-take, length-drop, refl, arith}
+use Rattle.std.proofs.Common.{◌≡◌, ℕ, ◌<◌, true, false, List, [], ◌∷◌, drop, length, length-take, length-drop, refl, arith}
 use Rattle.usb_fields.specs.Packets.{Reply, AckReply, NakReply, StallReply, DataReply, NoReply}
 use Rattle.usb_host.specs.Transfer.{TransferView, packet_due, taken_at}
 use Rattle.usb_host.specs.Write.{written_at}

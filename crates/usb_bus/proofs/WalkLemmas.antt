@@ -14,6 +14,7 @@ use Rattle.usb_file_data.specs.declared.file.DescriptorFile.{DescriptorFile}
 use Rattle.usb_file_data.specs.declared.file.Other.{Other}
 use Rattle.usb_file_data.specs.declared.file.Strings.{Strings}
 use Rattle.usb_file_data.specs.File.{whole_set, named_indices, other_sets}
+use Rattle.usb_host.specs.Terms.{all_of}
 use Rattle.usb_host.specs.declared.reply.Reply.TheVariants.{Bytes, Done}
 use Rattle.usb_host.specs.declared.why.Why.TheVariants.{Malformed}
 use Rattle.usb_host.specs.Plan.{Begin}
@@ -97,7 +98,7 @@ module _ (set_of : List ℕ → Option Configuration) (speed : Speed) (address :
   walks_strings : (g : DescriptorFile) (t : Option Strings) → g.strings ≡ None → StringsAreRead t →
       ((s : Strings) → t ≡ Some s → AreStrings (named_indices g) s) → (t ≡ None → (length (named_indices g) == 0) ≡ true) →
       (let f = record g { strings = t } in
-      W f (strings_due g) (string_script address g.device.packet t (named_indices g) (last_script address g.device.packet f)))
+      W f (strings_due (all_of speed) g) (string_script address g.device.packet t (named_indices g) (last_script address g.device.packet f)))
   walks_strings g None no_strings read right none =
       let f = record g { strings = None } in
       let last : W f (Configure g) (last_script address g.device.packet f) = (refl, ap (λ x. Reported (record g { strings = x })) no_strings) in
@@ -122,12 +123,12 @@ module _ (set_of : List ℕ → Option Configuration) (speed : Speed) (address :
     walks_sets : (rest done : List Configuration) (i : ℕ) (more : List Exchange) → length done ≡ i → length done + length rest ≡ total →
         AreSound kind rest → EachIsRead set_of rest →
         ((c : Configuration) (cs : List Configuration) → rest ≡ c ∷ cs → is_first_zero kind done c ≡ false) →
-        W f (after_sets speed kind (at (done ++ rest))) more →
-        W f (sets_due speed kind (at done)) (set_script address n kind i rest more)
+        W f (after_sets (all_of speed) kind (at (done ++ rest))) more →
+        W f (sets_due (all_of speed) kind (at done)) (set_script address n kind i rest more)
     walks_sets [] done i more here count sound read first w =
         let full : nat_lt (length (sets_of kind (at done))) (declared_sets kind (at done)) ≡ false =
         rw (are_sets done, are_declared done) (not_below _ _ (omega arith)) in
-        if_false (λ c. W f c more) _ _ _ full (subst (λ x. W f (after_sets speed kind (at x)) more) (append-nil done) w)
+        if_false (λ c. W f c more) _ _ _ full (subst (λ x. W f (after_sets (all_of speed) kind (at x)) more) (append-nil done) w)
     walks_sets (c ∷ cs) done i more here count sound read first w =
         let b = whole_set c in
         let head = headed kind c sound.0 sound.1 in
@@ -138,19 +139,19 @@ module _ (set_of : List ℕ → Option Configuration) (speed : Speed) (address :
         ≡ Begin address n (get_descriptor (type_number kind) i 0 length_wanted) = λ length_wanted.
         (ap (λ p. Begin address p (get_descriptor (type_number kind) (length (sets_of kind (at done))) 0 length_wanted)) (is_packet done)
         ∙ ap (λ z. Begin address n (get_descriptor (type_number kind) z 0 length_wanted)) (ap length (are_sets done) ∙ here)) in
-        let rest_walks : W f (sets_due speed kind (at (done ++ c ∷ []))) (set_script address n kind (suc i) cs more) =
+        let rest_walks : W f (sets_due (all_of speed) kind (at (done ++ c ∷ []))) (set_script address n kind (suc i) cs more) =
         walks_sets cs (done ++ c ∷ []) (suc i) more (omega arith) (omega arith) sound.2 read.1 (λ d ds e. not_first kind done c d)
-        (subst (λ x. W f (after_sets speed kind (at x)) more) (sym (append_assoc done (c ∷ []) cs)) w) in
-        let grown : W f (sets_due speed kind (with_set kind c (at done))) (set_script address n kind (suc i) cs more) =
-        subst (λ x. W f (sets_due speed kind x) (set_script address n kind (suc i) cs more)) (sym (grows done c)) rest_walks in
+        (subst (λ x. W f (after_sets (all_of speed) kind (at x)) more) (sym (append_assoc done (c ∷ []) cs)) w) in
+        let grown : W f (sets_due (all_of speed) kind (with_set kind c (at done))) (set_script address n kind (suc i) cs more) =
+        subst (λ x. W f (sets_due (all_of speed) kind x) (set_script address n kind (suc i) cs more)) (sym (grows done c)) rest_walks in
         let not_zero : is_first_zero kind (sets_of kind (at done)) c ≡ false = subst (λ x. is_first_zero kind x c ≡ false) (sym (are_sets done)) (first c cs refl) in
         let right : ((length b == length b) && (type_number c.kind == type_number kind) && not (is_first_zero kind (sets_of kind (at done)) c)) ≡ true =
         both _ _ (both _ _ (is_same (length b)) head.kind_is) (ap not not_zero) in
-        let set : W f (set_leads speed (Set kind (at done) (length b)) kind (at done) (length b) (length b) (Some c)) (set_script address n kind (suc i) cs more) =
+        let set : W f (set_leads (all_of speed) (Set kind (at done) (length b)) kind (at done) (length b) (length b) (Some c)) (set_script address n kind (suc i) cs more) =
         if_true (λ x. W f x (set_script address n kind (suc i) cs more)) _ _ _ right grown in
         let whole : W f (Set kind (at done) (length b)) (exchange address n (get_descriptor (type_number kind) i 0 (length b)) (Bytes b) ∷ set_script address n kind (suc i) cs more) = (
           asked (length b),
-          subst (λ x. W f (set_leads speed (Set kind (at done) (length b)) kind (at done) (length b) (length b) x) (set_script address n kind (suc i) cs more)) (sym read.0) set,
+          subst (λ x. W f (set_leads (all_of speed) (Set kind (at done) (length b)) kind (at done) (length b) (length b) x) (set_script address n kind (suc i) cs more)) (sym read.0) set,
         ) in
         let here : W f (Header kind (at done)) (set_script address n kind i (c ∷ cs) more) = (
           asked 9,
@@ -158,7 +159,7 @@ module _ (set_of : List ℕ → Option Configuration) (speed : Speed) (address :
               (sym head.announces) whole,
         ) in
         if_true (λ x. W f x (set_script address n kind i (c ∷ cs) more)) (nat_lt (length (sets_of kind (at done))) (declared_sets kind (at done)))
-        (Header kind (at done)) (after_sets speed kind (at done)) due here
+        (Header kind (at done)) (after_sets (all_of speed) kind (at done)) due here
 
   module _ (dev : DeviceDescriptor) where
     abbrev file : List Configuration → Option Other → Option Strings → DescriptorFile
@@ -180,17 +181,17 @@ module _ (set_of : List ℕ → Option Configuration) (speed : Speed) (address :
         let f = file s (Some o) t in
         let more = named_script address dev.packet f in
         let at : List Configuration → DescriptorFile = λ done. file s (Some (record { qualifier = o.qualifier; sets = done })) None in
-        let w : W f (after_sets speed kinds.OtherSpeed (at ([] ++ o.sets))) more =
+        let w : W f (after_sets (all_of speed) kinds.OtherSpeed (at ([] ++ o.sets))) more =
         walks_strings (at o.sets) t refl strings.read strings.right strings.none in
-        let sets : W f (sets_due speed kinds.OtherSpeed (at [])) (set_script address dev.packet kinds.OtherSpeed 0 o.sets more) =
+        let sets : W f (sets_due (all_of speed) kinds.OtherSpeed (at [])) (set_script address dev.packet kinds.OtherSpeed 0 o.sets more) =
         walks_sets f kinds.OtherSpeed dev.packet o.qualifier.configurations at (λ done. refl) (λ done. refl) (λ done. refl) (λ done c. refl)
         o.sets [] 0 more refl (let e = count o refl in omega arith) sound read.1 (λ c cs e. refl) w in
-        (refl, subst (λ x. W f (qualifier_leads speed (SecondSpeed (file s None None)) (file s None None) x) (set_script address dev.packet kinds.OtherSpeed 0 o.sets more)) (sym read.0) sets)
+        (refl, subst (λ x. W f (qualifier_leads (all_of speed) (SecondSpeed (file s None None)) (file s None None) x) (set_script address dev.packet kinds.OtherSpeed 0 o.sets more)) (sym read.0) sets)
 
     walks_second : (s : List Configuration) (o : Option Other) (t : Option Strings) (may : Bool) → may_have_second speed dev ≡ may → HasStrings (file s o t) → OtherIsRead set_of o →
         AreSound kinds.OtherSpeed (other_sets o) → ((p : Other) → o ≡ Some p → length p.sets ≡ p.qualifier.configurations) →
         ((p : Other) → o ≡ Some p → may ≡ true) →
-        (let f = file s o t in W f (after_sets speed kinds.Configuration (file s None None)) (second_script address dev.packet may f))
+        (let f = file s o t in W f (after_sets (all_of speed) kinds.Configuration (file s None None)) (second_script address dev.packet may f))
     walks_second s o t true e strings read sound count asked =
         let f = file s o t in
         if_true (λ c. W f c (second_script address dev.packet true f)) (may_have_second speed dev) _ _ e (walks_other s o t strings read sound count)
@@ -222,19 +223,19 @@ module _ (set_of : List ℕ → Option Configuration) (speed : Speed) (address :
         let strings : HasStrings f = record { read = d.strings; right = λ u e. strings_right f u a.strings e; none = λ e. no_strings_right f a.strings e } in
         let counted : (p : Other) → o ≡ Some p → length p.sets ≡ p.qualifier.configurations =
         λ p e. (let c = other_count_is f a.sets in subst (λ x. length (other_sets x) ≡ other_declared x) e c) in
-        let w : W f (after_sets speed kinds.Configuration (at ([] ++ s))) more =
+        let w : W f (after_sets (all_of speed) kinds.Configuration (at ([] ++ s))) more =
         walks_second s o t may refl strings d.other (other_sets_sound f a.sets) counted (λ p e. other_asked f speed p a e) in
-        let sets : W f (sets_due speed kinds.Configuration (at [])) (set_script address dev.packet kinds.Configuration 0 s more) =
+        let sets : W f (sets_due (all_of speed) kinds.Configuration (at [])) (set_script address dev.packet kinds.Configuration 0 s more) =
         walks_sets f kinds.Configuration dev.packet dev.configurations at (λ done. refl) (λ done. refl) (λ done. refl) (λ done c. refl)
         s [] 0 more refl (omega arith) (sets_sound f a.sets) d.sets (first_right s value) w in
         let fits : (same_bytes (take 8 b) (take 8 b) && not (dev.configurations == 0)) ≡ true =
         both _ _ (same_self (take 8 b)) (ap not (some_sets s value count)) in
-        let read : W f (device_leads speed (Device (take 8 b)) (take 8 b) b (Some dev)) (set_script address dev.packet kinds.Configuration 0 s more) =
+        let read : W f (device_leads (all_of speed) (Device (take 8 b)) (take 8 b) b (Some dev)) (set_script address dev.packet kinds.Configuration 0 s more) =
         if_true (λ c. W f c (set_script address dev.packet kinds.Configuration 0 s more)) _ _ _ fits sets in
         let packet : packet_fits speed dev.packet ≡ true = packet_right f speed a in
         let rest : List Exchange = exchange 0 dev.packet (set_address address) Done ∷ exchange address dev.packet (get_descriptor 1 0 0 18) (Bytes b) ∷ set_script address dev.packet kinds.Configuration 0 s more in
         let addressed : W f (Address (take 8 b)) rest =
-        (refl, (refl, subst (λ x. W f (device_leads speed (Device (take 8 b)) (take 8 b) b x) (set_script address dev.packet kinds.Configuration 0 s more)) (sym (device_read dev)) read)) in
+        (refl, (refl, subst (λ x. W f (device_leads (all_of speed) (Device (take 8 b)) (take 8 b) b x) (set_script address dev.packet kinds.Configuration 0 s more)) (sym (device_read dev)) read)) in
         (refl, if_true (λ c. W f c rest) (packet_fits speed dev.packet) (Address (take 8 b)) (stopped First Malformed) packet addressed)
 
   pub walks_script : (f : DescriptorFile) → IsDescribed set_of speed f → W f First (script address f.device.packet speed f)

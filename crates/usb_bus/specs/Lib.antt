@@ -18,4 +18,6 @@ pub mod WireLaws
 pub mod Damaged
 pub mod DamagedRuns
 pub mod DamagedLaws
+pub mod PacketLines
+pub mod LogOnWire
 pub mod inside

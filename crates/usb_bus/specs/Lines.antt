@@ -20,7 +20,7 @@ use Rattle.usb_device.specs.View.{acknowledged}
 use Rattle.usb_bus.specs.declared.fate.Fate.{Fate}
 use Rattle.usb_bus.specs.declared.fate.Fate.TheVariants as fates
 use Rattle.usb_host.specs.declared.step.Step.{Step}
-use Rattle.usb_bus.specs.Bus.{brought, busies, losses}
+use Rattle.usb_bus.specs.Bus.{busies, losses}
 use Rattle.usb_bus.specs.Exchanges.{is_lost_ack, is_lost_down, is_lost_up}
 
 -- The requests of an enumeration in words (USB 2.0, 9.4).
@@ -121,10 +121,10 @@ abbrev pub ack_words : Reply → Bool → List ℕ
 ack_words (DataReply toggle bytes) lost = codes " " ++ marked (codes "ACK") lost
 ack_words reply lost = []
 
--- the packets of a transaction, in their order: what is sent, what the device answers, and the host's ACK
-abbrev pub packets_words : Fate → Option Sent → Reply → List ℕ
-packets_words fate sent answer =
-    sent_words sent (is_lost_down fate) ++ answer_words answer (is_lost_up fate) ++ ack_words (brought fate answer) (is_lost_ack fate)
+-- the packets of a transaction, in their order: what is sent, what the device answers, and the host's ACK of what came of that
+unfoldable pub packets_words : Fate → Option Sent → Reply → Reply → List ℕ
+packets_words fate sent answer came =
+    sent_words sent (is_lost_down fate) ++ answer_words answer (is_lost_up fate) ++ ack_words came (is_lost_ack fate)
 
 -- the bytes of a transaction's data packet, where it shows one: the setup packet, or what the device has answered
 abbrev pub answered_data : Reply → Option (List ℕ)
@@ -149,9 +149,9 @@ data_words None = []
 data_words (Some bytes) = if fit_in_line (length bytes) then encode_lower bytes else count (length bytes) (codes "byte")
 
 -- A transaction until the host has taken what came of it: its number, its fate, its packets, and its data.
-unfoldable pub packets_part : ℕ → Fate → Option Sent → Reply → List ℕ
-packets_part number fate sent answer =
-    column 6 (decimal number) ++ column 2 (fate_letter fate) ++ column 15 (packets_words fate sent answer)
+unfoldable pub packets_part : ℕ → Fate → Option Sent → Reply → Reply → List ℕ
+packets_part number fate sent answer came =
+    column 6 (decimal number) ++ column 2 (fate_letter fate) ++ column 15 (packets_words fate sent answer came)
     ++ column 17 (data_words (data_of sent answer))
 
 -- a strike: nothing came, or a data packet that came before

@@ -31,23 +31,24 @@ abbrev pub host_part : TransferView → Reply → Option Why → List ℕ
 host_part t reply why = column 20 (host_words (taken t reply).transfer reply (taken t reply).heard why)
 
 -- what of a transaction's line is known once the host is so: its packets, its data, and what the host has then
-abbrev pub answered_part : ℕ → Fate → TransferView → Reply → HostPhase → List ℕ
-answered_part number fate t answer phase =
-    packets_part number fate (due t) answer ++ host_part t (brought fate answer) (trouble_why (outcome_of phase))
+abbrev pub answered_part : ℕ → Fate → TransferView → Reply → Reply → HostPhase → List ℕ
+answered_part number fate t answer came phase =
+    packets_part number fate (due t) answer came ++ host_part t came (trouble_why (outcome_of phase))
 
--- The line of a transaction: its packets, its data, what the host has then, and what the device has. Below it are data of
--- more than 8 bytes, unless the log is brief, and a line where the attempt is given up. This was the host's transfer before it, this the device's
--- answer, and so both ends are after it; the device's packets have this size.
-unfoldable pub exchange_lines : Bool → ℕ → ℕ → Fate → TransferView → Reply → Pair → List ℕ
-exchange_lines brief packet number fate t answer after =
-    answered_part number fate t answer after.host.phase
-    ++ device_words packet after.device ++ data_below brief (data_of (due t) answer)
-    ++ given_up_part after.host.resets (cause_of t (brought fate answer) after.host.phase)
+-- The line of a transaction: its packets, its data, what the host has then, and what the device has. Its end is `below`, with what
+-- stands below it, and then a line where the attempt is given up. This was the host's transfer before it, this the device's
+-- answer, this came of it, and so both ends are after it; the device's packets have this size.
+unfoldable pub exchange_lines : ℕ → ℕ → Fate → TransferView → Reply → Reply → List ℕ → Pair → List ℕ
+exchange_lines packet number fate t answer came below after =
+    answered_part number fate t answer came after.host.phase
+    ++ device_words packet after.device ++ below
+    ++ given_up_part after.host.resets (cause_of t came after.host.phase)
 
--- The lines of a step: a transaction where a transfer is under way, with this answer, and else a bus reset.
+-- The lines of a step: a transaction where a transfer is under way, with this answer, and else a bus reset. Below a transaction's
+-- line are data of more than 8 bytes, unless the log is brief.
 abbrev pub lines_with : Bool → ℕ → ℕ → Fate → Option Step → Option TransferView → Reply → Pair → List ℕ
 lines_with brief packet number fate (Some step) (Some t) answer after =
-    transfer_part step t ++ exchange_lines brief packet number fate t answer after
+    transfer_part step t ++ exchange_lines packet number fate t answer (brought fate answer) (data_below brief (data_of (due t) answer)) after
 lines_with brief packet number fate step transfer answer after = reset_line after.host.resets
 
 -- the same of a step from one pair to the next, after which there were so many transactions

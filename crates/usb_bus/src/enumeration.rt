@@ -1,6 +1,8 @@
 //! An enumeration, from a new host and a new device to its outcome.
 ghost use Rattle.std.specs.Prelude.{◌≡◌, ◌≢◌, ◌<◌, ◌+◌, ◌^◌, IfSome, IsNone};
 ghost use Rattle.usb_fields.specs.Packets.{Sent};
+ghost use Rattle.usb_device.specs.Requests.{answer};
+ghost use Rattle.usb_bus.specs.Bus.{carried};
 ghost use Rattle.usb_bus.specs.Run.{fate_at};
 ghost use Rattle.usb_host.specs.Cost.{left_to_ask};
 ghost use Rattle.usb_host.specs.Steps.{WantsSent, wanted};
@@ -59,8 +61,8 @@ pub fn step(
     step_seen(host, device, fates, transactions, &mut Nobody)
 }
 
-/// The same [`step`], with an observer. Where the step is a transaction, it sees what the device answers, and the host that
-/// has taken what came of it; at a bus reset and at the end it sees nothing.
+/// The same [`step`], with an observer. Where the step is a transaction, it sees what the device answers, what came of it, and the
+/// host that has taken that; at a bus reset and at the end it sees nothing.
 #[tactic(auto, using(crate::proofs::EnumerateLemmas::take_falls, crate::proofs::EnumerateLemmas::reset_falls))]
 pub fn step_seen<O: Observer>(
     host: &mut Host,
@@ -73,7 +75,7 @@ pub fn step_seen<O: Observer>(
     ensures made { IfSome result (IsStep device.old.description.file fates.now (both host.old device.old.device) transactions (both host.new device.new.device)) }
     ensures none { IsNone result → NoneIsLeft (both host.old device.old.device) (both host.new device.new.device) }
     ensures description { device.new.description ≡ device.old.description }
-    ensures seen { (sent : Sent) → wanted host.old.phase ≡ WantsSent sent → O.sees observer.old (answered device.old.description.file device.old.device sent (fate_at fates.now transactions)) host.new observer.new }
+    ensures seen { (sent : Sent) → wanted host.old.phase ≡ WantsSent sent → O.sees observer.old (answered device.old.description.file device.old.device sent (fate_at fates.now transactions)) (carried (answer device.old.description.file) device.old.description.file.device.packet device.old.device sent (fate_at fates.now transactions)).reply host.new observer.new }
     ensures unseen { ((sent : Sent) → wanted host.old.phase ≢ WantsSent sent) → observer.new ≡ observer.old }
 {
     match host.next() {

@@ -31,7 +31,7 @@ pub(crate) trait Hears<W> {
         ensures { hears (reply_of came.entry) (reply_of answer.entry) self.old w.old self.new w.new result };
 }
 
-/// The observer sees all of the answer, and the host then.
+/// The observer sees all of the answer, what came of it, and the host then.
 impl<O: Observer> Hears<O> for Host {
     ghost use Rattle.std.specs.Prelude.{◌≡◌, ◌<◌};
     ghost use Rattle.usb_fields.specs.Packets.{Sent};
@@ -40,11 +40,11 @@ impl<O: Observer> Hears<O> for Host {
 
     type Outcome = ();
 
-    ghost hears = { λ came answer old from new to _. Takes old came new × ((sent : Sent) → wanted old.phase ≡ WantsSent sent → left_to_ask new < left_to_ask old) × O.sees from answer new to };
+    ghost hears = { λ came answer old from new to _. Takes old came new × ((sent : Sent) → wanted old.phase ≡ WantsSent sent → left_to_ask new < left_to_ask old) × O.sees from answer came new to };
 
     fn hear(&mut self, came: Answer<'_>, answer: Answer<'_>, observer: &mut O) {
         self.take(came);
-        observer.answered(answer, self);
+        observer.answered(answer, came, self);
     }
 }
 

@@ -25,11 +25,12 @@
 //!
 //! [`wire`] says the same of a bus of bytes, which loses packets and changes few bits of others: whoever receives such a
 //! packet ignores it, so that it is a lost one. [`enumerate_on_the_wire`] is an enumeration over a bus on which given bits
-//! change.
+//! change, [`enumerate_encoded_on_the_wire_logged`] with a log that shows packets.
 //!
 //! One transaction is `specs/Bus.antt`, a talk `specs/Converse.antt`, a run of both ends `specs/Enumerate.antt`, one
 //! with a device under test `specs/UnderTest.antt`, all of them over bytes `specs/Wire.antt`, where given bits change
-//! `specs/Damaged.antt`, and a log `specs/Log.antt` with its lines in `specs/Lines.antt`.
+//! `specs/Damaged.antt`, and a log `specs/Log.antt` with its lines in `specs/Lines.antt`, over bytes `specs/LogOnWire.antt` with
+//! `specs/PacketLines.antt`.
 #![tactic(auto)]
 
 mod asked;
@@ -57,4 +58,7 @@ pub use log::{enumerate_encoded_logged, enumerate_logged};
 pub use steps::Observer;
 pub use usb_file_data::NoMemory;
 pub use usb_host::Reply;
-pub use wire::{BitChange, enumerate_encoded_on_the_wire, enumerate_on_the_wire};
+pub use wire::{
+    BitChange, Logging, enumerate_encoded_on_the_wire, enumerate_encoded_on_the_wire_logged,
+    enumerate_on_the_wire,
+};

@@ -20,22 +20,22 @@ use usb_text::{OutFault, Text, write_all};
 
 /// The lines of a step, while they are put; `BRIEF` leaves those of data out.
 #[derive(Drop)]
-struct Log<const BRIEF: bool> {
+pub(crate) struct Log<const BRIEF: bool> {
     alloc: Global,
-    before: Before,
-    turn: Turn,
-    lines: Text,
+    pub(crate) before: Before,
+    pub(crate) turn: Turn,
+    pub(crate) lines: Text,
     /// The end of a transaction's line, and the data below it: they go after what the device has then.
-    below: Text,
+    pub(crate) below: Text,
     /// Why the attempt is given up, if it is.
-    cause: Option<Why>,
+    pub(crate) cause: Option<Why>,
     /// Whether there was memory for them.
-    is_whole: bool,
+    pub(crate) is_whole: bool,
 }
 
 impl<const BRIEF: bool> Log<BRIEF> {
     /// Before the first step.
-    fn new(alloc: Global) -> Log<BRIEF> {
+    pub(crate) fn new(alloc: Global) -> Log<BRIEF> {
         Log {
             alloc,
             before: Before {
@@ -54,7 +54,7 @@ impl<const BRIEF: bool> Log<BRIEF> {
     }
 
     /// A step begins, before which the host is this.
-    fn begin(&mut self, before: Before, turn: Turn)
+    pub(crate) fn begin(&mut self, before: Before, turn: Turn)
         ensures before { self.new.before ≡ before }
         ensures turn { self.new.turn ≡ turn }
         ensures lines { self.new.lines ≡ [] }
@@ -65,8 +65,13 @@ impl<const BRIEF: bool> Log<BRIEF> {
     }
 
     /// Puts what is known of a transaction once the host has taken what came of this answer.
-    fn put_answered(&mut self, answer: Answer<'_>, host: &Host) -> Result<(), AllocError>
-        ensures { OnOk result (HasSeen BRIEF self.old.turn.number self.old.turn.fate self.old.before.step self.old.before.transfer (reply_of answer.entry) host.now.phase self.old.lines self.new.lines self.new.below self.new.cause) }
+    pub(crate) fn put_answered(
+        &mut self,
+        answer: Answer<'_>,
+        came: Answer<'_>,
+        host: &Host,
+    ) -> Result<(), AllocError>
+        ensures { OnOk result (HasSeen BRIEF self.old.turn.number self.old.turn.fate self.old.before.step self.old.before.transfer (reply_of answer.entry) (reply_of came.entry) host.now.phase self.old.lines self.new.lines self.new.below self.new.cause) }
     {
         let (Some(step), Some(transfer)) = (self.before.step, self.before.transfer) else {
             return Ok(());
@@ -81,13 +86,14 @@ impl<const BRIEF: bool> Log<BRIEF> {
             transfer,
             self.turn,
             answer,
+            came,
             host,
         )?;
         Ok(())
     }
 
     /// Puts the rest of the lines of a step that is done: of a transaction, or else of a reset.
-    fn put_done(
+    pub(crate) fn put_done(
         &mut self,
         is_transaction: bool,
         host: &Host,
@@ -114,10 +120,10 @@ impl<const BRIEF: bool> Observer for Log<BRIEF> {
     ghost use Rattle.std.specs.Prelude.{◌≡◌, true};
     ghost use Rattle.usb_bus.specs.inside.Seeing.{HasSeen};
 
-    ghost sees = { λ old reply host new. new.is_whole ≡ true → HasSeen BRIEF old.turn.number old.turn.fate old.before.step old.before.transfer reply host.phase old.lines new.lines new.below new.cause };
+    ghost sees = { λ old answer came host new. new.is_whole ≡ true → HasSeen BRIEF old.turn.number old.turn.fate old.before.step old.before.transfer answer came host.phase old.lines new.lines new.below new.cause };
 
-    fn answered(&mut self, answer: Answer<'_>, host: &Host) {
-        self.is_whole = self.put_answered(answer, host).is_ok();
+    fn answered(&mut self, answer: Answer<'_>, came: Answer<'_>, host: &Host) {
+        self.is_whole = self.put_answered(answer, came, host).is_ok();
     }
 }
 

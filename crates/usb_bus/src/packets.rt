@@ -13,21 +13,21 @@ use std::alloc::AllocError;
 use usb_fields::{Answer, Stage, Toggle, Transaction};
 use usb_text::Text;
 
-/// Puts the number of a transaction, its fate, its packets and its data. The answer is the device's own, whether it reaches
-/// the host or not.
+/// Puts the number of a transaction, its fate, its packets and its data. The answer is the device's own, and this came of it.
 #[tactic(auto, unfolding(crate::specs::Lines::packets_part))]
 pub(crate) fn put_packets(
     text: &mut Text,
     turn: Turn,
     sent: Option<Transaction<'static>>,
     answer: Answer<'_>,
+    came: Answer<'_>,
 ) -> Result<(), AllocError>
-    ensures { OnOk result (text.new ≡ text.old ++ packets_part turn.number turn.fate (sent_by sent.entry) (reply_of answer.entry)) }
+    ensures { OnOk result (text.new ≡ text.old ++ packets_part turn.number turn.fate (sent_by sent.entry) (reply_of answer.entry) (reply_of came.entry)) }
 {
     let Turn { number, fate } = turn;
     text.put_column(Buffer::new().format(number), 6)?;
     text.put(fate_column(fate))?;
-    put_names_column(text, fate, sent, answer)?;
+    put_names_column(text, fate, sent, answer, came)?;
     put_data_column(text, data_of(&sent, answer))
 }
 
@@ -37,29 +37,32 @@ fn put_names_column(
     fate: Fate,
     sent: Option<Transaction<'static>>,
     answer: Answer<'_>,
+    came: Answer<'_>,
 ) -> Result<(), AllocError>
-    ensures { OnOk result (text.new ≡ text.old ++ column 15 (packets_words fate (sent_by sent.entry) (reply_of answer.entry))) }
+    ensures { OnOk result (text.new ≡ text.old ++ column 15 (packets_words fate (sent_by sent.entry) (reply_of answer.entry) (reply_of came.entry))) }
 {
     let start = text.len();
-    put_names(text, fate, sent, answer)?;
+    put_names(text, fate, sent, answer, came)?;
     text.fill(start, 15)
 }
 
+#[tactic(auto, unfolding(crate::specs::Lines::packets_words))]
 fn put_names(
     text: &mut Text,
     fate: Fate,
     sent: Option<Transaction<'static>>,
     answer: Answer<'_>,
+    came: Answer<'_>,
 ) -> Result<(), AllocError>
-    ensures { OnOk result (text.new ≡ text.old ++ packets_words fate (sent_by sent.entry) (reply_of answer.entry)) }
+    ensures { OnOk result (text.new ≡ text.old ++ packets_words fate (sent_by sent.entry) (reply_of answer.entry) (reply_of came.entry)) }
 {
     text.put(sent_words(sent, matches!(fate, Fate::LostDown)))?;
     text.put(answer_words(answer, matches!(fate, Fate::LostUp)))?;
-    text.put(ack_words(fate.brought(answer), matches!(fate, Fate::LostAck)))
+    text.put(ack_words(came, matches!(fate, Fate::LostAck)))
 }
 
 /// Puts the data in their column.
-fn put_data_column(text: &mut Text, packet: Option<&[u8]>) -> Result<(), AllocError>
+pub(crate) fn put_data_column(text: &mut Text, packet: Option<&[u8]>) -> Result<(), AllocError>
     ensures { OnOk result (text.new ≡ text.old ++ column 17 (data_words (option_map (λ b. b.now) packet.entry))) }
 {
     let start = text.len();

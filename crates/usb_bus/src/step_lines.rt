@@ -1,9 +1,8 @@
 //! The lines of a step, part by part.
-ghost use Rattle.std.specs.Prelude.{◌≡◌, ◌++◌, codes, IfOk, OnOk};
+ghost use Rattle.std.specs.Prelude.{◌≡◌, ◌++◌, codes, IfOk, OnOk, option_and_then};
 ghost use Rattle.usb_fields.specs.Packets.{reply_of};
-ghost use Rattle.usb_host.specs.Transfer.{sent_by};
+ghost use Rattle.usb_host.specs.Transfer.{due, sent_by};
 ghost use Rattle.usb_host.specs.Steps.{step_in, transfer_in};
-ghost use Rattle.usb_bus.specs.Bus.{brought};
 ghost use Rattle.usb_bus.specs.Exchanges.{cause_of};
 ghost use Rattle.usb_bus.specs.Lines.{address_words, descriptor_words, device_words, get_descriptor_words, given_up_line, given_up_part, heading_part, kind_words, language_words, numbered, request_words, reset_line, transfer_line};
 ghost use Rattle.usb_bus.specs.Log.{answered_part, transfer_part};
@@ -118,6 +117,16 @@ impl Before {
             transfer: host.transfer(),
         }
     }
+
+    /// What it sends then, if it sends anything.
+    pub(crate) fn sent(&self) -> Option<Transaction<'static>>
+        ensures { sent_by result ≡ option_and_then due self.now.transfer }
+    {
+        match self.transfer {
+            Some(transfer) => transfer.next(),
+            None => None,
+        }
+    }
 }
 
 /// Puts the line of a reset.
@@ -185,7 +194,7 @@ fn put_address(text: &mut Text, sent: Option<Transaction<'static>>) -> Result<()
 }
 
 /// Puts what is known of a transaction once the host has taken what came of this answer: the line of its transfer before the
-/// first one, its packets, its data, and what the host has. Answers why the attempt is given up, if it is.
+/// first one, its packets, its data, and what the host has. The result is why the attempt is given up, if it is.
 pub(crate) fn put_answered(
     alloc: Global,
     text: &mut Text,
@@ -193,14 +202,14 @@ pub(crate) fn put_answered(
     transfer: Transfer,
     turn: Turn,
     answer: Answer<'_>,
+    came: Answer<'_>,
     host: &Host,
 ) -> Result<Option<Why>, AllocError>
-    ensures lines { OnOk result (text.new ≡ text.old ++ transfer_part step transfer ++ answered_part turn.number turn.fate transfer (reply_of answer.entry) host.now.phase) }
-    ensures cause { IfOk result (λ why. why ≡ cause_of transfer (brought turn.fate (reply_of answer.entry)) host.now.phase) }
+    ensures lines { OnOk result (text.new ≡ text.old ++ transfer_part step transfer ++ answered_part turn.number turn.fate transfer (reply_of answer.entry) (reply_of came.entry) host.now.phase) }
+    ensures cause { IfOk result (λ why. why ≡ cause_of transfer (reply_of came.entry) host.now.phase) }
 {
     put_transfer(alloc, text, step, &transfer)?;
-    put_packets(text, turn, transfer.next(), answer)?;
-    let came = turn.fate.brought(answer);
+    put_packets(text, turn, transfer.next(), answer, came)?;
     let mut after = transfer;
     let heard = after.take(came);
     let trouble = trouble_of(host);

@@ -17,13 +17,13 @@ pub trait Observer {
     ghost use Rattle.usb_fields.specs.Packets.{Reply, reply_of};
     ghost use Rattle.usb_host.specs.Steps.{HostView};
 
-    /// What it was before this answer, which left the host so, and what it is then.
-    ghost sees: { Self → Reply → HostView → Self → Type 0 };
+    /// What it was before this answer, of which this came and left the host so, and what it is then.
+    ghost sees: { Self → Reply → Reply → HostView → Self → Type 0 };
 
-    /// The device has answered this in a transaction, silence where it heard nothing, and the host has taken what the bus
-    /// left of it.
-    fn answered(&mut self, answer: Answer<'_>, host: &Host)
-        ensures { sees self.old (reply_of answer.entry) host.now self.new };
+    /// The device has answered this in a transaction, silence where it heard nothing, and the host has taken what came of it
+    /// over the bus.
+    fn answered(&mut self, answer: Answer<'_>, came: Answer<'_>, host: &Host)
+        ensures { sees self.old (reply_of answer.entry) (reply_of came.entry) host.now self.new };
 }
 
 /// An observer that sees nothing.
@@ -31,10 +31,10 @@ pub trait Observer {
 pub(crate) struct Nobody;
 
 impl Observer for Nobody {
-    ghost sees = { λ _ _ _ _. Unit {0} };
+    ghost sees = { λ _ _ _ _ _. Unit {0} };
 
     #[inline(always)]
-    fn answered(&mut self, _answer: Answer<'_>, _host: &Host) {}
+    fn answered(&mut self, _answer: Answer<'_>, _came: Answer<'_>, _host: &Host) {}
 }
 
 /// Makes the steps of an enumeration, and does something to a `W` at each.

@@ -9,11 +9,14 @@ ghost use Rattle.usb_bus.specs.WireLaws.{AttemptsHaveFates, DamagedPacketsAreLos
 mod change;
 mod enumeration;
 mod exchange;
+mod log;
+mod packet_lines;
 mod receive;
 
 use crate::laws::{a_talk_has_causes, an_enumeration_ends_well, no_owner_changes_an_enumeration};
 pub use change::BitChange;
 pub use enumeration::{enumerate_encoded_on_the_wire, enumerate_on_the_wire};
+pub use log::{Logging, enumerate_encoded_on_the_wire_logged};
 
 /// A packet that arrives as it was sent, or slightly damaged, or not at all, is received as it was sent, or not at all.
 pub fn a_damaged_packet_is_a_lost_one()

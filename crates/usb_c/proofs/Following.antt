@@ -1,7 +1,7 @@
 -- Counts of a position, and a field by its number.
-use Rattle.std.proofs.Common.{◌≡◌, ◌≤◌, ◌<◌, ℕ, zero, suc, ◌+◌, nat_le, true, List, [], ◌∷◌, ◌++◌, length, map, Option, Some, None, IfSome, unwrap_or, refl, sym, ap, subst, ◌∙◌, arith, length-append}
+use Rattle.std.proofs.Common.{◌≡◌, ◌≤◌, ℕ, zero, suc, ◌+◌, nat_le, true, List, [], ◌∷◌, ◌++◌, length, map, Option, Some, None, IfSome, unwrap_or, refl, sym, ap, subst, ◌∙◌, arith, length-append}
 use Rattle.std.specs.Iterator.{SkipsThenYields, Yields, YieldsFirstBy}
-use Rattle.std.specs.List.{slice_get}
+use Rattle.std.specs.List.{AllByRecursion, slice_get}
 use Rattle.std.specs.Option.{option_map}
 use Rattle.std.proofs.lemmas.Bool.{and_parts}
 use Rattle.std.proofs.lemmas.Bool.Decides.{nat_tests}
@@ -70,19 +70,25 @@ nth_is view rest s n (Some x) u y =
 
 -- ---- a field is in its descriptor
 
-follow_on : (xs : List Span) (from to : ℕ) → Follow from xs to → from ≤ to
+follow_on : (xs : List Span) (from to : ℕ) → Follow from xs to → from + length xs ≤ to
 follow_on [] from to e = omega (arith, e)
-follow_on (x ∷ xs) from to f = let more = follow_on xs (from + x.count) to f.2 in omega (arith, more)
+follow_on (x ∷ xs) from to f = let more = follow_on xs (from + x.count) to f.2 in let some = f.1 in omega (arith, more, some)
 
-some_is : (x f : PlacedField) → ◌≡◌ {A = Option PlacedField} (Some x) (Some f) → x ≡ f
-some_is x f e = ap (λ o. unwrap_or o x) e
+pub of_all : {X : Type 0} (P : X → Type 0) (xs : List X) (n : ℕ) (x : X) → AllByRecursion P xs → slice_get xs n ≡ Some x → P x
+of_all P [] n x all e = absurd (none-some x e)
+of_all P (y ∷ ys) zero x all e = subst P (ap (λ o. unwrap_or o y) e) all.0
+of_all P (y ∷ ys) (suc n) x all e = of_all P ys n x all.1 e
 
-span_within : (fs : List PlacedField) (from to n : ℕ) (f : PlacedField) → Follow from (map span_of_field fs) to → slice_get fs n ≡ Some f → f.place + length f.value ≤ to
-span_within [] from to n f follows e = absurd (none-some f e)
-span_within (x ∷ fs) from to zero f follows e =
-    let more = follow_on (map span_of_field fs) (from + length x.value) to follows.2 in
-    subst (λ (f : PlacedField). f.place + length f.value ≤ to) (some_is x f e) (omega (arith, more, follows.0))
-span_within (x ∷ fs) from to (suc n) f follows e = span_within fs (from + length x.value) to n f follows.2 e
+-- it ends by this place
+abbrev pub EndsBy : ℕ → PlacedField → Type 0
+EndsBy to f = f.place + length f.value ≤ to
+
+all_end_by : (fs : List PlacedField) (from to : ℕ) → Follow from (map span_of_field fs) to → AllByRecursion (EndsBy to) fs
+all_end_by [] from to follows = tt
+all_end_by (f ∷ fs) from to follows =
+    let more = follow_on (map span_of_field fs) (from + length f.value) to follows.2 in
+    let begins = follows.0 in
+    (omega (arith, more, begins), all_end_by fs (from + length f.value) to follows.2)
 
 near : (role : Role) → first_place role ≤ 2
 near roles.Device = omega arith
@@ -95,26 +101,32 @@ near roles.Raw = omega arith
 near roles.Languages = omega arith
 near roles.Text = omega arith
 
-covered : (role : Role) (interface : Option ClassCodes) (b : List ℕ) (n : ℕ) (f : PlacedField) → has_fields role ≡ true → 2 ≤ length b
-    → slice_get (fields_of role interface b) n ≡ Some f → f.place + length f.value ≤ length b
-covered role interface b n f has least e =
-    span_within (fields_of role interface b) (first_place role) (length b) n f
-    ((fields_have_all_bytes role interface b has).places (omega (arith, near role, least))) e
+-- the fields of a descriptor end by its end, and are no more than its bytes
+pub record FieldsFit (role : Role) (interface : Option ClassCodes) (b : List ℕ) : Type 0 where
+  pub ends : AllByRecursion (EndsBy (length b)) (fields_of role interface b)
+  pub few : length (fields_of role interface b) ≤ length b
 
-field_within : (role : Role) (interface : Option ClassCodes) (b : List ℕ) (n : ℕ) (f : PlacedField) → 2 ≤ length b
-    → slice_get (fields_of role interface b) n ≡ Some f → f.place + length f.value ≤ length b
+covered : (role : Role) (interface : Option ClassCodes) (b : List ℕ) → has_fields role ≡ true → 2 ≤ length b → FieldsFit role interface b
+covered role interface b has least =
+    let fields = fields_of role interface b in
+    let follow = (fields_have_all_bytes role interface b has).places (omega (arith, near role, least)) in
+    let few = follow_on (map span_of_field fields) (first_place role) (length b) follow in
+    let many = length-map fields span_of_field in
+    record { ends = all_end_by fields (first_place role) (length b) follow; few = omega (arith, few, many) }
+
+pub fields_fit : (role : Role) (interface : Option ClassCodes) (b : List ℕ) → 2 ≤ length b → FieldsFit role interface b
 unfolding fields_of
-field_within roles.Device interface b n f least e = covered roles.Device interface b n f refl least e
-field_within roles.Qualifier interface b n f least e = covered roles.Qualifier interface b n f refl least e
-field_within roles.Configuration interface b n f least e = covered roles.Configuration interface b n f refl least e
-field_within roles.Association interface b n f least e = covered roles.Association interface b n f refl least e
-field_within roles.Interface interface b n f least e = covered roles.Interface interface b n f refl least e
-field_within roles.Endpoint interface b n f least e = covered roles.Endpoint interface b n f refl least e
-field_within roles.Raw interface b n f least e = covered roles.Raw interface b n f refl least e
-field_within roles.Languages interface b n f least e = absurd (none-some f e)
-field_within roles.Text interface b n f least e = absurd (none-some f e)
+fields_fit roles.Device interface b least = covered roles.Device interface b refl least
+fields_fit roles.Qualifier interface b least = covered roles.Qualifier interface b refl least
+fields_fit roles.Configuration interface b least = covered roles.Configuration interface b refl least
+fields_fit roles.Association interface b least = covered roles.Association interface b refl least
+fields_fit roles.Interface interface b least = covered roles.Interface interface b refl least
+fields_fit roles.Endpoint interface b least = covered roles.Endpoint interface b refl least
+fields_fit roles.Raw interface b least = covered roles.Raw interface b refl least
+fields_fit roles.Languages interface b least = record { ends = tt; few = omega (arith, least) }
+fields_fit roles.Text interface b least = record { ends = tt; few = omega (arith, least) }
 
 pub answered_within : (role : Role) (interface : Option ClassCodes) (b : List ℕ) (n : ℕ) (r : Option Field) → 2 ≤ length b
     → option_map placed_of r ≡ slice_get (fields_of role interface b) n → IfSome r (λ f. f.place + length f.value.now ≤ length b)
 answered_within role interface b n None least e = tt
-answered_within role interface b n (Some f) least e = field_within role interface b n (placed_of f) least (sym e)
+answered_within role interface b n (Some f) least e = of_all (EndsBy (length b)) (fields_of role interface b) n (placed_of f) (fields_fit role interface b least).ends (sym e)

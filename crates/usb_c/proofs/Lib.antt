@@ -3,6 +3,7 @@ mod DeviceValues
 mod Due
 mod EndpointWalks
 mod Faults
+mod FieldLists
 pub mod Following
 mod HandleValues
 mod HostValues
@@ -13,6 +14,7 @@ mod Placed
 mod Reasons
 pub mod Named
 mod Taking
+mod Worded
 mod TreeWalks
 pub mod Walking
 mod InputStrings

@@ -14,12 +14,13 @@ use Rattle.usb_host.specs.Limits.{LimitView, limit_fault, limit_fault_number}
 use Rattle.usb_host.specs.declared.limits.LimitFault.{LimitFault}
 use Rattle.usb_host.specs.declared.step.Trouble.{Trouble}
 use Rattle.usb_bus.specs.Enumerate.{IsEnumeration}
+use Rattle.usb_bus.specs.Log.{IsLogOf}
 use Rattle.usb_bus.specs.declared.enumeration.Run.{Run}
 use Rattle.usb_c.specs.declared.answer.Verdict.{Verdict}
 use Rattle.usb_c.specs.declared.answer.Verdict.TheVariants as verdicts
 use Rattle.usb_c.specs.declared.enumeration.NzgOutcome.{NzgOutcome}
 use Rattle.usb_c.specs.declared.outcome.StepNumbers.{StepNumbers}
-use Rattle.usb_c.specs.Answers.{Fills, RefusesFile}
+use Rattle.usb_c.specs.Answers.{Fills, Puts, RefusesFile}
 use Rattle.usb_c.specs.Hosts.{numbered, step_numbers}
 
 -- whether a byte is the letter of a fate: '.' 46, 'n' 110, 'd' 100, 'u' 117, 'a' 97
@@ -102,3 +103,39 @@ abbrev pub Enumerates : List ℕ → Option Speed → ℕ → ℕ → List ℕ �
 Enumerates b speed naks attempts letters told outcome old new verdict =
     EnumeratesWith (wrong_number speed attempts letters) speed b (record { address = 1; naks = naks; attempts = attempts })
     (map fate_told letters) told outcome old new verdict
+
+-- ---- the log
+
+-- the log of a run is in the buffer
+pub record PutsLog (f : DescriptorFile) (speed : Speed) (limits : LimitView) (lost : List Fate) (old new : List ℕ) (verdict : Verdict) : Type 0 where
+  pub run : Run
+  pub log : List ℕ
+  pub of_run : IsLogOf false f speed limits lost run log
+  pub puts : Puts verdicts.Done log old new verdict
+
+-- or out of memory, and the buffer is as it was
+abbrev pub TellsLogOf : DescriptorFile → Speed → LimitView → List Fate → List ℕ → List ℕ → Verdict → Type 0
+TellsLogOf f speed limits lost old new verdict =
+    PutsLog f speed limits lost old new verdict ⊎ ((verdict ≡ verdicts.NoMemory) × (new ≡ old))
+
+-- a device of the file that these bytes are was enumerated
+pub record TellsLog (b : List ℕ) (speed : Speed) (limits : LimitView) (lost : List Fate) (old new : List ℕ) (verdict : Verdict) : Type 0 where
+  pub file : DescriptorFile
+  pub layout : File file b
+  pub accepted : Accepted file speed
+  pub told : TellsLogOf file speed limits lost old new verdict
+
+abbrev pub LogsUnder : List ℕ → Speed → LimitView → List Fate → List ℕ → List ℕ → Verdict → Type 0
+LogsUnder b speed limits lost old new verdict =
+    TellsLog b speed limits lost old new verdict ⊎ (RefusesRun b speed verdict × (new ≡ old))
+
+abbrev pub LogsWith : Option ℕ → Option Speed → List ℕ → LimitView → List Fate → List ℕ → List ℕ → Verdict → Type 0
+LogsWith (Some wrong) speed b limits lost old new verdict = (verdict ≡ verdicts.BadArgument wrong) × (new ≡ old)
+LogsWith None (Some speed) b limits lost old new verdict = LogsUnder b speed limits lost old new verdict
+LogsWith None None b limits lost old new verdict = ⊥
+
+-- the log of the enumeration that `Enumerates` is of
+abbrev pub Logs : List ℕ → Option Speed → ℕ → ℕ → List ℕ → List ℕ → List ℕ → Verdict → Type 0
+Logs b speed naks attempts letters old new verdict =
+    LogsWith (wrong_number speed attempts letters) speed b (record { address = 1; naks = naks; attempts = attempts })
+    (map fate_told letters) old new verdict

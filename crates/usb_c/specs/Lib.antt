@@ -6,11 +6,15 @@ pub mod DescriptorFields
 pub mod Descriptors
 pub mod Devices
 pub mod Enumerations
+pub mod Explaining
 pub mod Facts
+pub mod FieldLists
+pub mod FromText
 pub mod Hosts
 pub mod Remarks
 pub mod Strings
 pub mod Texts
+pub mod Words
 pub mod Transfers
 pub mod Writes
 pub mod WalkedEndpoints

@@ -1,11 +1,12 @@
 //! What a call answers, as numbers, and how faults are reported.
 ghost use Rattle.std.specs.Prelude.{◌≡◌};
 ghost use Rattle.usb_c.specs.Answers.{broken_answer, numbers, refused_set};
-ghost use Rattle.usb_c.specs.inside.Refusals.{refused_description, refused_file, refused_input, refused_list, wants_memory};
+ghost use Rattle.usb_c.specs.inside.Refusals.{refused_description, refused_file, refused_input, refused_list, refused_text, wants_memory};
 
 use usb_device::{DescriptionFault, Unanswered};
 use usb_file::WriteFault;
 use usb_file_data::{FileFault, FileWhy, InputFault};
+use usb_hex::HexFault;
 use usb_host::{Trouble, Why};
 use usb_listing::{ListFault, ListWhy};
 use usb_set::{SetFault, SetWhy};
@@ -15,13 +16,13 @@ use usb_set::{SetFault, SetWhy};
 #[repr(C)]
 pub struct Answer {
     /// 0 done, 1 open, 2 a fault of a set, 3 of a file, 4 of a listing, 5 of a description, 6 bytes after the set, 7 no
-    /// room, 8 no memory, 9 closed, 10 a bad argument, 11 trouble, 12 an answer that isn't taken, 13 no bytes.
+    /// room, 8 no memory, 9 closed, 10 a bad argument, 11 trouble, 12 an answer that isn't taken, 13 no bytes, 14 of a text.
     pub status: u32,
     /// The number of the fault.
     pub number: u32,
-    /// The place of the fault, in bytes; of a listing its line; of a write's packet its place in the data.
+    /// The place of the fault, in bytes; of a listing and a text its line; of a write's packet its place in the data.
     pub place: usize,
-    /// How many bytes were taken or written, or are wanted.
+    /// How many bytes were taken or written, or are wanted; of a text's fault its column.
     pub length: usize,
 }
 
@@ -38,8 +39,12 @@ pub enum Verdict {
     Open(usize),
     /// The bytes are no input. This many bytes of an explanation were written.
     Broken(InputFault, usize),
+    /// What is wrong with the bytes was written: the number of the fault of a set, its place, and how many bytes that are.
+    Meant(u8, usize, usize),
     /// The text is no listing.
     List(ListFault),
+    /// The text isn't hexadecimal from this line and column on, both counted from 1.
+    Text(usize, usize),
     /// No device of the speed has these descriptors.
     Description(DescriptionFault),
     /// The buffer is too short: this many bytes are wanted.
@@ -50,7 +55,7 @@ pub enum Verdict {
     Closed,
     /// A number has no meaning: 1 the address, 2 the attempts, 3 the speed, 4 a fate, 5 a rule, 6 no string, 7 a packet size,
     /// 8 a reply, 9 a request without data to the device, 10 data that are not wLength bytes, 11 numbers that are none of a
-    /// transfer, 12 no packet.
+    /// transfer, 12 no packet, 13 no finding, remark, fault or trouble that there is.
     BadArgument(u8),
     /// The enumeration ended without success.
     Trouble(Trouble),
@@ -97,7 +102,9 @@ impl Verdict {
             Verdict::Judged(number) => numbers(0, number, 0, 0),
             Verdict::Open(length) => numbers(1, 0, 0, length),
             Verdict::Broken(fault, length) => broken(fault, length),
+            Verdict::Meant(number, place, length) => numbers(0, number, place, length),
             Verdict::List(fault) => numbers(4, fault.why.number(), fault.line, 0),
+            Verdict::Text(line, column) => numbers(14, 0, line, column),
             Verdict::Description(fault) => numbers(5, fault.number(), 0, 0),
             Verdict::NoRoom(length) => numbers(7, 0, 0, length),
             Verdict::NoMemory => numbers(8, 0, 0, 0),
@@ -149,6 +156,16 @@ pub(crate) fn refused_list(fault: ListFault) -> Verdict
     match fault.why {
         ListWhy::Memory => Verdict::NoMemory,
         _ => Verdict::List(fault),
+    }
+}
+
+/// The same of a hexadecimal text.
+pub(crate) fn refused_text(fault: HexFault) -> Verdict
+    ensures { result ≡ refused_text fault }
+{
+    match fault {
+        HexFault::Text { line, column, .. } => Verdict::Text(line, column),
+        HexFault::Memory => Verdict::NoMemory,
     }
 }
 

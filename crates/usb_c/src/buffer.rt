@@ -4,12 +4,14 @@ ghost use Rattle.usb_c.specs.Answers.{Puts};
 ghost use Rattle.usb_c.specs.declared.answer.Verdict.TheVariants as verdicts;
 ghost use Rattle.usb_c.specs.Answers.{AnswersOn};
 ghost use Rattle.usb_c.specs.Enumerations.{Enumerates};
-ghost use Rattle.usb_c.specs.Texts.{Builds, Checks, Explains, Shows, manner_told};
+ghost use Rattle.usb_c.specs.Explaining.{ExplainsBy, is_hex, is_loose};
+ghost use Rattle.usb_c.specs.Texts.{Builds, Checks, Shows, manner_told};
 ghost use Rattle.usb_device.specs.Transactions.{speed_told};
 
 use crate::answer::{Answer, Verdict};
 use crate::enumeration::{NzgOutcome, enumerate_bytes};
-use crate::text::{build, check, explain_bytes, manner, show};
+use crate::explaining::explain_by;
+use crate::text::{build, check, show};
 use std::alloc::Global;
 use usb_file_data::InputFault;
 
@@ -67,7 +69,8 @@ pub extern "C" fn nzg_check(alloc: Global, bytes: &[u8], any: bool, text: &mut [
 
 /// Puts the explanation of bytes into the buffer: of a set, a file or a dump all of it, else what is before the fault, the fault and
 /// the rest. Options: bit 0 leaves out the fields, bit 1 gives each heading its place, bit 2 writes characters beyond
-/// ASCII. A speed: 1 low, 2 full, 3 high, 4 super; any other says nothing of it.
+/// ASCII, bit 3 tells formats apart in their headings, bit 4 takes the bytes for a fragment, of which no owner is asked for, and
+/// bit 5 for hexadecimal text. A speed: 1 low, 2 full, 3 high, 4 super; any other says nothing of it.
 #[unsafe(no_mangle)]
 pub extern "C" fn nzg_explain(
     alloc: Global,
@@ -76,9 +79,9 @@ pub extern "C" fn nzg_explain(
     speed: u8,
     text: &mut [u8],
 ) -> Answer
-    ensures { AnswersOn (Explains (manner_told options speed) bytes.now text.old text.new) result }
+    ensures { AnswersOn (ExplainsBy (is_hex options) (is_loose options) (manner_told options speed) bytes.now text.old text.new) result }
 {
-    explain_bytes(alloc, bytes, manner(options, speed), text).answer()
+    explain_by(alloc, bytes, options, speed, text).answer()
 }
 
 /// Puts the bytes of the file that a text lists into the buffer. With `comments` lines that are empty or begin with `#` are

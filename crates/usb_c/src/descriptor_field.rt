@@ -12,7 +12,7 @@ use usb_walk::Role;
 
 /// A field of a descriptor as numbers: the struct `nzg_field` of nozzlegorse.h.
 #[repr(C)]
-#[derive(Drop)]
+#[derive(Clone, Copy, Drop)]
 pub struct NzgField {
     /// The place of its first byte.
     pub place: usize,
@@ -86,7 +86,7 @@ fn nth_field<'d>(
     Fields::of(role, interface, d).nth(number)
 }
 
-fn field_numbers(place: usize, field: &Field<'_>) -> NzgField
+pub(crate) fn field_numbers(place: usize, field: &Field<'_>) -> NzgField
     requires width { length field.now.value.now < 256 }
     requires place { place + field.now.place < 2 ^ 64 }
     ensures { result ≡ field_numbers place (placed_of field.now) }
@@ -128,7 +128,7 @@ fn number_of(value: &[u8]) -> u64
 }
 
 /// The bytes of a descriptor, where it is one of these.
-fn bytes_in<'b>(bytes: &'b [u8], d: &NzgDescriptor) -> Option<&'b [u8]>
+pub(crate) fn bytes_in<'b>(bytes: &'b [u8], d: &NzgDescriptor) -> Option<&'b [u8]>
     ensures bytes { option_copied result ≡ bytes_in bytes.now d.now }
     ensures least { IfSome result (λ it. 2 ≤ length it.now) }
     ensures few { IfSome result (λ it. length it.now < 256) }
@@ -148,7 +148,7 @@ fn bytes_in<'b>(bytes: &'b [u8], d: &NzgDescriptor) -> Option<&'b [u8]>
 }
 
 /// The role of a number, if it is one.
-fn role_in(number: u8) -> Option<Role>
+pub(crate) fn role_in(number: u8) -> Option<Role>
     ensures { result ≡ role_in number }
 {
     match number {

@@ -139,7 +139,7 @@ fn is_fate(letter: u8) -> bool
     matches!(letter, b'.' | b'n' | b'd' | b'u' | b'a')
 }
 
-fn are_fates(letters: &[u8]) -> bool
+pub(crate) fn are_fates(letters: &[u8]) -> bool
     ensures { result ≡ list_all is_fate letters.now }
 {
     letters.iter().all(|letter| is_fate(*letter))
@@ -158,7 +158,7 @@ fn fate_of(letter: u8) -> Fate
     }
 }
 
-fn fates_of(alloc: Global, letters: &[u8]) -> Result<Vec<Fate>, AllocError>
+pub(crate) fn fates_of(alloc: Global, letters: &[u8]) -> Result<Vec<Fate>, AllocError>
     ensures { IfOk result (λ fates. fates.items ≡ map fate_told letters.now) }
 {
     let mut fates = Vec::new(alloc);

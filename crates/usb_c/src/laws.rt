@@ -1,8 +1,10 @@
-//! What holds of the descriptors as numbers. The functions of these laws do nothing: their contracts are the laws.
+//! What holds of descriptors and troubles as numbers. The functions of these laws do nothing: their contracts are the laws.
 ghost use Rattle.usb_c.specs.Descriptors.{AllGoOn, WalkIsNumbered};
+ghost use Rattle.usb_c.specs.FieldLists.{AllByNumber};
 ghost use Rattle.usb_c.specs.Strings.{WalkHasStrings, WalkIsAsExplained};
 ghost use Rattle.usb_c.specs.WalkedEndpoints.{WalkHasEndpoints};
 ghost use Rattle.usb_c.specs.WalkedTrees.{WalkIsTree};
+ghost use Rattle.usb_c.specs.Words.{TroublesAreTold};
 
 /// From `{0}` on `nzg_next` gives the descriptors of the outline of the bytes, each as the numbers of its position: by
 /// `usb_remarks::laws` that is each byte once and in order, of a set, a file or a dump to its end, of other bytes up to their
@@ -29,6 +31,11 @@ pub fn each_step_goes_on()
     ensures { AllGoOn }
 {}
 
+/// By their numbers the fields that `nzg_fields` gives at once are those of `nzg_field`, and there are as many.
+pub fn all_fields_are_those_by_number()
+    ensures { AllByNumber }
+{}
+
 /// Of an input the strings of the walk are its strings, each with its index, its language and its bytes. Those of a file come
 /// language by language in the order of its list of languages, and in each language one for each index that the file names,
 /// ascending. A set and a dump have none (USB 2.0, 9.6.7).
@@ -39,4 +46,9 @@ pub fn a_walk_has_the_strings_of_a_file()
 /// By their numbers, the strings of the walk over an input have the indices and the languages that its explanation shows.
 pub fn strings_are_placed_as_explained()
     ensures { WalkIsAsExplained }
+{}
+
+/// The numbers of a trouble that `nzg_host_outcome` gives are those of that trouble alone, so `nzg_trouble_text` says it.
+pub fn each_trouble_has_words()
+    ensures { TroublesAreTold }
 {}

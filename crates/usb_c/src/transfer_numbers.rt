@@ -149,7 +149,7 @@ fn stage_of(stage: u8) -> Option<TransferStage>
 }
 
 /// The reason of this number.
-fn why_in(number: u8) -> Option<Why>
+pub(crate) fn why_in(number: u8) -> Option<Why>
     ensures { result ≡ why_in number }
 {
     match number {

@@ -4,6 +4,7 @@ pub mod Explanations
 pub mod Fragments
 pub mod Containers
 pub mod Faults
+pub mod FaultWords
 pub mod Lines
 pub mod Laws
 pub mod Names

@@ -6,8 +6,9 @@ ghost use Rattle.usb_explain.specs.Faults.{fault_lines, fault_shown, likeness_li
 ghost use Rattle.usb_explain.specs.Containers.{container_of};
 
 use crate::container::{container_of, put_container};
+use crate::fault_words::FaultWords;
 use std::alloc::AllocError;
-use usb_file_data::{FileWhy, InputFault, Likeness, likeness_of};
+use usb_file_data::{InputFault, Likeness, likeness_of};
 use usb_text::Page;
 
 /// The place of the fault in the input.
@@ -63,26 +64,33 @@ fn seen_likeness(decoded: bool, likeness: Option<Likeness>) -> Option<Likeness>
     }
 }
 
-/// Puts the fault: its number, its place, and its message.
-#[tactic(auto, using(crate::proofs::Messages::set_message_words))]
+/// Puts the fault: its number, its place, and its words.
 fn put_fault<P: Page>(page: &mut P, fault: InputFault) -> Result<(), AllocError>
+    ensures { OnOk result (P.seen page.new ≡ showing_all P.showing (fault_shown fault) (P.seen page.old)) }
+{
+    put_fault_place(page, fault)?;
+    page.put(": ")?;
+    let words = FaultWords::of(fault);
+    page.put(words.within)?;
+    page.put(words.why)
+}
+
+/// Puts what kind of fault it is, its number, if it has one, and its place.
+fn put_fault_place<P: Page>(page: &mut P, fault: InputFault) -> Result<(), AllocError>
     ensures { OnOk result (P.seen page.new ≡ showing_all P.showing (fault_shown fault) (P.seen page.old)) }
 {
     match fault {
         InputFault::Set(fault) => {
             page.put("set fault ")?;
-            put_numbered(page, fault.number(), fault.at as usize)?;
-            page.put(fault.why.message())
+            put_numbered(page, fault.number(), fault.at as usize)
         }
         InputFault::Trailing(at) => {
             page.put("trailing bytes at ")?;
-            page.put_decimal(at as u64)?;
-            page.put(": bytes after the set")
+            page.put_decimal(at as u64)
         }
         InputFault::File(fault) => {
             page.put("file fault ")?;
-            put_numbered(page, fault.number(), fault.at)?;
-            put_file_message(page, fault.why)
+            put_numbered(page, fault.number(), fault.at)
         }
     }
 }
@@ -92,23 +100,7 @@ fn put_numbered<P: Page>(page: &mut P, number: u8, at: usize) -> Result<(), Allo
 {
     page.put_decimal(u64::from(number))?;
     page.put(" at ")?;
-    page.put_decimal(at as u64)?;
-    page.put(": ")
-}
-
-/// Puts what is wrong with the bytes of a file.
-#[tactic(auto, using(crate::proofs::Messages::set_message_words, crate::proofs::Messages::file_message_words))]
-fn put_file_message<P: Page>(page: &mut P, why: FileWhy) -> Result<(), AllocError>
-    ensures { OnOk result (P.seen page.new ≡ P.seen page.old) }
-{
-    page.put(why.message())?;
-    match why {
-        FileWhy::Set(why) => {
-            page.put(", ")?;
-            page.put(why.message())
-        }
-        _ => Ok(()),
-    }
+    page.put_decimal(at as u64)
 }
 
 /// Puts the line of what bytes look like, if they look like anything.

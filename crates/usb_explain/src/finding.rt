@@ -45,11 +45,21 @@ fn put_finding<P: Page>(page: &mut P, depth: u8, cause: Cause) -> Result<(), All
     page.put("! V")?;
     page.put_decimal(u64::from(cause.rule().number()))?;
     page.put(" ")?;
-    put_cause(page, cause)?;
+    put_finding_words(page, cause)?;
     page.end_line()
 }
 
-fn put_cause<P: Page>(page: &mut P, cause: Cause) -> Result<(), AllocError>
+/// Puts what breaks a rule by this cause, in the words that the line of the finding has after the rule.
+///
+/// ```rust
+/// put_finding_words(&mut lines, Cause::EndpointCount { declared: 2, found: 1 })?;
+/// assert_eq!(rt; lines.as_bytes(), b"bNumEndpoints is 2, and the setting has 1 endpoint");
+/// ```
+///
+/// # Errors
+///
+/// Out of memory.
+pub fn put_finding_words<P: Page>(page: &mut P, cause: Cause) -> Result<(), AllocError>
     ensures { OnOk result (P.seen page.new ≡ showing_all P.showing (counts_shown cause) (P.seen page.old)) }
 {
     match cause {

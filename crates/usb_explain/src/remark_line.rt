@@ -58,12 +58,22 @@ fn put_line<P: Page>(page: &mut P, depth: u8, remark: Remark) -> Result<(), Allo
 {
     page.put_indent(2 * usize::from(depth) + 2)?;
     page.put("? ")?;
-    put_words(page, remark)?;
+    put_remark_words(page, remark)?;
     page.end_line()
 }
 
+/// Puts a remark, in the words of its line.
+///
+/// ```rust
+/// put_remark_words(&mut lines, Remark::ReservedUsage)?;
+/// assert_eq!(rt; lines.as_bytes(), b"usage 3 is reserved");
+/// ```
+///
+/// # Errors
+///
+/// Out of memory.
 #[tactic(auto, using(usb_text::proofs::ShownLines::showing_joined))]
-fn put_words<P: Page>(page: &mut P, remark: Remark) -> Result<(), AllocError>
+pub fn put_remark_words<P: Page>(page: &mut P, remark: Remark) -> Result<(), AllocError>
     ensures { OnOk result (P.seen page.new ≡ showing_all P.showing (remark_shown remark) (P.seen page.old)) }
 {
     put_speed_words(page, remark)?;

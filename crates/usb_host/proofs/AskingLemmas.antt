@@ -11,16 +11,19 @@ use Rattle.usb_host.specs.declared.why.Why.{Why}
 use Rattle.usb_host.specs.declared.why.Why.TheVariants.{NoAnswer, Busy, Stalled, TooLong, Unexpected, Malformed, Memory}
 use Rattle.usb_host.specs.declared.transfer.TransferStage.{TransferStage}
 use Rattle.usb_host.specs.declared.transfer.TransferStage.TheVariants.{Setup, DataIn, DataOut, StatusOut, StatusIn, Completed, Failed}
+use Rattle.usb_host.specs.declared.choice.Choice.{Choice}
+use Rattle.usb_host.specs.declared.choice.Terms.{Terms}
+use Rattle.usb_host.specs.declared.step.Trouble.{Trouble}
 use Rattle.usb_host.specs.Limits.{LimitView}
 use Rattle.usb_host.specs.Transfer.{IsTransfer, TransferView, Goes, Taken, addressed, begun, delayed, due, failed, kept_packet, progress, struck, taken, taken_at, taken_data, taken_status, token_due}
 use Rattle.usb_host.proofs.BoundLemmas.{left-taken}
 use Rattle.usb_host.specs.Place.{Place, First, Address, Device, Header, Set, Qualifier, Languages, Text, Configure, Reported, Stopped}
 use Rattle.usb_host.specs.Keeping.{Kept}
-use Rattle.usb_host.specs.Order.{refused_leads}
-use Rattle.usb_host.specs.Steps.{HostPhase, ResetDue, Reading, Ended, HostView, WantsReset, WantsSent, WantsNothing, blames_bus, completed_leads, enter, goes_on, new_host, outcome_at, outcome_of, reset, reset_in, sends, settled, wanted, Takes, TakesHeard, TakesIn}
+use Rattle.usb_host.specs.Order.{refused_leads, spared}
+use Rattle.usb_host.specs.Steps.{HostPhase, ResetDue, Reading, Ended, HostView, WantsReset, WantsSent, WantsNothing, blames_bus, completed_leads, enter, chosen_host, goes_on, outcome_at, outcome_of, reset, reset_in, sends, settled, terms_of, wanted, Takes, TakesHeard, TakesIn}
 use Rattle.usb_host.specs.Cost.{most, left_to_ask, BringsBytes}
 use Rattle.usb_host.specs.Gathered.{Came}
-use Rattle.usb_host.specs.Laws.{Asks, HostsEnd}
+use Rattle.usb_host.specs.Laws.{Asks, ChosenHostsEnd}
 use Rattle.usb_host.specs.inside.Sound.{IsSteady}
 use Rattle.usb_host.proofs.LowerLemmas.{asks_less, takes_low}
 
@@ -119,28 +122,28 @@ enter_works limits (Stopped trouble) s = refl
 asks_at : (t : TransferView) (stage : TransferStage) → t.stage ≡ stage → IsSome (addressed t.address (token_due t [] stage)) → IsSome (due t)
 asks_at t stage e some = subst (λ s. IsSome (addressed t.address (token_due t [] s))) (sym e) some
 
-goes_works : (limits : LimitView) (speed : Speed) (place : Place) (t : TransferView) (k : Kept) (stage : TransferStage) → t.stage ≡ stage → IsTransfer t →
-    IsSteady (goes_on limits speed place t k stage) → Works (goes_on limits speed place t k stage)
-goes_works limits speed place t k Completed e is s = enter_works limits (completed_leads speed place t k) s
-goes_works limits speed place t k (Failed Stalled) e is s = enter_works limits (refused_leads place) s
-goes_works limits speed place t k (Failed NoAnswer) e is s = refl
-goes_works limits speed place t k (Failed Busy) e is s = refl
-goes_works limits speed place t k (Failed TooLong) e is s = refl
-goes_works limits speed place t k (Failed Unexpected) e is s = refl
-goes_works limits speed place t k (Failed Malformed) e is s = refl
-goes_works limits speed place t k (Failed Memory) e is s = refl
-goes_works limits speed place t k Setup e is s = (is, asks_at t Setup e refl)
-goes_works limits speed place t k DataIn e is s = (is, asks_at t DataIn e refl)
-goes_works limits speed place t k DataOut e is s = (is, asks_at t DataOut e refl)
-goes_works limits speed place t k StatusOut e is s = (is, asks_at t StatusOut e refl)
-goes_works limits speed place t k StatusIn e is s = (is, asks_at t StatusIn e refl)
+goes_works : (limits : LimitView) (terms : Terms) (place : Place) (t : TransferView) (k : Kept) (stage : TransferStage) → t.stage ≡ stage → IsTransfer t →
+    IsSteady (goes_on limits terms place t k stage) → Works (goes_on limits terms place t k stage)
+goes_works limits terms place t k Completed e is s = enter_works limits (spared terms.choice.strings place (completed_leads terms place t k)) s
+goes_works limits terms place t k (Failed Stalled) e is s = enter_works limits (spared terms.choice.strings place (refused_leads terms place)) s
+goes_works limits terms place t k (Failed NoAnswer) e is s = refl
+goes_works limits terms place t k (Failed Busy) e is s = refl
+goes_works limits terms place t k (Failed TooLong) e is s = refl
+goes_works limits terms place t k (Failed Unexpected) e is s = refl
+goes_works limits terms place t k (Failed Malformed) e is s = refl
+goes_works limits terms place t k (Failed Memory) e is s = refl
+goes_works limits terms place t k Setup e is s = (is, asks_at t Setup e refl)
+goes_works limits terms place t k DataIn e is s = (is, asks_at t DataIn e refl)
+goes_works limits terms place t k DataOut e is s = (is, asks_at t DataOut e refl)
+goes_works limits terms place t k StatusOut e is s = (is, asks_at t StatusOut e refl)
+goes_works limits terms place t k StatusIn e is s = (is, asks_at t StatusIn e refl)
 
-heard_works : (limits : LimitView) (speed : Speed) (place : Place) (k : Kept) (by : Taken) (new : HostPhase) → IsTransfer by.transfer → IsSteady new →
-    TakesHeard limits speed place k by new → Works new
-heard_works limits speed place k by new is s (result, after, keeps, inl (wants, e)) = subst (λ p. Works p) (sym e) refl
-heard_works limits speed place k by new is s (result, after, keeps, inr (fine, e)) =
+heard_works : (limits : LimitView) (terms : Terms) (place : Place) (k : Kept) (by : Taken) (new : HostPhase) (before after : List Trouble) →
+    IsTransfer by.transfer → IsSteady new → TakesHeard limits terms place k by new before after → Works new
+heard_works limits terms place k by new b a is s (result, after, keeps, inl (wants, e, same)) = subst (λ p. Works p) (sym e) refl
+heard_works limits terms place k by new b a is s (result, after, keeps, inr (fine, e, adds)) =
     subst (λ p. Works p) (sym e)
-    (goes_works limits speed place by.transfer after by.transfer.stage refl is (subst (λ p. IsSteady p) e s))
+    (goes_works limits terms place by.transfer after by.transfer.stage refl is (subst (λ p. IsSteady p) e s))
 
 -- ---- a whole host
 
@@ -180,7 +183,7 @@ wants_reset (Reading place t k) e = by_due (due t) e
     by_due (Some sent) e = absurd (cc)
 wants_reset (Ended place) e = absurd (cc)
 
-pub reset_is : (v : HostView) → v.phase ≡ ResetDue → reset v ≡ record v { resets = suc v.resets; phase = enter v.limits First }
+pub reset_is : (v : HostView) → v.phase ≡ ResetDue → reset v ≡ record v { resets = suc v.resets; phase = enter v.limits First; forgiven = [] }
 reset_is v e = ap (λ p. reset_in v p) e
 
 module _ (limits : LimitView) where
@@ -220,14 +223,14 @@ module _ (limits : LimitView) where
       let steady = subst (λ p. IsSteady p) at on.steady in
       let works : IsTransfer t × IsSome (due t) = subst (λ p. Stands limits.attempts v.resets p) at on.stands in
       let falls = left-taken t answer works.0 works.1 in
-      let before = takes_low v.limits v.speed place t k answer phase steady bytes falls heard in
+      let before = takes_low v.limits (terms_of v) place t k answer phase v.forgiven w.forgiven steady bytes falls heard in
       let after = asks_less.takes v w place t k answer at on.steady bytes falls takes in
       let fewer = after.1 in
       let less = on.less in
       let few = on.few in
       let resets : w.resets ≡ v.resets = ap (λ x. x.resets) e in
       let there = settled_stands v.limits.attempts v.resets phase
-      (heard_works v.limits v.speed place k (taken t answer) phase (counts_at t t.stage answer works.0) before.0 heard) in
+      (heard_works v.limits (terms_of v) place k (taken t answer) phase v.forgiven w.forgiven (counts_at t t.stage answer works.0) before.0 heard) in
       record {
         limits_are = ap (λ x. x.limits) e ∙ on.limits_are;
         few = omega arith;
@@ -237,16 +240,16 @@ module _ (limits : LimitView) where
         less = omega arith;
       }
 
-  asks_on : (speed : Speed) (some : 0 < limits.attempts) (earlier : List HostView) (n : ℕ) (came : Came) (last : HostView) →
-      Asks (new_host limits speed) earlier n came last → IsOn n last
-  asks_on speed some [] n came last (e, none, nothing) =
-      let first = asks_less.at_most limits speed in
-      let new : IsOn 0 (new_host limits speed) = record { limits_are = refl; few = omega arith; stands = some; steady = tt; less = omega arith } in
+  asks_on : (speed : Speed) (choice : Choice) (some : 0 < limits.attempts) (earlier : List HostView) (n : ℕ) (came : Came) (last : HostView) →
+      Asks (chosen_host limits speed choice) earlier n came last → IsOn n last
+  asks_on speed choice some [] n came last (e, none, nothing) =
+      let first = asks_less.at_most limits speed choice in
+      let new : IsOn 0 (chosen_host limits speed choice) = record { limits_are = refl; few = omega arith; stands = some; steady = tt; less = omega arith } in
       subst (λ m. IsOn m last) (sym none) (subst (λ v. IsOn 0 v) (sym e) new)
-  asks_on speed some (v ∷ earlier) n came last (inl (wants, e, nothing, (before, more))) =
-      subst (λ w. IsOn n w) (sym e) (resets_on n v wants (asks_on speed some earlier n before v more))
-  asks_on speed some (v ∷ earlier) n came last (inr (m, sent, answer, before, count, asks, bytes, takes, adds, more)) =
-      subst (λ x. IsOn x last) (sym count) (takes_on m v last v.phase sent answer refl asks bytes (asks_on speed some earlier m before v more) takes)
+  asks_on speed choice some (v ∷ earlier) n came last (inl (wants, e, nothing, (before, more))) =
+      subst (λ w. IsOn n w) (sym e) (resets_on n v wants (asks_on speed choice some earlier n before v more))
+  asks_on speed choice some (v ∷ earlier) n came last (inr (m, sent, answer, before, count, asks, bytes, takes, adds, more)) =
+      subst (λ x. IsOn x last) (sym count) (takes_on m v last v.phase sent answer refl asks bytes (asks_on speed choice some earlier m before v more) takes)
 
 -- what wants nothing has an outcome
 ended : (attempts resets : ℕ) (p : HostPhase) → Stands attempts resets p → wanted p ≡ WantsNothing → IsSome (outcome_of p)
@@ -258,8 +261,8 @@ ended attempts resets (Reading place t k) s e = absurd (by (due t) s.1 e)
     by (Some sent) some nothing = absurd (cc)
 ended attempts resets (Ended place) s e = s
 
-pub hosts_end : HostsEnd
-hosts_end limits speed earlier n came last some asks =
-    let on = asks_on limits speed some earlier n came last asks in
+pub hosts_end : ChosenHostsEnd
+hosts_end limits speed choice earlier n came last some asks =
+    let on = asks_on limits speed choice some earlier n came last asks in
     let less = on.less in
     (omega arith, on.few, ended limits.attempts last.resets last.phase on.stands)

@@ -1,13 +1,14 @@
 -- A read whose bytes were what was asked for leads on.
-use Rattle.std.proofs.Common.{◌≡◌, ℕ, ◌*◌, ◌<◌, ◌≤◌, ◌==◌, nat_lt, Bool, true, false, if◌then◌else◌, List, [], ◌∷◌, length, Option, Some, None, refl, ap, sym, arith, subst}
+use Rattle.std.proofs.Common.{◌≡◌, ℕ, ◌*◌, ◌<◌, ◌≤◌, ◌==◌, ◌&&◌, ◌||◌, not, nat_lt, Bool, true, false, if◌then◌else◌, List, [], ◌∷◌, length, Option, Some, None, refl, ap, sym, arith, subst}
 use Rattle.std.specs.Prelude.{IsSome}
-use Rattle.usb_fields.specs.declared.packet.Speed.{Speed}
+use Rattle.usb_host.specs.declared.choice.Terms.{Terms}
 use Rattle.usb_set.specs.declared.tree.SetKind.{SetKind}
 use Rattle.usb_set.specs.declared.tree.SetKind.TheVariants as kinds
 use Rattle.usb_file_data.specs.declared.file.DescriptorFile.{DescriptorFile}
 use Rattle.usb_file_data.specs.declared.file.Strings.{Strings}
 use Rattle.usb_file_data.specs.File.{named_indices}
 use Rattle.usb_host.specs.declared.why.Why.TheVariants.{Malformed}
+use Rattle.usb_host.specs.Terms.{is_asked}
 use Rattle.usb_host.specs.Limits.{LimitView}
 use Rattle.usb_host.specs.Place.{Place, First, Address, Device, Header, Set, Qualifier, Languages, Text, Configure, Reported, Stopped}
 use Rattle.usb_host.specs.Read.{may_have_second, same_bytes, units_of}
@@ -20,15 +21,15 @@ goes_on_if : (b : Bool) (x y : Place) → is_end x ≡ false → is_end y ≡ fa
 goes_on_if true x y p q = p
 goes_on_if false x y p q = q
 
-pub strings_go_on : (f : DescriptorFile) → is_end (strings_due f) ≡ false
-strings_go_on f = goes_on_if (length (named_indices f) == 0) _ _ refl refl
+pub strings_go_on : (terms : Terms) (f : DescriptorFile) → is_end (strings_due terms f) ≡ false
+strings_go_on terms f = goes_on_if (not (is_asked terms.choice.strings) || (length (named_indices f) == 0)) _ _ refl refl
 
-after_goes_on : (speed : Speed) (kind : SetKind) (f : DescriptorFile) → is_end (after_sets speed kind f) ≡ false
-after_goes_on speed kinds.Configuration f = goes_on_if (may_have_second speed f.device) _ _ refl (strings_go_on f)
-after_goes_on speed kinds.OtherSpeed f = strings_go_on f
+after_goes_on : (terms : Terms) (kind : SetKind) (f : DescriptorFile) → is_end (after_sets terms kind f) ≡ false
+after_goes_on terms kinds.Configuration f = goes_on_if (terms.choice.other_speed && may_have_second terms.speed f.device) _ _ refl (strings_go_on terms f)
+after_goes_on terms kinds.OtherSpeed f = strings_go_on terms f
 
-pub sets_go_on : (speed : Speed) (kind : SetKind) (f : DescriptorFile) → is_end (sets_due speed kind f) ≡ false
-sets_go_on speed kind f = goes_on_if (nat_lt (length (sets_of kind f)) (declared_sets kind f)) _ _ refl (after_goes_on speed kind f)
+pub sets_go_on : (terms : Terms) (kind : SetKind) (f : DescriptorFile) → is_end (sets_due terms kind f) ≡ false
+sets_go_on terms kind f = goes_on_if (nat_lt (length (sets_of kind f)) (declared_sets kind f)) _ _ refl (after_goes_on terms kind f)
 
 pub texts_go_on : (f : DescriptorFile) (s : Strings) (named : List ℕ) → is_end (texts_due f s named) ≡ false
 texts_go_on f s named = goes_on_if (nat_lt (length s.texts) (length s.languages * length named)) _ _ refl refl

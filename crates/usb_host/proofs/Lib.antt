@@ -7,6 +7,9 @@ pub mod PlaceLemmas
 pub mod LeadLemmas
 pub mod TakeLemmas
 pub mod CameLemmas
+pub mod ForgivenLemmas
+pub mod SettleLemmas
+pub mod SpareLemmas
 pub mod StandLemmas
 pub mod EndLemmas
 pub mod AskingLemmas

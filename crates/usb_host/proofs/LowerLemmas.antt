@@ -3,7 +3,8 @@ use Rattle.std.proofs.Common.{◌≡◌, ℕ, suc, ◌+◌, ◌-◌, ◌*◌, �
 use Rattle.std.specs.Prelude.{Result}
 use Rattle.std.proofs.Math.Nat.{mul-le-mul_right}
 use Rattle.usb_fields.specs.Bytes.{AreBytes}
-use Rattle.usb_fields.specs.declared.packet.Speed.{Speed}
+use Rattle.usb_host.specs.declared.choice.Terms.{Terms}
+use Rattle.usb_host.specs.declared.step.Trouble.{Trouble}
 use Rattle.usb_fields.specs.declared.setup.Setup.{Setup as SetupPacket}
 use Rattle.usb_fields.specs.declared.packet.Toggle.TheVariants.{Data0, Data1}
 use Rattle.usb_fields.specs.Packets.{is_same_toggle, Reply as Answer, NakReply, DataReply, NoReply}
@@ -18,12 +19,12 @@ use Rattle.usb_host.specs.Transfer.{TransferView, Hearing, Goes, Brings, Complet
 use Rattle.usb_host.specs.Plan.{Plan, Begin, Success, GivesUp}
 use Rattle.usb_host.specs.Place.{Place, First, Set, Stopped}
 use Rattle.usb_host.specs.Keeping as kept
-use Rattle.usb_host.specs.Order.{asks, done_leads, refused_leads}
+use Rattle.usb_host.specs.Order.{asks, done_leads, refused_leads, spared}
 use Rattle.usb_host.specs.Keeping.{Kept, nothing_kept, set_kept}
-use Rattle.usb_host.specs.Steps.{HostPhase, ResetDue, Reading, Ended, HostView, entered, enter, reset_in, reset, blames_bus, settled, read_leads, completed_leads, goes_on, KeepsHeard, TakesHeard, TakesIn, Takes}
+use Rattle.usb_host.specs.Steps.{HostPhase, ResetDue, Reading, Ended, HostView, entered, enter, reset_in, reset, blames_bus, settled, terms_of, read_leads, completed_leads, goes_on, KeepsHeard, TakesHeard, TakesIn, Takes}
 use Rattle.usb_host.specs.Cost.{cost, price, most_in_attempt, left_in_attempt, left_to_ask, BringsBytes}
 use Rattle.usb_host.specs.inside.Sound.{IsGood, FitsPlace, KeepsBytes, IsSteady, AsksLess}
-use Rattle.usb_host.proofs.CostLemmas.{Fits, bytes_fall, done_falls, refused_falls, set_fits, Pays, pays, priced}
+use Rattle.usb_host.proofs.CostLemmas.{Fits, bytes_fall, done_falls, refused_falls, spared_falls, set_fits, Pays, pays, priced}
 use Rattle.usb_fields.proofs.ByteParts.{bytes_append}
 
 left_begun : (to packet naks : ℕ) (q : SetupPacket) → left (begun to packet naks q) ≤ (q.length / packet + 3) * (naks + 3)
@@ -122,55 +123,59 @@ settled_low attempts resets naks (Ended (Stopped trouble)) s = by_test (blames_b
 settled_low attempts resets naks (Ended place) s = (s, omega arith)
 
 -- where bytes lead to that have all come
-reads_low : (speed : Speed) (place : Place) (count : ℕ) (k : Kept) → IsGood place → FitsPlace place k → KeepsBytes k →
-    Fits (cost place - price place) (read_leads speed place count k)
-reads_low speed place count (kept.Bytes bytes) good fits are = bytes_fall speed place bytes good are
-reads_low speed (Set kind f total) count (kept.Set d over) good fits are =
-    set_fits speed (cost (Set kind f total) - 8194) (Set kind f total) kind f total count (set_kept d over) good.0 good.1 (omega arith)
-reads_low speed place count (kept.Set d over) good fits are = absurd (fits)
+reads_low : (terms : Terms) (place : Place) (count : ℕ) (k : Kept) → IsGood place → FitsPlace place k → KeepsBytes k →
+    Fits (cost place - price place) (read_leads terms place count k)
+reads_low terms place count (kept.Bytes bytes) good fits are = bytes_fall terms place bytes good are
+reads_low terms (Set kind f total) count (kept.Set d over) good fits are =
+    set_fits terms (cost (Set kind f total) - 8194) (Set kind f total) kind f total count (set_kept d over) good.0 good.1 (omega arith)
+reads_low terms place count (kept.Set d over) good fits are = absurd (fits)
 
-pub completed_low : (speed : Speed) (place : Place) (t : TransferView) (k : Kept) → IsGood place → FitsPlace place k → KeepsBytes k →
-    Fits (cost place - price place) (completed_leads speed place t k)
-completed_low speed place t k good fits are = by_length (t.request.length == 0)
+pub completed_low : (terms : Terms) (place : Place) (t : TransferView) (k : Kept) → IsGood place → FitsPlace place k → KeepsBytes k →
+    Fits (cost place - price place) (completed_leads terms place t k)
+completed_low terms place t k good fits are = by_length (t.request.length == 0)
   where
-    by_length : (z : Bool) → Fits (cost place - price place) (if z then done_leads place else read_leads speed place t.kept k)
+    by_length : (z : Bool) → Fits (cost place - price place) (if z then done_leads place else read_leads terms place t.kept k)
     by_length true = done_falls place good
-    by_length false = reads_low speed place t.kept k good fits are
+    by_length false = reads_low terms place t.kept k good fits are
 
-goes_low : (limits : LimitView) (speed : Speed) (place : Place) (t t' : TransferView) (k : Kept) (stage : TransferStage) → IsGood place → FitsPlace place k → KeepsBytes k →
+goes_low : (limits : LimitView) (terms : Terms) (place : Place) (t t' : TransferView) (k : Kept) (stage : TransferStage) → IsGood place → FitsPlace place k → KeepsBytes k →
     left t' < left t →
-    IsSteady (goes_on limits speed place t' k stage)
-    × (left_in_attempt limits.naks (goes_on limits speed place t' k stage) < left t + (cost place - price place) * (limits.naks + 3))
-goes_low limits speed place t t' k Completed good fits are less =
-    let y = enters_low limits (cost place - price place) (completed_leads speed place t' k) (completed_low speed place t' k good fits are) in
+    IsSteady (goes_on limits terms place t' k stage)
+    × (left_in_attempt limits.naks (goes_on limits terms place t' k stage) < left t + (cost place - price place) * (limits.naks + 3))
+goes_low limits terms place t t' k Completed good fits are less =
+    let texts = terms.choice.strings in
+    let low = spared_falls texts place (completed_leads terms place t' k) good (completed_low terms place t' k good fits are) in
+    let y = enters_low limits (cost place - price place) (spared texts place (completed_leads terms place t' k)) low in
     let z = y.1 in
     (y.0, omega arith)
-goes_low limits speed place t t' k (Failed Stalled) good fits are less =
-    let y = enters_low limits (cost place - price place) (refused_leads place) (refused_falls place good) in
+goes_low limits terms place t t' k (Failed Stalled) good fits are less =
+    let texts = terms.choice.strings in
+    let low = spared_falls texts place (refused_leads terms place) good (refused_falls terms place good) in
+    let y = enters_low limits (cost place - price place) (spared texts place (refused_leads terms place)) low in
     let z = y.1 in
     (y.0, omega arith)
-goes_low limits speed place t t' k (Failed NoAnswer) good fits are less = (tt, omega arith)
-goes_low limits speed place t t' k (Failed Busy) good fits are less = (tt, omega arith)
-goes_low limits speed place t t' k (Failed TooLong) good fits are less = (tt, omega arith)
-goes_low limits speed place t t' k (Failed Unexpected) good fits are less = (tt, omega arith)
-goes_low limits speed place t t' k (Failed Malformed) good fits are less = (tt, omega arith)
-goes_low limits speed place t t' k (Failed Memory) good fits are less = (tt, omega arith)
-goes_low limits speed place t t' k Setup good fits are less = ((good, fits, are), omega arith)
-goes_low limits speed place t t' k DataIn good fits are less = ((good, fits, are), omega arith)
-goes_low limits speed place t t' k DataOut good fits are less = ((good, fits, are), omega arith)
-goes_low limits speed place t t' k StatusOut good fits are less = ((good, fits, are), omega arith)
-goes_low limits speed place t t' k StatusIn good fits are less = ((good, fits, are), omega arith)
+goes_low limits terms place t t' k (Failed NoAnswer) good fits are less = (tt, omega arith)
+goes_low limits terms place t t' k (Failed Busy) good fits are less = (tt, omega arith)
+goes_low limits terms place t t' k (Failed TooLong) good fits are less = (tt, omega arith)
+goes_low limits terms place t t' k (Failed Unexpected) good fits are less = (tt, omega arith)
+goes_low limits terms place t t' k (Failed Malformed) good fits are less = (tt, omega arith)
+goes_low limits terms place t t' k (Failed Memory) good fits are less = (tt, omega arith)
+goes_low limits terms place t t' k Setup good fits are less = ((good, fits, are), omega arith)
+goes_low limits terms place t t' k DataIn good fits are less = ((good, fits, are), omega arith)
+goes_low limits terms place t t' k DataOut good fits are less = ((good, fits, are), omega arith)
+goes_low limits terms place t t' k StatusOut good fits are less = ((good, fits, are), omega arith)
+goes_low limits terms place t t' k StatusIn good fits are less = ((good, fits, are), omega arith)
 
-pub takes_low : (limits : LimitView) (speed : Speed) (place : Place) (t : TransferView) (k : Kept) (answer : Answer) (new : HostPhase) → IsSteady (Reading place t k) →
-    BringsBytes answer → left (taken t answer).transfer < left t → TakesHeard limits speed place k (taken t answer) new →
+pub takes_low : (limits : LimitView) (terms : Terms) (place : Place) (t : TransferView) (k : Kept) (answer : Answer) (new : HostPhase) (before after : List Trouble) → IsSteady (Reading place t k) →
+    BringsBytes answer → left (taken t answer).transfer < left t → TakesHeard limits terms place k (taken t answer) new before after →
     IsSteady new × (left_in_attempt limits.naks new < left_in_attempt limits.naks (Reading place t k))
-takes_low limits speed place t k answer new steady bytes less (result, after, keeps, inl (wants, e)) =
+takes_low limits terms place t k answer new b a steady bytes less (result, after, keeps, inl (wants, e, same)) =
     subst (λ x. IsSteady x × (left_in_attempt limits.naks x < left_in_attempt limits.naks (Reading place t k))) (sym e) (tt, omega arith)
-takes_low limits speed place t k answer new steady bytes less (result, after, keeps, inr (fine, e)) =
+takes_low limits terms place t k answer new b a steady bytes less (result, after, keeps, inr (fine, e, adds)) =
     let by = taken t answer in
     let still = kept_steady place k after by.heard result steady.1 steady.2 (hears_bytes t t.stage answer bytes) keeps in
     subst (λ x. IsSteady x × (left_in_attempt limits.naks x < left_in_attempt limits.naks (Reading place t k))) (sym e)
-    (goes_low limits speed place t by.transfer after by.transfer.stage steady.0 still.0 still.1 less)
+    (goes_low limits terms place t by.transfer after by.transfer.stage steady.0 still.0 still.1 less)
 
 -- a whole host
 abbrev pub Lower : HostView → HostView → Type 0
@@ -180,7 +185,7 @@ takes_lower : (v w : HostView) (place : Place) (t : TransferView) (k : Kept) (an
     BringsBytes answer → left (taken t answer).transfer < left t → Takes v answer w → Lower v w
 takes_lower v w place t k answer at steady bytes less takes =
     let is : TakesIn v (Reading place t k) answer w = subst (λ x. TakesIn v x answer w) at takes in
-    let low = takes_low v.limits v.speed place t k answer is.0 (subst (λ x. IsSteady x) at steady) bytes less is.1 in
+    let low = takes_low v.limits (terms_of v) place t k answer is.0 v.forgiven w.forgiven (subst (λ x. IsSteady x) at steady) bytes less is.1 in
     let rest = settled_low v.limits.attempts v.resets v.limits.naks is.0 low.0 in
     let below = low.1 in
     let at_most = rest.1 in
@@ -201,7 +206,7 @@ resets_lower v at below =
 
 pub asks_less : AsksLess
 asks_less = record {
-  at_most = λ limits speed.
+  at_most = λ limits speed choice.
       (let e : limits.attempts - 0 ≡ limits.attempts = omega arith in
       let m : (limits.attempts - 0) * most_in_attempt limits.naks ≡ limits.attempts * most_in_attempt limits.naks = ap (λ x. x * most_in_attempt limits.naks) e in
       omega arith);

@@ -2,7 +2,8 @@
 use Rattle.std.proofs.Common.{◌≡◌, ℕ, ◌+◌, ◌<◌, ◌≤◌, ◌&&◌, Bool, false, if◌then◌else◌, nat_lt, List, [], ◌++◌, length, refl, ap, sym, ◌∙◌, arith, subst, length-append}
 use Rattle.std.specs.Prelude.{Some, None, IsSome, Result}
 use Rattle.usb_fields.specs.Packets.{Reply as Answer}
-use Rattle.usb_fields.specs.declared.packet.Speed.{Speed}
+use Rattle.usb_host.specs.declared.choice.Terms.{Terms}
+use Rattle.usb_host.specs.declared.step.Trouble.{Trouble}
 use Rattle.usb_set.specs.declared.fault.SetFault.{SetFault}
 use Rattle.usb_set.specs.declared.decoder.Progress.{Progress}
 use Rattle.usb_host.specs.declared.transfer.TransferStage.{TransferStage}
@@ -13,7 +14,7 @@ use Rattle.usb_host.specs.Place.{Place, First, Address, Device, Header, Set, Qua
 use Rattle.usb_host.specs.Keeping.{Kept}
 use Rattle.usb_host.specs.Keeping as kept
 use Rattle.usb_host.specs.declared.current_read.Ending.{Ending}
-use Rattle.usb_host.specs.Steps.{HostPhase, Reading, Ended, HostView, outcome_at, outcome_of, enter, settled, KeepsHeard, TakesHeard, TakesIn, Takes}
+use Rattle.usb_host.specs.Steps.{HostPhase, Reading, Ended, HostView, outcome_at, outcome_of, enter, settled, terms_of, KeepsHeard, TakesHeard, TakesIn, Takes}
 use Rattle.usb_host.specs.inside.Sound.{IsGood, IsSteady}
 use Rattle.usb_host.specs.Cost.{BringsBytes, left_to_ask}
 use Rattle.usb_host.specs.inside.Places.{is_end, is_bus_trouble}
@@ -102,22 +103,23 @@ stands_here place t k reads is = subst (λ b. IsStanding (if b then Ended place 
 
 -- ---- what a host takes, by what its read heard
 
-pub takes_on : (limits : LimitView) (speed : Speed) (place : Place) (t u : TransferView) (old k : Kept) (answer : Answer) → IsReading place t old → BringsBytes answer →
-    Hears old (taken t answer) u k None →
-    TakesHeard limits speed place old (taken t answer) (standing place u k) × IsStanding (standing place u k)
-takes_on limits speed place t u old k answer is bytes hears = (
-  hears_on limits speed place t u old k answer is.going is.is_read hears,
+pub takes_on : (limits : LimitView) (terms : Terms) (place : Place) (t u : TransferView) (old k : Kept) (answer : Answer) (before after : List Trouble) →
+    IsReading place t old → BringsBytes answer → Hears old (taken t answer) u k None → after ≡ before →
+    TakesHeard limits terms place old (taken t answer) (standing place u k) before after × IsStanding (standing place u k)
+takes_on limits terms place t u old k answer b a is bytes hears same = (
+  hears_on limits terms place t u old k answer b a is.going is.is_read hears same,
   stands_here place u k is.is_read (still_reading place t u old k answer is bytes hears),
 )
 
-pub takes_end : (limits : LimitView) (speed : Speed) (place : Place) (t u : TransferView) (old k : Kept) (answer : Answer) (ending : Ending) (next : Place)
-    (new : HostPhase) → IsReading place t old → BringsBytes answer → Hears old (taken t answer) u k (Some ending) → GoesOn limits speed place u k ending next new →
-    TakesHeard limits speed place old (taken t answer) new × IsStanding new
-takes_end limits speed place t u old k answer ending next new is bytes hears goes =
+pub takes_end : (limits : LimitView) (terms : Terms) (place : Place) (t u : TransferView) (old k : Kept) (answer : Answer) (ending : Ending) (next : Place)
+    (new : HostPhase) (before after : List Trouble) → IsReading place t old → BringsBytes answer → Hears old (taken t answer) u k (Some ending) →
+    GoesOn limits terms place u k ending next new before after →
+    TakesHeard limits terms place old (taken t answer) new before after × IsStanding new
+takes_end limits terms place t u old k answer ending next new b a is bytes hears goes =
     let steady = hears_steady place t old k answer u (Some ending) is.fits is.bytes bytes hears in
-    let good = next_good speed place u k ending next is.good steady.0 steady.1 goes.leads in
-    subst (λ x. TakesHeard limits speed place old (taken t answer) x × IsStanding x) (sym goes.enters)
-    (hears_end limits speed place t u old k answer ending next is.going hears goes.leads, enters_standing limits next good)
+    let good = next_good terms place u k ending next b a is.good steady.0 steady.1 goes.leads in
+    subst (λ x. TakesHeard limits terms place old (taken t answer) x b a × IsStanding x) (sym goes.enters)
+    (hears_end limits terms place t u old k answer ending next b a is.going hears goes.leads, enters_standing limits next good)
 
 -- ---- what comes of trouble for which the bus is to blame
 
@@ -146,14 +148,15 @@ pub reads_sound : (attempts resets : ℕ) (due : Bool) (place : Place) (t : Tran
     IsPhase attempts resets (phase_in due place t k) → IsReading place t k
 reads_sound attempts resets due place t k not_due reads is = subst (λ x. IsPhase attempts resets x) (reads_here due place t k not_due reads) is
 
-pub host_takes : (v : HostView) (place here : Place) (t u : TransferView) (k j : Kept) (answer : Answer) (due : Bool) → v.phase ≡ Reading place t k →
-    TakesHeard v.limits v.speed place k (taken t answer) (standing here u j) → due ≡ (is_bus_trouble here && nat_lt v.resets v.limits.attempts) →
-    Takes v answer (record v { phase = phase_in due here u j })
-host_takes v place here t u k j answer due at takes is =
-    subst (λ x. TakesIn v x answer (record v { phase = phase_in due here u j })) (sym at) (
+pub host_takes : (v : HostView) (place here : Place) (t u : TransferView) (k j : Kept) (answer : Answer) (due : Bool) (after : List Trouble) → v.phase ≡ Reading place t k →
+    TakesHeard v.limits (terms_of v) place k (taken t answer) (standing here u j) v.forgiven after → due ≡ (is_bus_trouble here && nat_lt v.resets v.limits.attempts) →
+    Takes v answer (record v { phase = phase_in due here u j; forgiven = after })
+host_takes v place here t u k j answer due after at takes is =
+    subst (λ x. TakesIn v x answer (record v { phase = phase_in due here u j; forgiven = after })) (sym at) (
       standing here u j,
       takes,
-      ap (λ b. record v { phase = phase_in b here u j }) is ∙ ap (λ x. record v { phase = x }) (settles v.limits.attempts v.resets here u j),
+      ap (λ b. record v { phase = phase_in b here u j; forgiven = after }) is
+          ∙ ap (λ x. record v { phase = x; forgiven = after }) (settles v.limits.attempts v.resets here u j),
     )
 
 pub host_asks_less : (v w : HostView) (place : Place) (t : TransferView) (k : Kept) (answer : Answer) → v.phase ≡ Reading place t k → IsReading place t k →

@@ -1,8 +1,11 @@
 -- What a transfer makes of an answer, and a host of that.
-use Rattle.std.proofs.Common.{◌≡◌, ℕ, ◌+◌, ◌≤◌, ◌==◌, ◌||◌, Bool, true, false, if◌then◌else◌, nat_lt, List, [], ◌∷◌, length, inl, inr, refl, ap, sym, ◌∙◌, arith, subst}
+use Rattle.std.proofs.Common.{◌≡◌, ℕ, ◌++◌, ◌-◌, ◌+◌, ◌≤◌, ◌==◌, ◌||◌, Bool, true, false, if◌then◌else◌, nat_lt, List, [], ◌∷◌, length, inl, inr, refl, ap, sym, ◌∙◌, arith, subst}
 use Rattle.std.specs.Prelude.{Option, Some, None, Result, Ok}
 use Rattle.std.proofs.lemmas.Bool.Decides.{nat_tests}
-use Rattle.usb_fields.specs.declared.packet.Speed.{Speed}
+use Rattle.std.proofs.lemmas.List.{append-nil}
+use Rattle.usb_host.specs.declared.choice.NamedStrings.{NamedStrings}
+use Rattle.usb_host.specs.declared.choice.Terms.{Terms}
+use Rattle.usb_host.specs.declared.step.Trouble.{Trouble}
 use Rattle.usb_fields.specs.declared.setup.Direction.{Direction}
 use Rattle.usb_fields.specs.declared.setup.Direction.TheVariants as directions
 use Rattle.usb_fields.specs.declared.packet.Toggle.TheVariants.{Data0, Data1}
@@ -22,14 +25,14 @@ use Rattle.usb_host.specs.Keeping.{Kept}
 use Rattle.usb_host.specs.Keeping as kept
 use Rattle.usb_host.specs.declared.current_read.Ending.{Ending}
 use Rattle.usb_host.specs.declared.current_read.Ending.TheVariants as endings
-use Rattle.usb_host.specs.Order.{stopped}
-use Rattle.usb_host.specs.Steps.{HostPhase, Reading, Ended, completed_leads, enter, goes_on, Grows, KeepsHeard, LacksMemory, TakesHeard, WantsToGrow}
+use Rattle.usb_host.specs.Order.{forgiven_by, refused_leads, spared, stopped}
+use Rattle.usb_host.specs.Steps.{Reading, Ended, completed_leads, enter, goes_on, passes_over, Grows, KeepsHeard, LacksMemory, TakesHeard}
 use Rattle.usb_host.specs.inside.Sound.{IsGood, FitsPlace, KeepsBytes}
-use Rattle.usb_host.specs.Cost.{BringsBytes}
-use Rattle.usb_host.specs.inside.Places.{Adds, GrowsTo, HasRoom, is_end}
-use Rattle.usb_host.specs.inside.Reads.{IsGoing, IsCounted, EndsBy, Hears, LeadsOn, ended_leads, standing}
+use Rattle.usb_host.specs.Cost.{cost, price, BringsBytes}
+use Rattle.usb_host.specs.inside.Places.{Adds, HasRoom, Leads, is_end}
+use Rattle.usb_host.specs.inside.Reads.{IsGoing, IsCounted, EndsBy, Hears, LeadsOn, standing}
 use Rattle.usb_host.proofs.LowerLemmas.{hears_bytes, kept_steady, completed_low}
-use Rattle.usb_host.proofs.CostLemmas.{refused_falls}
+use Rattle.usb_host.proofs.CostLemmas.{Fits, refused_falls, spared_falls}
 use Rattle.usb_host.proofs.LeadLemmas.{goes_on_there}
 
 -- the stage, by what was heard
@@ -145,133 +148,170 @@ hears_steady place t old new answer u ending fits are bytes (is, (result, keeps,
     kept_steady place old new (taken t answer).heard result fits are (hears_bytes t t.stage answer bytes) keeps
 
 -- where a read leads to is good
-pub leads_good : (speed : Speed) (place : Place) (t : TransferView) (k : Kept) (ending : Ending) → IsGood place → FitsPlace place k → KeepsBytes k →
-    IsGood (ended_leads speed place t k ending)
-leads_good speed place t k endings.Completed good fits are = (completed_low speed place t k good fits are).0
-leads_good speed place t k (endings.Failed Stalled) good fits are = (refused_falls place good).0
-leads_good speed place t k (endings.Failed NoAnswer) good fits are = tt
-leads_good speed place t k (endings.Failed Busy) good fits are = tt
-leads_good speed place t k (endings.Failed TooLong) good fits are = tt
-leads_good speed place t k (endings.Failed Unexpected) good fits are = tt
-leads_good speed place t k (endings.Failed Malformed) good fits are = tt
-leads_good speed place t k (endings.Failed Memory) good fits are = tt
+leads_good : (texts : NamedStrings) (heard : Hearing) (here target next : Place) (before after : List Trouble) → IsGood here → Fits (cost here - price here) target →
+    Leads texts heard here target next before after → IsGood next
+leads_good texts heard here target next b a good fits (inl (grows, e, same)) = subst (λ x. IsGood x) (sym e) tt
+leads_good texts heard here target next b a good fits (inr (e, adds)) = subst (λ x. IsGood x) (sym e) (spared_falls texts here target good fits).0
 
-pub next_good : (speed : Speed) (place : Place) (t : TransferView) (k : Kept) (ending : Ending) (next : Place) → IsGood place → FitsPlace place k → KeepsBytes k →
-    LeadsOn speed place t k ending next → IsGood next
-next_good speed place t k ending next good fits are (inl (grows, e)) = subst (λ x. IsGood x) (sym e) tt
-next_good speed place t k ending next good fits are (inr e) = subst (λ x. IsGood x) (sym e) (leads_good speed place t k ending good fits are)
+pub next_good : (terms : Terms) (place : Place) (t : TransferView) (k : Kept) (ending : Ending) (next : Place) (before after : List Trouble) →
+    IsGood place → FitsPlace place k → KeepsBytes k → LeadsOn terms place t k ending next before after → IsGood next
+next_good terms place t k endings.Completed next b a good fits are leads =
+    leads_good terms.choice.strings Completes place (completed_leads terms place t k) next b a good (completed_low terms place t k good fits are) leads
+next_good terms place t k (endings.Failed Stalled) next b a good fits are leads =
+    leads_good terms.choice.strings (Fails Stalled) place (refused_leads terms place) next b a good (refused_falls terms place good) leads
+next_good terms place t k (endings.Failed NoAnswer) next b a good fits are (e, same) = subst (λ x. IsGood x) (sym e) tt
+next_good terms place t k (endings.Failed Busy) next b a good fits are (e, same) = subst (λ x. IsGood x) (sym e) tt
+next_good terms place t k (endings.Failed TooLong) next b a good fits are (e, same) = subst (λ x. IsGood x) (sym e) tt
+next_good terms place t k (endings.Failed Unexpected) next b a good fits are (e, same) = subst (λ x. IsGood x) (sym e) tt
+next_good terms place t k (endings.Failed Malformed) next b a good fits are (e, same) = subst (λ x. IsGood x) (sym e) tt
+next_good terms place t k (endings.Failed Memory) next b a good fits are (e, same) = subst (λ x. IsGood x) (sym e) tt
 
 -- ---- what a host takes
 
-pub going_on : (limits : LimitView) (speed : Speed) (place : Place) (t : TransferView) (k : Kept) (stage : TransferStage) → IsGoing stage →
-    goes_on limits speed place t k stage ≡ Reading place t k
-going_on limits speed place t k Setup going = refl
-going_on limits speed place t k DataIn going = refl
-going_on limits speed place t k DataOut going = refl
-going_on limits speed place t k StatusOut going = refl
-going_on limits speed place t k StatusIn going = refl
-going_on limits speed place t k Completed going = absurd (going)
-going_on limits speed place t k (Failed why) going = absurd (going)
+pub going_on : (limits : LimitView) (terms : Terms) (place : Place) (t : TransferView) (k : Kept) (stage : TransferStage) → IsGoing stage →
+    goes_on limits terms place t k stage ≡ Reading place t k
+going_on limits terms place t k Setup going = refl
+going_on limits terms place t k DataIn going = refl
+going_on limits terms place t k DataOut going = refl
+going_on limits terms place t k StatusOut going = refl
+going_on limits terms place t k StatusIn going = refl
+going_on limits terms place t k Completed going = absurd (going)
+going_on limits terms place t k (Failed why) going = absurd (going)
 
-failing_on : (limits : LimitView) (speed : Speed) (place : Place) (t : TransferView) (k : Kept) (why : Why) →
-    goes_on limits speed place t k (Failed why) ≡ enter limits (ended_leads speed place t k (endings.Failed why))
-failing_on limits speed place t k NoAnswer = refl
-failing_on limits speed place t k Busy = refl
-failing_on limits speed place t k Stalled = refl
-failing_on limits speed place t k TooLong = refl
-failing_on limits speed place t k Unexpected = refl
-failing_on limits speed place t k Malformed = refl
-failing_on limits speed place t k Memory = refl
+passing_on : (terms : Terms) (place : Place) (t : TransferView) (k : Kept) (stage : TransferStage) → IsGoing stage → passes_over terms place t k stage ≡ []
+passing_on terms place t k Setup going = refl
+passing_on terms place t k DataIn going = refl
+passing_on terms place t k DataOut going = refl
+passing_on terms place t k StatusOut going = refl
+passing_on terms place t k StatusIn going = refl
+passing_on terms place t k Completed going = absurd (going)
+passing_on terms place t k (Failed why) going = absurd (going)
 
--- the read goes on
-takes_on : (limits : LimitView) (speed : Speed) (place : Place) (old : Kept) (by : Taken) (k : Kept) (heard : Hearing) (result : Result Progress SetFault) →
-    by.heard ≡ heard → StageOf heard by.transfer.stage → KeepsHeard old heard result k → EndsBy old heard result None →
-    TakesHeard limits speed place old by (Reading place by.transfer k)
-takes_on limits speed place old by k Goes result e stage keeps fine =
-    (result, k, subst (λ h. KeepsHeard old h result k) (sym e) keeps, inr (subst (λ h. LacksMemory h old result → ⊥) (sym e) (λ lacks. lacks), sym (going_on limits speed place by.transfer k by.transfer.stage stage)))
-takes_on limits speed place old by k (Brings bytes) result e stage keeps fine =
-    (result, k, subst (λ h. KeepsHeard old h result k) (sym e) keeps, inr (subst (λ h. LacksMemory h old result → ⊥) (sym e) fine, sym (going_on limits speed place by.transfer k by.transfer.stage stage)))
-takes_on limits speed place old by k Completes result e stage keeps fine = absurd (fine)
-takes_on limits speed place old by k (Fails why) result e stage keeps fine = absurd (fine)
+-- nothing is added
+adds_none : (before after more : List Trouble) → after ≡ before → more ≡ [] → after ≡ before ++ more
+adds_none before after more same none = same ∙ sym (append-nil before) ∙ ap (λ x. before ++ x) (sym none)
 
--- the read ends, and leads on or finds no memory
-no_memory : (limits : LimitView) (speed : Speed) (place : Place) (t : TransferView) (k : Kept) (next : Place) → LeadsOn speed place t k (endings.Failed Memory) next →
-    enter limits next ≡ Ended (stopped place Memory)
-no_memory limits speed place t k next (inl (grows, e)) = ap (λ x. enter limits x) e
-no_memory limits speed place t k next (inr e) = ap (λ x. enter limits x) e
+module _ (limits : LimitView) (terms : Terms) (place : Place) where
+  -- the read goes on
+  takes_on : (old : Kept) (by : Taken) (k : Kept) (heard : Hearing) (result : Result Progress SetFault) (before after : List Trouble) →
+      by.heard ≡ heard → StageOf heard by.transfer.stage → KeepsHeard old heard result k → EndsBy old heard result None → after ≡ before →
+      TakesHeard limits terms place old by (Reading place by.transfer k) before after
+  takes_on old by k Goes result b a e stage keeps fine same = (
+    result,
+    k,
+    subst (λ h. KeepsHeard old h result k) (sym e) keeps,
+    inr (
+      subst (λ h. LacksMemory h old result → ⊥) (sym e) (λ lacks. lacks),
+      sym (going_on limits terms place by.transfer k by.transfer.stage stage),
+      adds_none b a (passes_over terms place by.transfer k by.transfer.stage) same (passing_on terms place by.transfer k by.transfer.stage stage),
+    ),
+  )
+  takes_on old by k (Brings bytes) result b a e stage keeps fine same = (
+    result,
+    k,
+    subst (λ h. KeepsHeard old h result k) (sym e) keeps,
+    inr (
+      subst (λ h. LacksMemory h old result → ⊥) (sym e) fine,
+      sym (going_on limits terms place by.transfer k by.transfer.stage stage),
+      adds_none b a (passes_over terms place by.transfer k by.transfer.stage) same (passing_on terms place by.transfer k by.transfer.stage stage),
+    ),
+  )
+  takes_on old by k Completes result b a e stage keeps fine same = absurd (fine)
+  takes_on old by k (Fails why) result b a e stage keeps fine same = absurd (fine)
 
--- where a place takes memory for a read that leads on
-wants_to_grow : (limits : LimitView) (heard as_heard : Hearing) (place target : Place) (next : HostPhase) → heard ≡ as_heard → GrowsTo as_heard place target →
-    next ≡ enter limits target → WantsToGrow heard place next
-wants_to_grow limits heard as_heard place target next e (grows, goes) there =
-    (subst (λ h. Grows h place) (sym e) grows, λ ends. goes_on_there limits target (stopped place Malformed) goes (sym there ∙ ends))
+  -- the read ends, and leads where what was heard leads, or finds no memory
+  leads_end : (old : Kept) (by : Taken) (k : Kept) (heard : Hearing) (result : Result Progress SetFault) (target next : Place) (before after : List Trouble) →
+      by.heard ≡ heard → KeepsHeard old heard result k → (LacksMemory heard old result → ⊥) →
+      goes_on limits terms place by.transfer k by.transfer.stage ≡ enter limits (spared terms.choice.strings place target) →
+      passes_over terms place by.transfer k by.transfer.stage ≡ forgiven_by terms.choice.strings place target →
+      Leads terms.choice.strings heard place target next before after → TakesHeard limits terms place old by (enter limits next) before after
+  leads_end old by k heard result target next b a e keeps fine goes passes (inl (grows, m, same)) = (
+    result,
+    k,
+    subst (λ h. KeepsHeard old h result k) (sym e) keeps,
+    inl (
+      inr (
+        subst (λ h. Grows terms.choice.strings h place) (sym e) grows.0,
+        λ ends. goes_on_there limits (spared terms.choice.strings place target) (stopped place Malformed) grows.1 (sym goes ∙ ends),
+      ),
+      ap (λ x. enter limits x) m,
+      same,
+    ),
+  )
+  leads_end old by k heard result target next b a e keeps fine goes passes (inr (m, adds)) = (
+    result,
+    k,
+    subst (λ h. KeepsHeard old h result k) (sym e) keeps,
+    inr (
+      subst (λ h. LacksMemory h old result → ⊥) (sym e) fine,
+      ap (λ x. enter limits x) m ∙ sym goes,
+      adds ∙ ap (λ x. b ++ x) (sym passes),
+    ),
+  )
 
-takes_end : (limits : LimitView) (speed : Speed) (place : Place) (old : Kept) (by : Taken) (k : Kept) (heard : Hearing) (result : Result Progress SetFault)
-    (ending : Ending) (next : Place) → by.heard ≡ heard → StageOf heard by.transfer.stage → KeepsHeard old heard result k → EndsBy old heard result (Some ending) →
-    LeadsOn speed place by.transfer k ending next → TakesHeard limits speed place old by (enter limits next)
-takes_end limits speed place old by k Goes result ending next e stage keeps ends leads = absurd (ends)
-takes_end limits speed place old by k (Brings bytes) result endings.Completed next e stage keeps ends leads = absurd (ends)
-takes_end limits speed place old by k (Brings bytes) result (endings.Failed why) next e stage keeps ends leads = (
-  result,
-  k,
-  subst (λ h. KeepsHeard old h result k) (sym e) keeps,
-  inl (inl (subst (λ h. LacksMemory h old result) (sym e) ends.1), no_memory limits speed place by.transfer k next (subst (λ w. LeadsOn speed place by.transfer k (endings.Failed w) next) ends.0 leads)),
-)
-takes_end limits speed place old by k Completes result endings.Completed next e stage keeps ends (inl (grows, m)) = (
-  result,
-  k,
-  subst (λ h. KeepsHeard old h result k) (sym e) keeps,
-  inl (
-    inr (wants_to_grow limits by.heard Completes place (completed_leads speed place by.transfer k) (goes_on limits speed place by.transfer k by.transfer.stage)
-        e grows (ap (λ x. goes_on limits speed place by.transfer k x) stage)),
-    ap (λ x. enter limits x) m,
-  ),
-)
-takes_end limits speed place old by k Completes result endings.Completed next e stage keeps ends (inr m) = (
-  result,
-  k,
-  subst (λ h. KeepsHeard old h result k) (sym e) keeps,
-  inr (subst (λ h. LacksMemory h old result → ⊥) (sym e) (λ lacks. lacks), ap (λ x. enter limits x) m ∙ ap (λ x. goes_on limits speed place by.transfer k x) (sym stage)),
-)
-takes_end limits speed place old by k Completes result (endings.Failed why) next e stage keeps ends leads = absurd (ends)
-takes_end limits speed place old by k (Fails why) result endings.Completed next e stage keeps ends leads = absurd (ends)
-takes_end limits speed place old by k (Fails why) result (endings.Failed w) next e stage keeps ends (inl (grows, m)) = (
-  result,
-  k,
-  subst (λ h. KeepsHeard old h result k) (sym e) keeps,
-  inl (
-    inr (wants_to_grow limits by.heard (Fails why) place (ended_leads speed place by.transfer k (endings.Failed why))
-        (goes_on limits speed place by.transfer k by.transfer.stage) e
-        (subst (λ y. GrowsTo (Fails y) place (ended_leads speed place by.transfer k (endings.Failed y))) ends grows)
-        (ap (λ x. goes_on limits speed place by.transfer k x) stage ∙ failing_on limits speed place by.transfer k why)),
-    ap (λ x. enter limits x) m,
-  ),
-)
-takes_end limits speed place old by k (Fails why) result (endings.Failed w) next e stage keeps ends (inr m) = (
-  result,
-  k,
-  subst (λ h. KeepsHeard old h result k) (sym e) keeps,
-  inr (
-    subst (λ h. LacksMemory h old result → ⊥) (sym e) (λ lacks. lacks),
-    ap (λ x. enter limits x) m ∙ ap (λ x. enter limits (ended_leads speed place by.transfer k (endings.Failed x))) ends
-        ∙ sym (failing_on limits speed place by.transfer k why) ∙ ap (λ x. goes_on limits speed place by.transfer k x) (sym stage),
-  ),
-)
+  -- the read ends here
+  stops_end : (old : Kept) (by : Taken) (k : Kept) (why : Why) (result : Result Progress SetFault) (next : Place) (before after : List Trouble) →
+      by.heard ≡ Fails why → by.transfer.stage ≡ Failed why → KeepsHeard old (Fails why) result k →
+      goes_on limits terms place by.transfer k (Failed why) ≡ Ended (stopped place why) → passes_over terms place by.transfer k (Failed why) ≡ [] →
+      (next ≡ stopped place why) × (after ≡ before) → TakesHeard limits terms place old by (enter limits next) before after
+  stops_end old by k why result next b a e stage keeps goes passes (m, same) = (
+    result,
+    k,
+    subst (λ h. KeepsHeard old h result k) (sym e) keeps,
+    inr (
+      subst (λ h. LacksMemory h old result → ⊥) (sym e) (λ lacks. lacks),
+      ap (λ x. enter limits x) m ∙ sym goes ∙ ap (λ x. goes_on limits terms place by.transfer k x) (sym stage),
+      adds_none b a (passes_over terms place by.transfer k by.transfer.stage) same (ap (λ x. passes_over terms place by.transfer k x) stage ∙ passes),
+    ),
+  )
 
--- both, for what a read heard
-pub hears_on : (limits : LimitView) (speed : Speed) (place : Place) (t u : TransferView) (old k : Kept) (answer : Answer) → IsGoing t.stage → is_end place ≡ false →
-    Hears old (taken t answer) u k None → TakesHeard limits speed place old (taken t answer) (standing place u k)
-hears_on limits speed place t u old k answer going reads (is, (result, keeps, ends)) =
-    let on = takes_on limits speed place old (taken t answer) k (taken t answer).heard result refl (heeds t answer going).stage keeps ends in
-    let here : Reading place (taken t answer).transfer k ≡ standing place u k = ap (λ x. Reading place x k) (sym is) ∙ sym (ap (λ b. if b then Ended place else Reading place u k) reads) in
-    subst (λ x. TakesHeard limits speed place old (taken t answer) x) here on
+  fails_end : (old : Kept) (by : Taken) (k : Kept) (why : Why) (result : Result Progress SetFault) (next : Place) (before after : List Trouble) →
+      by.heard ≡ Fails why → by.transfer.stage ≡ Failed why → KeepsHeard old (Fails why) result k →
+      LeadsOn terms place by.transfer k (endings.Failed why) next before after → TakesHeard limits terms place old by (enter limits next) before after
+  fails_end old by k Stalled result next b a e stage keeps leads =
+      leads_end old by k (Fails Stalled) result (refused_leads terms place) next b a e keeps (λ lacks. lacks)
+      (ap (λ x. goes_on limits terms place by.transfer k x) stage) (ap (λ x. passes_over terms place by.transfer k x) stage) leads
+  fails_end old by k NoAnswer result next b a e stage keeps ends = stops_end old by k NoAnswer result next b a e stage keeps refl refl ends
+  fails_end old by k Busy result next b a e stage keeps ends = stops_end old by k Busy result next b a e stage keeps refl refl ends
+  fails_end old by k TooLong result next b a e stage keeps ends = stops_end old by k TooLong result next b a e stage keeps refl refl ends
+  fails_end old by k Unexpected result next b a e stage keeps ends = stops_end old by k Unexpected result next b a e stage keeps refl refl ends
+  fails_end old by k Malformed result next b a e stage keeps ends = stops_end old by k Malformed result next b a e stage keeps refl refl ends
+  fails_end old by k Memory result next b a e stage keeps ends = stops_end old by k Memory result next b a e stage keeps refl refl ends
 
-pub hears_end : (limits : LimitView) (speed : Speed) (place : Place) (t u : TransferView) (old k : Kept) (answer : Answer) (ending : Ending) (next : Place) →
-    IsGoing t.stage → Hears old (taken t answer) u k (Some ending) → LeadsOn speed place u k ending next →
-    TakesHeard limits speed place old (taken t answer) (enter limits next)
-hears_end limits speed place t u old k answer ending next going (is, (result, keeps, ends)) leads =
-    takes_end limits speed place old (taken t answer) k (taken t answer).heard result ending next refl (heeds t answer going).stage keeps ends
-    (subst (λ x. LeadsOn speed place x k ending next) is leads)
+  takes_end : (old : Kept) (by : Taken) (k : Kept) (heard : Hearing) (result : Result Progress SetFault) (ending : Ending) (next : Place) (before after : List Trouble) →
+      by.heard ≡ heard → StageOf heard by.transfer.stage → KeepsHeard old heard result k → EndsBy old heard result (Some ending) →
+      LeadsOn terms place by.transfer k ending next before after → TakesHeard limits terms place old by (enter limits next) before after
+  takes_end old by k Goes result ending next b a e stage keeps ends leads = absurd (ends)
+  takes_end old by k (Brings bytes) result endings.Completed next b a e stage keeps ends leads = absurd (ends)
+  takes_end old by k (Brings bytes) result (endings.Failed why) next b a e stage keeps ends leads =
+      let (m, same) = subst (λ w. LeadsOn terms place by.transfer k (endings.Failed w) next b a) ends.0 leads in (
+        result,
+        k,
+        subst (λ h. KeepsHeard old h result k) (sym e) keeps,
+        inl (inl (subst (λ h. LacksMemory h old result) (sym e) ends.1), ap (λ x. enter limits x) m, same),
+      )
+  takes_end old by k Completes result endings.Completed next b a e stage keeps ends leads =
+      leads_end old by k Completes result (completed_leads terms place by.transfer k) next b a e keeps (λ lacks. lacks)
+      (ap (λ x. goes_on limits terms place by.transfer k x) stage) (ap (λ x. passes_over terms place by.transfer k x) stage) leads
+  takes_end old by k Completes result (endings.Failed why) next b a e stage keeps ends leads = absurd (ends)
+  takes_end old by k (Fails why) result endings.Completed next b a e stage keeps ends leads = absurd (ends)
+  takes_end old by k (Fails why) result (endings.Failed w) next b a e stage keeps ends leads =
+      fails_end old by k why result next b a e stage keeps (subst (λ x. LeadsOn terms place by.transfer k (endings.Failed x) next b a) ends leads)
+
+  -- both, for what a read heard
+  pub hears_on : (t u : TransferView) (old k : Kept) (answer : Answer) (before after : List Trouble) → IsGoing t.stage → is_end place ≡ false →
+      Hears old (taken t answer) u k None → after ≡ before → TakesHeard limits terms place old (taken t answer) (standing place u k) before after
+  hears_on t u old k answer b a going reads (is, (result, keeps, ends)) same =
+      let on = takes_on old (taken t answer) k (taken t answer).heard result b a refl (heeds t answer going).stage keeps ends same in
+      let here : Reading place (taken t answer).transfer k ≡ standing place u k = ap (λ x. Reading place x k) (sym is) ∙ sym (ap (λ b. if b then Ended place else Reading place u k) reads) in
+      subst (λ x. TakesHeard limits terms place old (taken t answer) x b a) here on
+
+  pub hears_end : (t u : TransferView) (old k : Kept) (answer : Answer) (ending : Ending) (next : Place) (before after : List Trouble) →
+      IsGoing t.stage → Hears old (taken t answer) u k (Some ending) → LeadsOn terms place u k ending next before after →
+      TakesHeard limits terms place old (taken t answer) (enter limits next) before after
+  hears_end t u old k answer ending next b a going (is, (result, keeps, ends)) leads =
+      takes_end old (taken t answer) k (taken t answer).heard result ending next b a refl (heeds t answer going).stage keeps ends
+      (subst (λ x. LeadsOn terms place x k ending next b a) is leads)
 
 -- what is heard where new bytes are kept, and memory was not wanting
 pub hears_brings : (by : Taken) (old new : Kept) (bytes : List ℕ) → Brings bytes ≡ by.heard → Adds old bytes false new →

@@ -1,4 +1,5 @@
 pub mod Read
+pub mod Terms
 pub mod Place
 pub mod Order
 pub mod Keeping

@@ -1,6 +1,6 @@
 -- The order of the reads of an enumeration, and where each leads to (USB 2.0, 9.1.2, 9.4 and 9.6).
-use Rattle.std.specs.Prelude.{ℕ, ◌*◌, ◌/◌, ◌%◌, ◌==◌, ◌&&◌, not, nat_lt, Bool, false, if◌then◌else◌, List, [], ◌∷◌, ◌++◌, length, take, slice_index, Option, Some, None}
-use Rattle.usb_fields.specs.declared.packet.Speed.{Speed}
+use Rattle.std.specs.Prelude.{ℕ, ◌*◌, ◌/◌, ◌%◌, ◌==◌, ◌&&◌, ◌||◌, not, nat_lt, Bool, true, false, if◌then◌else◌, List, [], ◌∷◌, ◌++◌, length, take, slice_index, Option, Some, None}
+use Rattle.usb_fields.specs.Units.{units_bytes}
 use Rattle.usb_fields.specs.declared.device.DeviceDescriptor.{DeviceDescriptor}
 use Rattle.usb_fields.specs.declared.qualifier.Qualifier.{Qualifier}
 use Rattle.usb_set.specs.declared.tree.SetKind.{SetKind}
@@ -12,6 +12,9 @@ use Rattle.usb_file_data.specs.declared.file.Other.{Other}
 use Rattle.usb_file_data.specs.declared.file.Strings.{Strings}
 use Rattle.usb_file_data.specs.File.{named_indices, other_sets}
 use Rattle.usb_file_data.specs.Front.{with_set, with_qualifier, with_strings}
+use Rattle.usb_host.specs.declared.choice.NamedStrings.{NamedStrings}
+use Rattle.usb_host.specs.declared.choice.Terms.{Terms}
+use Rattle.usb_host.specs.Terms.{forgives_any, is_asked}
 use Rattle.usb_host.specs.declared.why.Why.{Why}
 use Rattle.usb_host.specs.declared.why.Why.TheVariants.{Stalled, Malformed}
 use Rattle.usb_host.specs.declared.reply.Reply.{Reply}
@@ -19,6 +22,7 @@ use Rattle.usb_host.specs.declared.reply.Reply.TheVariants.{Bytes, Done, Refused
 use Rattle.usb_host.specs.Plan.{Plan, Begin, Success, GivesUp}
 use Rattle.usb_host.specs.declared.step.Step.{Step}
 use Rattle.usb_host.specs.declared.step.Step.TheVariants as steps
+use Rattle.usb_host.specs.declared.step.Trouble.{Trouble}
 use Rattle.usb_host.specs.Place.{Place, First, Address, Device, Header, Set, Qualifier as SecondSpeed, Languages, Text, Configure, Reported, Stopped}
 use Rattle.usb_host.specs.Read.{get_descriptor, set_address, set_configuration, same_bytes, device_of, qualifier_of, units_of, is_first, may_have_second, total_in}
 
@@ -105,25 +109,27 @@ abbrev pub texts_due : DescriptorFile → Strings → List ℕ → Place
 texts_due f s named =
     if nat_lt (length s.texts) (length s.languages * length named) then Text f s named else Configure (with_strings s f)
 
--- the strings, if an index is named
-abbrev pub strings_due : DescriptorFile → Place
-strings_due f = if length (named_indices f) == 0 then Configure f else Languages f (named_indices f)
+-- the strings, if they are asked for and an index is named
+abbrev pub strings_due : Terms → DescriptorFile → Place
+strings_due terms f =
+    if not (is_asked terms.choice.strings) || (length (named_indices f) == 0) then Configure f else Languages f (named_indices f)
 
--- after all sets of a kind
-abbrev pub after_sets : Speed → SetKind → DescriptorFile → Place
-after_sets speed kinds.Configuration f = if may_have_second speed f.device then SecondSpeed f else strings_due f
-after_sets speed kinds.OtherSpeed f = strings_due f
+-- after all sets of a kind: the other speed, if it is asked for and there may be one
+abbrev pub after_sets : Terms → SetKind → DescriptorFile → Place
+after_sets terms kinds.Configuration f =
+    if terms.choice.other_speed && may_have_second terms.speed f.device then SecondSpeed f else strings_due terms f
+after_sets terms kinds.OtherSpeed f = strings_due terms f
 
 -- the next set of a kind, or what comes after them
-abbrev pub sets_due : Speed → SetKind → DescriptorFile → Place
-sets_due speed kind f = if nat_lt (length (sets_of kind f)) (declared_sets kind f) then Header kind f else after_sets speed kind f
+abbrev pub sets_due : Terms → SetKind → DescriptorFile → Place
+sets_due terms kind f = if nat_lt (length (sets_of kind f)) (declared_sets kind f) then Header kind f else after_sets terms kind f
 
 -- after the device descriptor, which begins with the bytes that were read first and declares a configuration
-abbrev pub device_leads : Speed → Place → List ℕ → List ℕ → Option DeviceDescriptor → Place
-device_leads speed place first b None = stopped place Malformed
-device_leads speed place first b (Some d) =
+abbrev pub device_leads : Terms → Place → List ℕ → List ℕ → Option DeviceDescriptor → Place
+device_leads terms place first b None = stopped place Malformed
+device_leads terms place first b (Some d) =
     if same_bytes (take 8 b) first && not (d.configurations == 0)
-    then sets_due speed kinds.Configuration (record { device = d; sets = []; other = None; strings = None })
+    then sets_due terms kinds.Configuration (record { device = d; sets = []; other = None; strings = None })
     else stopped place Malformed
 
 -- after the header of a set
@@ -132,17 +138,17 @@ header_leads place kind f None = stopped place Malformed
 header_leads place kind f (Some total) = Set kind f total
 
 -- after a set of so many bytes: just those that its header announced, of its kind, and the first one can be selected
-abbrev pub set_leads : Speed → Place → SetKind → DescriptorFile → ℕ → ℕ → Option Configuration → Place
-set_leads speed place kind f total count None = stopped place Malformed
-set_leads speed place kind f total count (Some c) =
+abbrev pub set_leads : Terms → Place → SetKind → DescriptorFile → ℕ → ℕ → Option Configuration → Place
+set_leads terms place kind f total count None = stopped place Malformed
+set_leads terms place kind f total count (Some c) =
     if (count == total) && (type_number c.kind == type_number kind) && not (is_first_zero kind (sets_of kind f) c)
-    then sets_due speed kind (with_set kind c f)
+    then sets_due terms kind (with_set kind c f)
     else stopped place Malformed
 
 -- after the qualifier
-abbrev pub qualifier_leads : Speed → Place → DescriptorFile → Option Qualifier → Place
-qualifier_leads speed place f None = stopped place Malformed
-qualifier_leads speed place f (Some q) = sets_due speed kinds.OtherSpeed (with_qualifier q f)
+abbrev pub qualifier_leads : Terms → Place → DescriptorFile → Option Qualifier → Place
+qualifier_leads terms place f None = stopped place Malformed
+qualifier_leads terms place f (Some q) = sets_due terms kinds.OtherSpeed (with_qualifier q f)
 
 -- after the language list, which has a language
 abbrev pub languages_lead : Place → DescriptorFile → List ℕ → Option (List ℕ) → Place
@@ -156,14 +162,14 @@ text_leads place f s named None = stopped place Malformed
 text_leads place f s named (Some u) = texts_due f (record s { texts = s.texts ++ u ∷ [] }) named
 
 -- Where the bytes of a read lead to that has completed. A set goes another way: its bytes go to a decoder.
-abbrev pub bytes_lead : Speed → Place → List ℕ → Place
-bytes_lead speed First b = if is_first speed b then Address b else stopped First Malformed
-bytes_lead speed (Device first) b = device_leads speed (Device first) first b (device_of b)
-bytes_lead speed (Header kind f) b = header_leads (Header kind f) kind f (total_in (type_number kind) b)
-bytes_lead speed (SecondSpeed f) b = qualifier_leads speed (SecondSpeed f) f (qualifier_of b)
-bytes_lead speed (Languages f named) b = languages_lead (Languages f named) f named (units_of b)
-bytes_lead speed (Text f s named) b = text_leads (Text f s named) f s named (units_of b)
-bytes_lead speed place b = stopped place Malformed
+abbrev pub bytes_lead : Terms → Place → List ℕ → Place
+bytes_lead terms First b = if is_first terms.speed b then Address b else stopped First Malformed
+bytes_lead terms (Device first) b = device_leads terms (Device first) first b (device_of b)
+bytes_lead terms (Header kind f) b = header_leads (Header kind f) kind f (total_in (type_number kind) b)
+bytes_lead terms (SecondSpeed f) b = qualifier_leads terms (SecondSpeed f) f (qualifier_of b)
+bytes_lead terms (Languages f named) b = languages_lead (Languages f named) f named (units_of b)
+bytes_lead terms (Text f s named) b = text_leads (Text f s named) f s named (units_of b)
+bytes_lead terms place b = stopped place Malformed
 
 -- where a request without data leads to that was carried out
 abbrev pub done_leads : Place → Place
@@ -172,15 +178,73 @@ done_leads (Configure f) = Reported f
 done_leads place = stopped place Malformed
 
 -- where a request leads to that was refused: a device without a second speed refuses to give a qualifier (9.6.2)
-abbrev pub refused_leads : Place → Place
-refused_leads (SecondSpeed f) = strings_due f
-refused_leads place = stopped place Stalled
+abbrev pub refused_leads : Terms → Place → Place
+refused_leads terms (SecondSpeed f) = strings_due terms f
+refused_leads terms place = stopped place Stalled
 
--- Where a reply leads to, for a reader of sets. After the end nothing moves.
-abbrev pub next : (List ℕ → Option Configuration) → Speed → Place → Reply → Place
-next set_of speed (Reported f) reply = Reported f
-next set_of speed (Stopped trouble) reply = Stopped trouble
-next set_of speed (Set kind f total) (Bytes b) = set_leads speed (Set kind f total) kind f total (length b) (set_of b)
-next set_of speed place (Bytes b) = bytes_lead speed place b
-next set_of speed place Done = done_leads place
-next set_of speed place Refused = refused_leads place
+-- Strings that may be missing.
+
+-- whether strings are read at a place
+abbrev pub is_of_strings : Place → Bool
+is_of_strings (Languages f named) = true
+is_of_strings (Text f s named) = true
+is_of_strings place = false
+
+-- whether a device gave no string, and nothing else is wrong: it refused it, or gave what is none
+abbrev pub lacks_string : Why → Bool
+lacks_string Stalled = true
+lacks_string Malformed = true
+lacks_string why = false
+
+-- whether trouble at a place is passed over
+abbrev pub forgives : NamedStrings → Place → Why → Bool
+forgives texts here why = forgives_any texts && (is_of_strings here && lacks_string why)
+
+-- Where the enumeration goes on then, with a stand-in for what was asked for: of the language list 0x0409, English (United
+-- States) alone, and of a string the empty one.
+abbrev pub stand_in : Place → Place
+stand_in (Languages f named) = texts_due f (record { languages = 0x0409 ∷ []; texts = [] }) named
+stand_in (Text f s named) = texts_due f (record s { texts = s.texts ++ [] ∷ [] }) named
+stand_in place = place
+
+-- the bytes of the stand-in
+abbrev pub stand_in_bytes : Place → List ℕ
+stand_in_bytes (Languages f named) = units_bytes (0x0409 ∷ [])
+stand_in_bytes (Text f s named) = units_bytes []
+stand_in_bytes place = []
+
+-- whether a read here, which leads there, ends without a string and with nothing else that is wrong
+abbrev pub ends_lacking : Place → Place → Bool
+ends_lacking here (Stopped trouble) = is_of_strings here && lacks_string trouble.why
+ends_lacking here there = false
+
+-- whether that is passed over
+abbrev pub is_spared : NamedStrings → Place → Place → Bool
+is_spared texts here there = forgives_any texts && ends_lacking here there
+
+-- where it leads to then
+abbrev pub spared : NamedStrings → Place → Place → Place
+spared texts here there = if is_spared texts here there then stand_in here else there
+
+-- the trouble that is passed over, if there is any
+abbrev pub forgiven_by : NamedStrings → Place → Place → List Trouble
+forgiven_by texts here (Stopped trouble) =
+    if is_spared texts here (Stopped trouble) then (record { step = step_of here; why = trouble.why }) ∷ [] else []
+forgiven_by texts here there = []
+
+-- the bytes that count, of those that came
+abbrev pub counted : NamedStrings → Place → Place → List ℕ → List ℕ
+counted texts here there b = if is_spared texts here there then stand_in_bytes here else b
+
+-- Where a reply leads to, for a reader of sets, before anything is passed over. After the end nothing moves.
+abbrev pub leads : (List ℕ → Option Configuration) → Terms → Place → Reply → Place
+leads set_of terms (Reported f) reply = Reported f
+leads set_of terms (Stopped trouble) reply = Stopped trouble
+leads set_of terms (Set kind f total) (Bytes b) = set_leads terms (Set kind f total) kind f total (length b) (set_of b)
+leads set_of terms place (Bytes b) = bytes_lead terms place b
+leads set_of terms place Done = done_leads place
+leads set_of terms place Refused = refused_leads terms place
+
+-- where a reply leads to
+abbrev pub next : (List ℕ → Option Configuration) → Terms → Place → Reply → Place
+next set_of terms place reply = spared terms.choice.strings place (leads set_of terms place reply)

@@ -1,11 +1,15 @@
 -- A host, as its callers see it, and its steps.
 use Rattle.std.specs.Borrow.{Bor}
-use Rattle.std.specs.Prelude.{◌≡◌, ℕ, suc, ◌==◌, ◌&&◌, nat_lt, Bool, true, false, if◌then◌else◌, Option, Some, None, Result, Ok, Err, ◌⊎◌}
+use Rattle.std.specs.Prelude.{◌≡◌, ℕ, suc, ◌==◌, ◌&&◌, nat_lt, Bool, true, false, if◌then◌else◌, List, [], ◌++◌, Option, Some, None, Result, Ok, Err, IsTrue, ◌⊎◌}
 use Rattle.usb_fields.specs.declared.packet.Speed.{Speed}
 use Rattle.usb_fields.specs.Packets.{Reply, Sent, sent_of}
 use Rattle.usb_set.specs.declared.fault.SetFault.{SetFault}
 use Rattle.usb_set.specs.declared.decoder.Progress.{Progress}
 use Rattle.usb_file_data.specs.declared.file.DescriptorFile.{DescriptorFile}
+use Rattle.usb_host.specs.declared.choice.NamedStrings.{NamedStrings}
+use Rattle.usb_host.specs.declared.choice.Choice.{Choice}
+use Rattle.usb_host.specs.declared.choice.Terms.{Terms}
+use Rattle.usb_host.specs.Terms.{everything, forgives_any}
 use Rattle.usb_host.specs.declared.why.Why.{Why}
 use Rattle.usb_host.specs.declared.why.Why.TheVariants.{NoAnswer, Busy, Stalled, TooLong, Unexpected, Malformed, Memory}
 use Rattle.usb_host.specs.declared.transfer.TransferStage.{TransferStage}
@@ -19,7 +23,7 @@ use Rattle.usb_host.specs.declared.step.Step.{Step}
 use Rattle.usb_host.specs.declared.step.Trouble.{Trouble}
 use Rattle.usb_host.specs.Place.{Place, First, Set, Qualifier, Languages, Text, Reported, Stopped}
 use Rattle.usb_host.specs.Keeping as kept
-use Rattle.usb_host.specs.Order.{asks, step_of, stopped, bytes_lead, set_leads, done_leads, refused_leads}
+use Rattle.usb_host.specs.Order.{asks, step_of, stopped, bytes_lead, set_leads, done_leads, refused_leads, spared, forgiven_by}
 use Rattle.usb_host.specs.Keeping.{Kept, nothing_kept, WantsMemory, Keeps, set_kept}
 
 -- a bus reset is due; or a read is in work, with its transfer and what is kept of its bytes; or there is an outcome
@@ -32,13 +36,25 @@ pub data HostPhase : Type 0 where
 pub record HostView : Type 0 where
   pub limits : LimitView
   pub speed : Speed
+  pub choice : Choice
   -- the bus resets so far
   pub resets : ℕ
   pub phase : HostPhase
+  -- the troubles that were passed over since the last of these, in order
+  pub forgiven : List Trouble
 
--- a new host
+-- a new host that asks for so much
+abbrev pub chosen_host : LimitView → Speed → Choice → HostView
+chosen_host limits speed choice =
+    record { limits = limits; speed = speed; choice = choice; resets = 0; phase = ResetDue; forgiven = [] }
+
+-- a new host that asks for all of a file
 abbrev pub new_host : LimitView → Speed → HostView
-new_host limits speed = record { limits = limits; speed = speed; resets = 0; phase = ResetDue }
+new_host limits speed = chosen_host limits speed everything
+
+-- what the order of its reads depends on
+abbrev pub terms_of : HostView → Terms
+terms_of v = record { speed = v.speed; choice = v.choice }
 
 -- what a host wants done
 pub data Wanted : Type 0 where
@@ -105,7 +121,7 @@ enter limits place = entered limits.naks place (asks limits.address place)
 
 -- Where a host after a bus reset begins: with the first read, and nothing of an attempt before.
 abbrev pub reset_in : HostView → HostPhase → HostView
-reset_in v ResetDue = record v { resets = suc v.resets; phase = enter v.limits First }
+reset_in v ResetDue = record v { resets = suc v.resets; phase = enter v.limits First; forgiven = [] }
 reset_in v phase = v
 
 -- the bus was reset: where no reset is due, nothing changes
@@ -125,26 +141,32 @@ settled attempts resets (Ended (Stopped trouble)) =
 settled attempts resets phase = phase
 
 -- where a read leads to that has completed with so many bytes
-abbrev pub read_leads : Speed → Place → ℕ → Kept → Place
-read_leads speed place count (kept.Bytes bytes) = bytes_lead speed place bytes
-read_leads speed (Set kind f total) count (kept.Set d over) = set_leads speed (Set kind f total) kind f total count (set_kept d over)
-read_leads speed place count (kept.Set d over) = stopped place Malformed
+abbrev pub read_leads : Terms → Place → ℕ → Kept → Place
+read_leads terms place count (kept.Bytes bytes) = bytes_lead terms place bytes
+read_leads terms (Set kind f total) count (kept.Set d over) = set_leads terms (Set kind f total) kind f total count (set_kept d over)
+read_leads terms place count (kept.Set d over) = stopped place Malformed
 
 -- where a transfer leads to that has completed
-abbrev pub completed_leads : Speed → Place → TransferView → Kept → Place
-completed_leads speed place t k = if t.request.length == 0 then done_leads place else read_leads speed place t.kept k
+abbrev pub completed_leads : Terms → Place → TransferView → Kept → Place
+completed_leads terms place t k = if t.request.length == 0 then done_leads place else read_leads terms place t.kept k
 
 -- after an answer, by the stage of the transfer
-abbrev pub goes_on : LimitView → Speed → Place → TransferView → Kept → TransferStage → HostPhase
-goes_on limits speed place t k Completed = enter limits (completed_leads speed place t k)
-goes_on limits speed place t k (Failed Stalled) = enter limits (refused_leads place)
-goes_on limits speed place t k (Failed NoAnswer) = Ended (stopped place NoAnswer)
-goes_on limits speed place t k (Failed Busy) = Ended (stopped place Busy)
-goes_on limits speed place t k (Failed TooLong) = Ended (stopped place TooLong)
-goes_on limits speed place t k (Failed Unexpected) = Ended (stopped place Unexpected)
-goes_on limits speed place t k (Failed Malformed) = Ended (stopped place Malformed)
-goes_on limits speed place t k (Failed Memory) = Ended (stopped place Memory)
-goes_on limits speed place t k stage = Reading place t k
+abbrev pub goes_on : LimitView → Terms → Place → TransferView → Kept → TransferStage → HostPhase
+goes_on limits terms place t k Completed = enter limits (spared terms.choice.strings place (completed_leads terms place t k))
+goes_on limits terms place t k (Failed Stalled) = enter limits (spared terms.choice.strings place (refused_leads terms place))
+goes_on limits terms place t k (Failed NoAnswer) = Ended (stopped place NoAnswer)
+goes_on limits terms place t k (Failed Busy) = Ended (stopped place Busy)
+goes_on limits terms place t k (Failed TooLong) = Ended (stopped place TooLong)
+goes_on limits terms place t k (Failed Unexpected) = Ended (stopped place Unexpected)
+goes_on limits terms place t k (Failed Malformed) = Ended (stopped place Malformed)
+goes_on limits terms place t k (Failed Memory) = Ended (stopped place Memory)
+goes_on limits terms place t k stage = Reading place t k
+
+-- and the trouble that is passed over, if there is any
+abbrev pub passes_over : Terms → Place → TransferView → Kept → TransferStage → List Trouble
+passes_over terms place t k Completed = forgiven_by terms.choice.strings place (completed_leads terms place t k)
+passes_over terms place t k (Failed Stalled) = forgiven_by terms.choice.strings place (refused_leads terms place)
+passes_over terms place t k stage = []
 
 -- new bytes change what is kept, and nothing else does
 abbrev pub KeepsHeard : Kept → Hearing → Result Progress SetFault → Kept → Type 0
@@ -159,36 +181,40 @@ LacksMemory (Brings bytes) (kept.Set d over) result = WantsMemory result
 LacksMemory heard old result = ⊥
 
 -- A read has ended for which a place takes memory: a set, a language list or a string, which are kept, or the qualifier,
--- after which and after whose refusal the indices of the strings are.
-abbrev pub Grows : Hearing → Place → Type 0
-Grows Completes (Set kind f total) = Unit {0}
-Grows Completes (Qualifier f) = Unit {0}
-Grows Completes (Languages f named) = Unit {0}
-Grows Completes (Text f s named) = Unit {0}
-Grows (Fails Stalled) (Qualifier f) = Unit {0}
-Grows heard place = ⊥
+-- after which and after whose refusal the indices of the strings are. And for a stand-in where a string was refused.
+abbrev pub Grows : NamedStrings → Hearing → Place → Type 0
+Grows texts Completes (Set kind f total) = Unit {0}
+Grows texts Completes (Qualifier f) = Unit {0}
+Grows texts Completes (Languages f named) = Unit {0}
+Grows texts Completes (Text f s named) = Unit {0}
+Grows texts (Fails Stalled) (Qualifier f) = Unit {0}
+Grows texts (Fails Stalled) (Languages f named) = IsTrue (forgives_any texts)
+Grows texts (Fails Stalled) (Text f s named) = IsTrue (forgives_any texts)
+Grows texts heard place = ⊥
 
 -- Memory was wanting at the end of a read that leads to this phase. What was read is judged before memory is asked for, so
--- a read that is malformed asks for none.
-abbrev pub WantsToGrow : Hearing → Place → HostPhase → Type 0
-WantsToGrow heard place next = Grows heard place × (next ≡ Ended (stopped place Malformed) → ⊥)
+-- a read that is malformed, and not passed over, asks for none.
+abbrev pub WantsToGrow : NamedStrings → Hearing → Place → HostPhase → Type 0
+WantsToGrow texts heard place next = Grows texts heard place × (next ≡ Ended (stopped place Malformed) → ⊥)
 
--- A host takes what its transfer made of an answer. The read goes on, or the next one begins; or memory was wanting where
--- it is asked for.
-abbrev pub TakesHeard : LimitView → Speed → Place → Kept → Taken → HostPhase → Type 0
-TakesHeard limits speed place old by new =
+-- A host takes what its transfer made of an answer, where these troubles were passed over before and after. The read goes
+-- on, or the next one begins; or memory was wanting where it is asked for.
+abbrev pub TakesHeard : LimitView → Terms → Place → Kept → Taken → HostPhase → List Trouble → List Trouble → Type 0
+TakesHeard limits terms place old by new before after =
     (result : Result Progress SetFault) × (k : Kept) × KeepsHeard old by.heard result k
-    × (let next = goes_on limits speed place by.transfer k by.transfer.stage in
-    ((LacksMemory by.heard old result ⊎ WantsToGrow by.heard place next) × (new ≡ Ended (stopped place Memory)))
-    ⊎ ((LacksMemory by.heard old result → ⊥) × (new ≡ next)))
+    × (let next = goes_on limits terms place by.transfer k by.transfer.stage in
+    ((LacksMemory by.heard old result ⊎ WantsToGrow terms.choice.strings by.heard place next)
+    × (new ≡ Ended (stopped place Memory)) × (after ≡ before))
+    ⊎ ((LacksMemory by.heard old result → ⊥)
+    × (new ≡ next) × (after ≡ before ++ passes_over terms place by.transfer k by.transfer.stage)))
 
 -- by the phase: only a read in work takes an answer
 abbrev pub TakesIn : HostView → HostPhase → Reply → HostView → Type 0
 TakesIn v ResetDue answer w = w ≡ v
 TakesIn v (Ended place) answer w = w ≡ v
 TakesIn v (Reading place transfer k) answer w =
-    (phase : HostPhase) × TakesHeard v.limits v.speed place k (taken transfer answer) phase
-    × (w ≡ record v { phase = settled v.limits.attempts v.resets phase })
+    (phase : HostPhase) × TakesHeard v.limits (terms_of v) place k (taken transfer answer) phase v.forgiven w.forgiven
+    × (w ≡ record v { phase = settled v.limits.attempts v.resets phase; forgiven = w.forgiven })
 
 -- a host takes an answer
 abbrev pub Takes : HostView → Reply → HostView → Type 0

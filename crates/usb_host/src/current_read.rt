@@ -1,25 +1,30 @@
 //! A read in work.
-ghost use Rattle.std.specs.Prelude.{◌≡◌, ◌<◌, false};
+ghost use Rattle.std.specs.Prelude.{◌≡◌, ◌<◌, false, true, [], Err};
 ghost use Rattle.usb_fields.specs.Packets.{reply_of};
 ghost use Rattle.usb_host.specs.Transfer.{left, taken};
 ghost use Rattle.usb_host.specs.Keeping.{nothing_kept, Kept};
-ghost use Rattle.usb_host.specs.Place.{First};
+ghost use Rattle.usb_host.specs.Place.{First, Stopped};
+ghost use Rattle.usb_host.specs.declared.why.Why.TheVariants.{Memory};
 ghost use Rattle.usb_host.specs.Cost.{BringsBytes};
 ghost use Rattle.usb_host.specs.inside.Sound.{FitsPlace, IsGood, KeepsBytes};
 ghost use Rattle.usb_host.specs.Steps.{TakesHeard, enter};
-ghost use Rattle.usb_host.specs.inside.Places.{place_of, is_bus_trouble};
+ghost use Rattle.usb_host.specs.Order.{forgives as forgives_at};
+ghost use Rattle.usb_host.specs.declared.draft.Draft.{Draft as DraftView};
+ghost use Rattle.usb_host.specs.inside.Places.{PassesOver, Settles, place_of, is_bus_trouble};
 ghost use Rattle.usb_host.specs.inside.Reads.{GoesOn, Hears, IsReading, IsStanding, LeadsOn, kept_in, place_in, standing, stands};
 
+use crate::choice::{NamedStrings, Terms};
 use crate::draft::Draft;
 use crate::due::Due;
 use crate::held::Held;
 use crate::limits::Limits;
-use crate::next_place::{lead_completed, lead_refused};
+use crate::next_place::{lead_completed, lead_refused, stand_in};
 use crate::request::getting;
+use crate::step::{Step, Trouble};
 use crate::transfer::{Heard, Transfer};
 use crate::why::Why;
 use std::alloc::Global;
-use usb_fields::{Answer, Speed};
+use usb_fields::{Answer, Sequence};
 
 /// How a read ended.
 #[derive(Clone, Copy, Debug)]
@@ -38,6 +43,8 @@ pub struct CurrentRead {
     pub transfer: Transfer,
     pub draft: Draft,
     pub held: Held,
+    /// The troubles that were passed over in this attempt.
+    pub forgiven: Sequence<Trouble>,
 }
 
 impl CurrentRead {
@@ -50,6 +57,7 @@ impl CurrentRead {
         ensures place { place_in self.new ≡ place_in self.old }
         ensures fits { FitsPlace (place_in self.new) (kept_in self.new) }
         ensures bytes { KeepsBytes (kept_in self.new) }
+        ensures forgiven { self.new.forgiven ≡ self.old.forgiven }
         ensures fewer { left (taken self.old.transfer (reply_of answer.entry)).transfer < left self.old.transfer }
         ensures heard { Hears (kept_in self.old) (taken self.old.transfer (reply_of answer.entry)) self.new.transfer (kept_in self.new) result }
     {
@@ -69,34 +77,80 @@ impl CurrentRead {
 
     /// Begins the read that follows one that has ended.
     #[inline(never)]
-    fn go_on(&mut self, alloc: Global, limits: &Limits, speed: Speed, ending: Ending)
+    fn go_on(&mut self, alloc: Global, limits: &Limits, terms: Terms, ending: Ending)
         requires good { IsGood (place_in self.old) }
         requires fits { FitsPlace (place_in self.old) (kept_in self.old) }
         requires bytes { KeepsBytes (kept_in self.old) }
-        ensures { GoesOn limits.now speed (place_in self.old) self.old.transfer (kept_in self.old) ending (place_in self.new) (stands self.new) }
+        ensures { GoesOn limits.now terms (place_in self.old) self.old.transfer (kept_in self.old) ending (place_in self.new) (stands self.new) self.old.forgiven self.new.forgiven }
     {
-        let due = self.lead(alloc, speed, ending);
+        let due = self.lead(alloc, terms, ending);
         self.held.restart(alloc, due);
         self.transfer = transfer_at(limits, &due, &self.draft);
         self.due = due;
     }
 
     /// What is due after a read that has ended, or the end when out of memory.
-    fn lead(&mut self, alloc: Global, speed: Speed, ending: Ending) -> Due
+    fn lead(&mut self, alloc: Global, terms: Terms, ending: Ending) -> Due
         requires good { IsGood (place_in self.old) }
-        ensures leads { LeadsOn speed (place_in self.old) self.old.transfer (kept_in self.old) ending (place_of result self.new.draft) }
+        ensures { LeadsOn terms (place_in self.old) self.old.transfer (kept_in self.old) ending (place_of result self.new.draft) self.old.forgiven self.new.forgiven }
     {
         match ending {
-            Ending::Completed => lead_completed(
-                alloc,
-                speed,
-                self.due,
-                &mut self.draft,
-                &self.transfer,
-                &mut self.held,
-            ),
-            Ending::Failed(Why::Stalled) => lead_refused(alloc, self.due, &mut self.draft),
+            Ending::Completed => {
+                let step = self.due.step(&self.draft);
+                let next = lead_completed(
+                    alloc,
+                    terms,
+                    self.due,
+                    &mut self.draft,
+                    &self.transfer,
+                    &mut self.held,
+                );
+                self.settle(alloc, terms.choice.strings, step, next)
+            }
+            Ending::Failed(Why::Stalled) => {
+                let step = self.due.step(&self.draft);
+                let next = lead_refused(alloc, terms, self.due, &mut self.draft);
+                self.settle(alloc, terms.choice.strings, step, next)
+            }
             Ending::Failed(why) => self.due.stop(&self.draft, why),
+        }
+    }
+
+    /// What is due after a read of this step. One that is refused ends the enumeration, or is passed over.
+    fn settle(
+        &mut self,
+        alloc: Global,
+        strings: NamedStrings,
+        step: Step,
+        next: Result<Due, Why>,
+    ) -> Due
+        requires { (why : Why) → next ≡ Err why → forgives_at strings (place_in self.old) why ≡ true → IsGood (place_in self.old) }
+        ensures { Settles strings (place_in self.old) step next self.old.draft result self.new.draft self.old.forgiven self.new.forgiven }
+    {
+        match next {
+            Ok(due) => due,
+            Err(why) => {
+                let trouble = Trouble { step, why };
+                if forgives(strings, &self.due, why) {
+                    self.pass_over(alloc, trouble)
+                } else {
+                    Due::Stopped { trouble }
+                }
+            }
+        }
+    }
+
+    /// Lists the trouble of a read of strings, and goes on with a stand-in. Or the end when out of memory.
+    fn pass_over(&mut self, alloc: Global, trouble: Trouble) -> Due
+        requires { IsGood (place_in self.old) }
+        ensures { PassesOver (place_in self.old) trouble (place_of result self.new.draft) self.old.forgiven self.new.forgiven }
+    {
+        match stand_in(alloc, self.due, &mut self.draft) {
+            Ok(due) => match self.forgiven.push(trouble) {
+                Ok(()) => due,
+                Err(_) => out_of_memory(trouble.step),
+            },
+            Err(_) => out_of_memory(trouble.step),
         }
     }
 
@@ -106,23 +160,42 @@ impl CurrentRead {
         &mut self,
         alloc: Global,
         limits: &Limits,
-        speed: Speed,
+        terms: Terms,
         answer: Answer<'_>,
     ) -> bool
         requires reading { IsReading (place_in self.old) self.old.transfer (kept_in self.old) }
         requires bytes { BringsBytes (reply_of answer) }
-        ensures takes { TakesHeard limits.now speed (place_in self.old) (kept_in self.old) (taken self.old.transfer (reply_of answer.entry)) (stands self.new) }
+        ensures takes { TakesHeard limits.now terms (place_in self.old) (kept_in self.old) (taken self.old.transfer (reply_of answer.entry)) (stands self.new) self.old.forgiven self.new.forgiven }
         ensures fewer { left (taken self.old.transfer (reply_of answer.entry)).transfer < left self.old.transfer }
         ensures stands { IsStanding (stands self.new) }
         ensures quiet { result ≡ false → is_bus_trouble (place_in self.new) ≡ false }
     {
         match self.hear(answer) {
             Some(ending) => {
-                self.go_on(alloc, limits, speed, ending);
+                self.go_on(alloc, limits, terms, ending);
                 true
             }
             None => false,
         }
+    }
+}
+
+/// Whether trouble at what is due is passed over.
+fn forgives(strings: NamedStrings, due: &Due, why: Why) -> bool
+    ensures { (draft : DraftView) → result ≡ forgives_at strings (place_of due.now draft) why }
+{
+    strings.may_be_missing() && (due.is_of_strings() && why.lacks_string())
+}
+
+/// The end at a step when out of memory.
+fn out_of_memory(step: Step) -> Due
+    ensures { (draft : DraftView) → place_of result draft ≡ Stopped (record { step = step; why = Memory }) }
+{
+    Due::Stopped {
+        trouble: Trouble {
+            step,
+            why: Why::Memory,
+        },
     }
 }
 
@@ -140,7 +213,8 @@ fn transfer_at(limits: &Limits, due: &Due, draft: &Draft) -> Transfer
 
 /// The first read.
 pub(crate) fn begin(alloc: Global, limits: &Limits) -> CurrentRead
-    ensures { stands result ≡ enter limits.now First }
+    ensures stands { stands result ≡ enter limits.now First }
+    ensures forgiven { result.forgiven ≡ [] }
 {
     let draft = Draft::new(alloc);
     let transfer = transfer_at(limits, &Due::First, &draft);
@@ -149,5 +223,6 @@ pub(crate) fn begin(alloc: Global, limits: &Limits) -> CurrentRead
         transfer,
         draft,
         held: Held::new(alloc),
+        forgiven: Sequence::new(alloc),
     }
 }

@@ -58,7 +58,7 @@ pub enum Due {
 impl Due {
     ghost use Rattle.usb_host.specs.inside.Sound.{IsGood};
     ghost use Rattle.usb_host.specs.inside.Places.{place_of, is_bus_trouble as is_bus_trouble_at, is_end as is_end_at, requested};
-    ghost use Rattle.usb_host.specs.Order.{asks, step_of, stopped};
+    ghost use Rattle.usb_host.specs.Order.{asks, is_of_strings as is_of_strings_at, step_of, stopped};
 
     /// Whether the enumeration has ended.
     #[inline(always)]
@@ -81,6 +81,16 @@ impl Due {
                 Why::Stalled | Why::TooLong | Why::Unexpected | Why::Malformed | Why::Memory =>
                     false,
             },
+            _ => false,
+        }
+    }
+
+    /// Whether strings are read.
+    pub(crate) fn is_of_strings(&self) -> bool
+        ensures { (draft : DraftView) → result ≡ is_of_strings_at (place_of self.now draft) }
+    {
+        match self {
+            Due::Languages | Due::Text => true,
             _ => false,
         }
     }

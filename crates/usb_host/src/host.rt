@@ -5,6 +5,7 @@ ghost use Rattle.usb_host.specs.Cost.{BringsBytes};
 ghost use Rattle.usb_host.specs.inside.Places.{is_bus_trouble};
 ghost use Rattle.usb_host.specs.inside.Reads.{place_in};
 
+use crate::choice::{Choice, Terms};
 use crate::current_read::{CurrentRead, begin};
 use crate::draft::Draft;
 use crate::due::Due;
@@ -39,7 +40,7 @@ use usb_file_data::DescriptorFile;
 pub struct Host {
     alloc: Global,
     limits: Limits,
-    speed: Speed,
+    terms: Terms,
     resets: u8,
     reset_due: bool,
     reading: CurrentRead,
@@ -57,18 +58,34 @@ impl Model for Host {
 }
 
 impl Host {
-    ghost use Rattle.usb_host.specs.Steps.{Takes, WantsNothing, WantsReset, WantsSent, lent_outcome, new_host, outcome_of, reset, step_in, transfer_in, wanted, wanted_by};
+    ghost use Rattle.usb_host.specs.Steps.{Takes, WantsNothing, WantsReset, WantsSent, chosen_host, lent_outcome, new_host, outcome_of, reset, step_in, transfer_in, wanted, wanted_by};
     ghost use Rattle.usb_host.specs.Cost.{left_to_ask};
 
-    /// A host that has done nothing. The limits of its retries, and the address that it gives, are in `limits`.
+    /// A host that has done nothing, and asks for all that a descriptor file has. The limits of its retries, and the
+    /// address that it gives, are in `limits`.
     pub fn new(alloc: Global, limits: Limits, speed: Speed) -> Host
         ensures { result ≡ new_host limits speed }
+    {
+        Host::with_choice(alloc, limits, speed, Choice::everything())
+    }
+
+    /// A host that has done nothing, and asks for so much.
+    ///
+    /// Where strings may be missing, trouble at one is passed over and listed by [`Host::forgiven`]; what is reported has
+    /// a stand-in for it. Where the strings are skipped, a report has none though indices are named.
+    ///
+    /// ```rust
+    /// let choice = Choice { strings: NamedStrings::Wanted, other_speed: false };
+    /// let mut host = Host::with_choice(alloc, Limits::new(1, 16, 3)?, Speed::Full, choice);
+    /// ```
+    pub fn with_choice(alloc: Global, limits: Limits, speed: Speed, choice: Choice) -> Host
+        ensures { result ≡ chosen_host limits speed choice }
     {
         let _attempts = limits.attempts();
         Host {
             alloc,
             limits,
-            speed,
+            terms: Terms { speed, choice },
             resets: 0,
             reset_due: true,
             reading: begin(alloc, &limits),
@@ -133,7 +150,7 @@ impl Host {
         known_answer(answer);
         let has_ended = self
             .reading
-            .take(self.alloc, &self.limits, self.speed, answer);
+            .take(self.alloc, &self.limits, self.terms, answer);
         if has_ended {
             self.reset_due = may_try_again(&self.reading, self.resets, &self.limits);
         }
@@ -180,6 +197,20 @@ impl Host {
         Some(self.reading.transfer)
     }
 
+    /// The troubles that were passed over in this attempt, in order: of strings that the device refused or that were none,
+    /// where they may be missing. In what is reported stand-ins are in their place. A bus reset empties the list.
+    ///
+    /// ```rust
+    /// for trouble in host.forgiven() {
+    ///     println!(rt; "{trouble}")?;
+    /// }
+    /// ```
+    pub fn forgiven(&self) -> &[Trouble]
+        ensures { result.now ≡ self.now.forgiven }
+    {
+        self.reading.forgiven.as_slice()
+    }
+
     /// The outcome, once there is one: the file that was read, or the trouble with its step and its reason. Then nothing
     /// more is asked for.
     ///
@@ -218,7 +249,7 @@ impl Host {
         let Host {
             alloc: _,
             limits: _,
-            speed: _,
+            terms: _,
             resets: _,
             reset_due,
             reading,
@@ -228,6 +259,7 @@ impl Host {
             transfer: _,
             draft,
             held: _,
+            forgiven: _,
         } = reading;
         let Draft {
             file,

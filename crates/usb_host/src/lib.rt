@@ -16,6 +16,7 @@
 //! A transfer asks for no memory; a host does for what it keeps.
 #![tactic(auto)]
 
+mod choice;
 mod current_read;
 mod draft;
 mod due;
@@ -33,6 +34,7 @@ mod transfer_fields;
 mod why;
 mod write;
 
+pub use choice::{Choice, NamedStrings};
 pub use host::Host;
 pub use limits::{LimitFault, Limits};
 pub use reply::Reply;

@@ -25,6 +25,7 @@ pub enum Why {
 }
 
 impl Why {
+    ghost use Rattle.usb_host.specs.Order.{lacks_string as lacks_string_of};
     ghost use Rattle.usb_host.specs.Why.{why_number};
 
     /// The reason's number, 1 to 7.
@@ -36,6 +37,16 @@ impl Why {
         ensures { result ≡ why_number self }
     {
         self as u8 + 1
+    }
+
+    /// Whether a device gave no string, and nothing else is wrong.
+    pub(crate) fn lacks_string(self) -> bool
+        ensures { result ≡ lacks_string_of self }
+    {
+        match self {
+            Why::Stalled | Why::Malformed => true,
+            Why::NoAnswer | Why::Busy | Why::TooLong | Why::Unexpected | Why::Memory => false,
+        }
     }
 }
 

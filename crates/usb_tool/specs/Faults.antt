@@ -10,12 +10,13 @@ use Rattle.usb_tool.specs.contracts.fault.ToolFault.{the_type as tool_faults}
 use Rattle.usb_tool.specs.declared.fault.ToolFault.TheVariants as faults
 use Rattle.usb_tool.specs.declared.meaning.Hint.{Hint}
 use Rattle.usb_tool.specs.declared.meaning.Hint.TheVariants as hints
-use Rattle.usb_file_data.specs.FileFaults.{why_message as file_why_message, why_number}
+use Rattle.usb_file_data.specs.FileFaults.{why_number}
 use Rattle.usb_file_data.specs.declared.fault.FileFault.{FileFault}
 use Rattle.usb_file_data.specs.declared.fault.FileWhy.{FileWhy}
 use Rattle.usb_file_data.specs.declared.fault.FileWhy.TheVariants as files
 use Rattle.usb_file_data.specs.declared.fault.InputFault.{InputFault}
 use Rattle.usb_file_data.specs.declared.fault.InputFault.TheVariants as inputs
+use Rattle.usb_explain.specs.FaultWords.{innermost}
 use Rattle.usb_listing.specs.Listings.{why_message as list_why_message, why_number as list_why_number}
 use Rattle.usb_listing.specs.declared.fault.ListFault.{ListFault}
 use Rattle.usb_listing.specs.declared.fault.ListWhy.{ListWhy}
@@ -48,17 +49,12 @@ fault_line (faults.Hex line column) =
 
 -- What a fault means, for people, and what to try then.
 
--- why a file is none; of a set in it, why that is none
-abbrev pub file_meaning : FileWhy → List ℕ
-file_meaning (files.Set why) = set_why_message why
-file_meaning why = file_why_message why
-
 -- what a fault means
 abbrev pub fault_meaning : ToolFault → List ℕ
 fault_meaning faults.Read = codes "standard input can't be read"
 fault_meaning faults.Write = codes "standard output can't be written"
 fault_meaning faults.TooLarge = codes "no file is that long"
-fault_meaning (faults.File fault) = file_meaning fault.why
+fault_meaning (faults.File fault) = innermost fault.why
 fault_meaning (faults.List fault) = list_why_message fault.why
 fault_meaning (faults.Set fault) = set_why_message fault.why
 fault_meaning (faults.Trailing at) = codes "bytes after the end of the set"

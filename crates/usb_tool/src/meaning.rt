@@ -1,10 +1,10 @@
 //! What a fault means, for a person, and what to try then.
 ghost use Rattle.std.specs.Prelude.{◌≡◌, ◌++◌, Some};
-ghost use Rattle.usb_tool.specs.Faults.{fault_meaning, file_meaning, hint_at, hint_words};
+ghost use Rattle.usb_tool.specs.Faults.{fault_meaning, hint_at, hint_words};
 
 use crate::fault::ToolFault;
 use std::fmt;
-use usb_file_data::FileWhy;
+use usb_explain::FaultWords;
 
 /// What to try where the input is at fault, or an enumeration had no success.
 #[derive(Clone, Copy, Debug, PartialEq, Eq, Hash)]
@@ -67,22 +67,12 @@ pub(crate) fn fault_meaning(fault: ToolFault) -> &'static str
         ToolFault::Read => "standard input can't be read",
         ToolFault::Write => "standard output can't be written",
         ToolFault::TooLarge => "no file is that long",
-        ToolFault::File(fault) => file_meaning(fault.why),
+        ToolFault::File(fault) => FaultWords::of_file(fault.why).why,
         ToolFault::List(fault) => fault.why.message(),
         ToolFault::Set(fault) => fault.why.message(),
         ToolFault::Trailing(_) => "bytes after the end of the set",
         ToolFault::Memory => "there was not enough memory",
         ToolFault::Hex { .. } => "no hexadecimal text",
-    }
-}
-
-/// Why a file is none.
-fn file_meaning(why: FileWhy) -> &'static str
-    ensures { result.now ≡ file_meaning why }
-{
-    match why {
-        FileWhy::Set(why) => why.message(),
-        why => why.message(),
     }
 }
 

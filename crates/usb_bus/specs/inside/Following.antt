@@ -3,6 +3,7 @@ use Rattle.std.specs.Prelude.{◌≡◌, ℕ, Bool, true, List, [], ◌∷◌, O
 use Rattle.usb_fields.specs.declared.setup.Setup.{Setup as SetupPacket}
 use Rattle.usb_fields.specs.declared.packet.Speed.{Speed}
 use Rattle.usb_set.specs.declared.tree.Configuration.{Configuration}
+use Rattle.usb_host.specs.Terms.{all_of}
 use Rattle.usb_host.specs.Plan.{Begin}
 use Rattle.usb_device.specs.declared.state.State.{State}
 use Rattle.usb_device.specs.Requests.{Outcome, Bytes, Takes}
@@ -17,7 +18,7 @@ use Rattle.usb_bus.specs.inside.Script.{Exchange}
 module _ (set_of : List ℕ → Option Configuration) (speed : Speed) (address : ℕ) where
   abbrev pub WalksScript : Place → Place → List Exchange → Type 0
   WalksScript end place [] = place ≡ end
-  WalksScript end place (x ∷ xs) = (asks address place ≡ Begin x.address x.packet x.request) × WalksScript end (next set_of speed place x.reply) xs
+  WalksScript end place (x ∷ xs) = (asks address place ≡ Begin x.address x.packet x.request) × WalksScript end (next set_of (all_of speed) place x.reply) xs
 
 -- the device's side, with packets of n bytes
 module _ (answer : State → SetupPacket → Outcome) (n : ℕ) where

@@ -8,6 +8,9 @@ use Rattle.usb_set.specs.declared.fault.SetFault.{SetFault}
 use Rattle.usb_set.specs.declared.decoder.Progress.{Progress}
 use Rattle.usb_set.specs.Decoding.{Decoding, gathers, has, refused}
 use Rattle.usb_set.specs.Faults.{Begins, Faulty, IsOpen}
+use Rattle.usb_host.specs.declared.choice.NamedStrings.TheVariants.{Needed}
+use Rattle.usb_host.specs.declared.step.Trouble.{Trouble}
+use Rattle.usb_host.specs.Terms.{all_of}
 use Rattle.usb_host.specs.declared.why.Why.TheVariants.{Memory}
 use Rattle.usb_host.specs.declared.reply.Reply.{Reply}
 use Rattle.usb_host.specs.Limits.{LimitView}
@@ -63,22 +66,23 @@ pub record IsTransfer (h : HostEnd) (t : TransferView) (k : Kept) : Type 0 where
 module _ (set_of : List ℕ → Option Configuration) (limits : LimitView) (speed : Speed) where
   -- the plan of an enumeration: what comes next of the replies so far
   abbrev pub plan_of : List Reply → Plan
-  plan_of replies = asks limits.address (reached set_of speed First replies)
+  plan_of replies = asks limits.address (reached set_of (all_of speed) First replies)
 
   -- after these replies, a host in this phase is the image of a plan in that one
   abbrev pub IsImage : List Reply → Phase → HostPhase → Type 0
   IsImage replies (Running h) (Reading place t k) =
-      (reached set_of speed First replies ≡ place) × IsInWork place × FitsPlace place k × IsTransfer h t k
-  IsImage replies Succeeded (Ended (Reported f)) = reached set_of speed First replies ≡ Reported f
+      (reached set_of (all_of speed) First replies ≡ place) × IsInWork place × FitsPlace place k × IsTransfer h t k
+  IsImage replies Succeeded (Ended (Reported f)) = reached set_of (all_of speed) First replies ≡ Reported f
   IsImage replies (Broken why) (Ended (Stopped trouble)) = why ≡ trouble.why
   IsImage replies phase other = ⊥
 
   -- whatever is answered, it stays one, or an allocation failed where one is made
   abbrev pub StaysImage : Type 0
   StaysImage =
-      (replies : List Reply) (h : HostEnd) (d : DeviceView) (place : Place) (t : TransferView) (k : Kept) (answer : Answer) (new : HostPhase) →
-      IsImage replies (Running h) (Reading place t k) → TakesHeard limits speed place k (taken t answer) new →
-      ((result : Result Progress SetFault) × (LacksMemory (taken t answer).heard k result ⊎ Grows (taken t answer).heard place)
+      (replies : List Reply) (h : HostEnd) (d : DeviceView) (place : Place) (t : TransferView) (k : Kept) (answer : Answer) (new : HostPhase)
+      (before after : List Trouble) → IsImage replies (Running h) (Reading place t k) →
+      TakesHeard limits (all_of speed) place k (taken t answer) new before after →
+      ((result : Result Progress SetFault) × (LacksMemory (taken t answer).heard k result ⊎ Grows Needed (taken t answer).heard place)
       × (new ≡ Ended (stopped place Memory)))
       ⊎ (let e = hears false h answer in
       let x = advance plan_of limits.naks no_data replies e e.transfer.stage d in

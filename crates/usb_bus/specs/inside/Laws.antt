@@ -1,5 +1,6 @@
 -- The laws of attempts, of scripts and of runs that prove what holds of an enumeration.
 use Rattle.std.specs.Prelude.{◌≡◌, ℕ, suc, ◌+◌, ◌/◌, ◌≤◌, ◌⊎◌, List, false, [], Option, ◌<◌}
+use Rattle.usb_host.specs.Terms.{all_of}
 use Rattle.usb_host.specs.declared.why.Why.TheVariants.{NoAnswer, Busy}
 use Rattle.usb_host.specs.declared.reply.Reply.{Reply}
 use Rattle.usb_device.specs.declared.state.State.{State}
@@ -64,7 +65,7 @@ abbrev pub ReadsTheDescription : Type 0
 ReadsTheDescription =
     (set_of : List ℕ → Option Configuration) (address : ℕ) (speed : Speed) (f : DescriptorFile) →
     ReadsSets set_of → Accepted f speed → AreBytes (file_bytes f) →
-    reached set_of speed First (replies_in (script address f.device.packet speed f)) ≡ Reported f
+    reached set_of (all_of speed) First (replies_in (script address f.device.packet speed f)) ≡ Reported f
 
 -- A host that keeps a place, and hands the packets of a set to its decoder as they come, goes as one that keeps all replies
 -- and all bytes, unless out of memory.

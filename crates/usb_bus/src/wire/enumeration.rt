@@ -6,6 +6,7 @@ ghost use Rattle.usb_bus.specs.DamagedLaws.{IsSlight};
 ghost use Rattle.usb_bus.specs.DamagedRuns.{AreSlight, IsDamagedEnumeration, IsDamagedStep, counts_of};
 ghost use Rattle.usb_bus.specs.Enumerate.{NoneIsLeft, both};
 ghost use Rattle.usb_bus.specs.inside.Addresses.{AsksWithin};
+ghost use Rattle.usb_bus.specs.inside.Seeing.{IsSeenStep};
 
 use crate::enumeration::Run;
 use crate::fate::Fate;
@@ -39,6 +40,8 @@ pub(crate) fn step_bytes<O: Observer>(
     requires accepted { Accepted device.old.description.file device.old.description.speed }
     ensures made { IfSome result (IsDamagedStep device.old.description.file wire.entry.fates.now wire.entry.changes.now (both host.old device.old.device) transactions (both host.new device.new.device)) }
     ensures none { IsNone result → NoneIsLeft (both host.old device.old.device) (both host.new device.new.device) }
+    ensures seen { IfSome result (λ now. IsSeenStep O.sees device.old.description.file wire.entry.fates.now wire.entry.changes.now (both host.old device.old.device) transactions (both host.new device.new.device) now observer.old observer.new) }
+    ensures unseen { IsNone result → observer.new ≡ observer.old }
     ensures within { AsksWithin host.new }
     ensures description { device.new.description ≡ device.old.description }
 {

@@ -85,19 +85,19 @@ fn is_ready(fate: Fate) -> bool
     !matches!(fate, Fate::Busy)
 }
 
-fn is_lost_down(fate: Fate) -> bool
+pub(crate) fn is_lost_down(fate: Fate) -> bool
     ensures { result ≡ is_lost_down fate }
 {
     matches!(fate, Fate::LostDown)
 }
 
-fn is_lost_up(fate: Fate) -> bool
+pub(crate) fn is_lost_up(fate: Fate) -> bool
     ensures { result ≡ is_lost_up fate }
 {
     matches!(fate, Fate::LostUp)
 }
 
-fn is_lost_ack(fate: Fate) -> bool
+pub(crate) fn is_lost_ack(fate: Fate) -> bool
     ensures { result ≡ is_lost_ack fate }
 {
     matches!(fate, Fate::LostAck)

@@ -1,5 +1,5 @@
 //! What is received of the packets of a transaction, and what both ends make of it.
-ghost use Rattle.std.specs.Prelude.{◌≡◌, ◌<◌, IfSome, Some, option_map};
+ghost use Rattle.std.specs.Prelude.{◌≡◌, ◌==◌, ◌&&◌, ◌<◌, IfSome, Some, option_map};
 ghost use Rattle.usb_fields.specs.Packets.{SetupToken, reply_of, sent_of, token_of};
 ghost use Rattle.usb_wire.specs.Packets.{IsLegal, view_of};
 ghost use Rattle.usb_device.specs.Transactions.{HasRoom};
@@ -18,6 +18,15 @@ pub(crate) const LONGEST: usize = MOST_DATA + 3;
 pub(crate) struct Damages<'c> {
     pub(crate) changes: &'c [BitChange],
     pub(crate) transaction: u128,
+}
+
+impl<'c> Damages<'c> {
+    /// Whether this is a change of the packet with this number in the transaction.
+    pub(crate) fn has(self, change: &BitChange, number: u8) -> bool
+        ensures { result ≡ ((change.now.transaction == self.entry.transaction) && (change.now.packet == number)) }
+    {
+        u128::from(change.transaction) == self.transaction && change.packet == number
+    }
 }
 
 /// What is received of the packet with this number in a transaction, where the bus may lose it: what its bytes are with the

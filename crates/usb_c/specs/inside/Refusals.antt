@@ -1,5 +1,5 @@
 -- How faults are reported: out of memory is no fault of the bytes.
-use Rattle.std.specs.Prelude.{◌≡◌, ℕ, ◌⊎◌, List, Bool, true, false}
+use Rattle.std.specs.Prelude.{Bool, true, false}
 use Rattle.usb_c.specs.declared.answer.Verdict.{Verdict}
 use Rattle.usb_c.specs.declared.answer.Verdict.TheVariants as verdicts
 use Rattle.usb_c.specs.Answers.{refused_set}
@@ -13,6 +13,8 @@ use Rattle.usb_file_data.specs.declared.fault.FileWhy.TheVariants as files
 use Rattle.usb_listing.specs.declared.fault.ListFault.{ListFault}
 use Rattle.usb_listing.specs.declared.fault.ListWhy.{ListWhy}
 use Rattle.usb_listing.specs.declared.fault.ListWhy.TheVariants as lists
+use Rattle.usb_hex.specs.declared.hex_text.HexFault.{HexFault}
+use Rattle.usb_hex.specs.declared.hex_text.HexFault.TheVariants as hexes
 use Rattle.usb_device.specs.declared.acceptance.DescriptionFault.{DescriptionFault}
 use Rattle.usb_device.specs.declared.acceptance.DescriptionFault.TheVariants as descriptions
 
@@ -37,6 +39,11 @@ list_by why fault = verdicts.List fault
 
 abbrev pub refused_list : ListFault → Verdict
 refused_list fault = list_by fault.why fault
+
+-- of a hexadecimal text
+abbrev pub refused_text : HexFault → Verdict
+refused_text (hexes.Text line column found) = verdicts.Text line column
+refused_text hexes.Memory = verdicts.NoMemory
 
 -- of a description
 abbrev pub refused_description : DescriptionFault → Verdict

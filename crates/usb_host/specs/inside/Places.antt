@@ -5,17 +5,19 @@ use Rattle.usb_host.specs.declared.draft.Draft.{Draft}
 use Rattle.usb_host.specs.declared.held.Held.{Held}
 use Rattle.usb_host.specs.Keeping as kept
 use Rattle.usb_host.specs.Place.{Place, First, Address, Device, Header, Set, Qualifier, Languages, Text, Configure, Reported, Stopped}
-use Rattle.std.specs.Prelude.{◌≡◌, ◌+◌, ◌≤◌, true, false, Bool, List, length, ℕ, Option, Some, None, Result, Ok, Err, ◌⊎◌}
+use Rattle.std.specs.Prelude.{◌≡◌, ◌+◌, ◌≤◌, true, false, Bool, List, [], ◌∷◌, ◌++◌, length, ℕ, Option, Some, None, Result, Ok, Err, ◌⊎◌}
 use Rattle.std.specs.declared.alloc.AllocError.{AllocError}
 use Rattle.usb_set.specs.declared.fault.SetFault.{SetFault}
 use Rattle.usb_set.specs.declared.decoder.Progress.{Progress}
 use Rattle.usb_host.specs.declared.why.Why.{Why}
 use Rattle.usb_host.specs.declared.why.Why.TheVariants.{Memory}
 use Rattle.usb_host.specs.Plan.{Plan, Begin}
-use Rattle.usb_host.specs.Transfer.{Hearing, Brings, Completes}
+use Rattle.usb_host.specs.Transfer.{Hearing, Brings}
 use Rattle.usb_host.specs.declared.request.Request.{Request}
+use Rattle.usb_host.specs.declared.choice.NamedStrings.{NamedStrings}
+use Rattle.usb_host.specs.declared.step.Trouble.{Trouble}
 use Rattle.usb_host.specs.declared.step.Step.{Step}
-use Rattle.usb_host.specs.Order.{stopped}
+use Rattle.usb_host.specs.Order.{stopped, forgives, stand_in, spared, forgiven_by}
 use Rattle.usb_host.specs.Keeping.{Kept, Keeps}
 use Rattle.usb_host.specs.Steps.{blames_bus, LacksMemory, Grows}
 
@@ -49,13 +51,19 @@ is_end (Stopped trouble) = true
 is_end place = false
 
 -- memory was wanting after a read that leads on to this place
-abbrev pub GrowsTo : Hearing → Place → Place → Type 0
-GrowsTo heard here target = Grows heard here × (is_end target ≡ false)
+abbrev pub GrowsTo : NamedStrings → Hearing → Place → Place → Type 0
+GrowsTo texts heard here target = Grows texts heard here × (is_end target ≡ false)
 
 -- what is due next, beside this draft; or why the read of this place is refused, or memory was wanting where that is asked for
-abbrev pub LeadsTo : Place → Place → Draft → Result Due Why → Type 0
-LeadsTo here target d (Ok due) = place_of due d ≡ target
-LeadsTo here target d (Err why) = (GrowsTo Completes here target × (why ≡ Memory)) ⊎ (target ≡ stopped here why)
+abbrev pub LeadsTo : NamedStrings → Hearing → Place → Place → Draft → Result Due Why → Type 0
+LeadsTo texts heard here target d (Ok due) = place_of due d ≡ target
+LeadsTo texts heard here target d (Err why) = (GrowsTo texts heard here target × (why ≡ Memory)) ⊎ (target ≡ stopped here why)
+
+-- What a read of strings leaves, which may be passed over: where it leads on, that is no end, and where it is refused, the
+-- draft is as it was.
+abbrev pub LeavesDraft : Draft → Draft → Result Due Why → Type 0
+LeavesDraft old new (Ok due) = is_end (place_of due new) ≡ false
+LeavesDraft old new (Err why) = new ≡ old
 
 -- the transfer of a plan, where there is one
 abbrev pub requested : Plan → Option Request
@@ -70,9 +78,12 @@ Adds old piece wants new = (result : Result Progress SetFault) × Keeps old piec
     Tells true result = LacksMemory (Brings piece) old result
     Tells false result = LacksMemory (Brings piece) old result → ⊥
 
--- where a read leads to that has ended so, or the end where memory is asked for and wanting
-abbrev pub Leads : Hearing → Place → Place → Place → Type 0
-Leads heard here target next = (GrowsTo heard here target × (next ≡ stopped here Memory)) ⊎ (next ≡ target)
+-- Where a read here leads to that has ended so, with the troubles that are passed over before and after; or the end where
+-- memory is asked for and wanting.
+abbrev pub Leads : NamedStrings → Hearing → Place → Place → Place → List Trouble → List Trouble → Type 0
+Leads texts heard here target next before after =
+    (GrowsTo texts heard here (spared texts here target) × (next ≡ stopped here Memory) × (after ≡ before))
+    ⊎ ((next ≡ spared texts here target) × (after ≡ before ++ forgiven_by texts here target))
 
 -- a read of bytes that are kept has at most 255 of them
 abbrev pub HasRoom : Kept → ℕ → Type 0
@@ -84,10 +95,21 @@ abbrev pub OrMemory : Result Due AllocError → Result Due Why → Type 0
 OrMemory (Ok due) new = new ≡ Ok due
 OrMemory (Err e) new = new ≡ Err Memory
 
--- what is due, or the end at this step
-abbrev pub Settles : Step → Result Due Why → Due → Type 0
-Settles step (Ok due) new = new ≡ due
-Settles step (Err why) new = new ≡ due.Stopped (record { step = step; why = why })
+-- A trouble here is passed over: the stand-in is due, and the trouble is listed; or memory was wanting.
+abbrev pub PassesOver : Place → Trouble → Place → List Trouble → List Trouble → Type 0
+PassesOver here trouble next before after =
+    ((next ≡ Stopped (record trouble { why = Memory })) × (after ≡ before)) ⊎ ((next ≡ stand_in here) × (after ≡ before ++ trouble ∷ []))
+
+-- trouble here is passed over, or ends the enumeration
+abbrev pub EndsOrPasses : Bool → Place → Trouble → Place → List Trouble → List Trouble → Type 0
+EndsOrPasses false here trouble next before after = (next ≡ Stopped trouble) × (after ≡ before)
+EndsOrPasses true here trouble next before after = PassesOver here trouble next before after
+
+-- After a read of this step, what is due: where it leads on just that, beside the same draft.
+abbrev pub Settles : NamedStrings → Place → Step → Result Due Why → Draft → Due → Draft → List Trouble → List Trouble → Type 0
+Settles texts here step (Ok due) old next new before after = (next ≡ due) × (new ≡ old) × (after ≡ before)
+Settles texts here step (Err why) old next new before after =
+    EndsOrPasses (forgives texts here why) here (record { step = step; why = why }) (place_of next new) before after
 
 -- whether an enumeration has ended by trouble for which the bus is to blame
 abbrev pub is_bus_trouble : Place → Bool

@@ -1,8 +1,9 @@
 -- A read in work, as the code holds it.
-use Rattle.std.specs.Prelude.{◌≡◌, ◌≤◌, false, if◌then◌else◌, length, Option, Some, None, Result, ℕ, ◌<◌, Bool}
+use Rattle.std.specs.Prelude.{◌≡◌, ◌≤◌, false, if◌then◌else◌, List, length, Option, Some, None, Result, ℕ, ◌<◌, Bool}
 use Rattle.usb_set.specs.declared.fault.SetFault.{SetFault}
 use Rattle.usb_set.specs.declared.decoder.Progress.{Progress}
-use Rattle.usb_fields.specs.declared.packet.Speed.{Speed}
+use Rattle.usb_host.specs.declared.choice.Terms.{Terms}
+use Rattle.usb_host.specs.declared.step.Trouble.{Trouble}
 use Rattle.usb_host.specs.declared.why.Why.TheVariants.{Stalled, Memory}
 use Rattle.usb_host.specs.declared.transfer.TransferStage.{TransferStage}
 use Rattle.usb_host.specs.declared.transfer.TransferStage.TheVariants as stages
@@ -62,24 +63,17 @@ abbrev pub Hears : Kept → Taken → TransferView → Kept → Option Ending �
 Hears old by transfer new ending =
     (transfer ≡ by.transfer) × ((result : Result Progress SetFault) × KeepsHeard old by.heard result new × EndsBy old by.heard result ending)
 
--- where a read leads to that has ended
-abbrev pub ended_leads : Speed → Place → TransferView → Kept → Ending → Place
-ended_leads speed place t k endings.Completed = completed_leads speed place t k
-ended_leads speed place t k (endings.Failed Stalled) = refused_leads place
-ended_leads speed place t k (endings.Failed why) = stopped place why
-
--- how an ending was heard
-abbrev pub heard_as : Ending → Hearing
-heard_as endings.Completed = Completes
-heard_as (endings.Failed why) = Fails why
-
--- a read that has ended leads on, or memory was wanting
-abbrev pub LeadsOn : Speed → Place → TransferView → Kept → Ending → Place → Type 0
-LeadsOn speed place t k ending next = Leads (heard_as ending) place (ended_leads speed place t k ending) next
+-- where a read leads to that has ended, with the troubles that are passed over, or memory was wanting
+abbrev pub LeadsOn : Terms → Place → TransferView → Kept → Ending → Place → List Trouble → List Trouble → Type 0
+LeadsOn terms place t k endings.Completed next before after =
+    Leads terms.choice.strings Completes place (completed_leads terms place t k) next before after
+LeadsOn terms place t k (endings.Failed Stalled) next before after =
+    Leads terms.choice.strings (Fails Stalled) place (refused_leads terms place) next before after
+LeadsOn terms place t k (endings.Failed why) next before after = (next ≡ stopped place why) × (after ≡ before)
 
 -- a host comes to where a read leads that has ended
-pub record GoesOn (limits : LimitView) (speed : Speed) (place : Place) (t : TransferView) (k : Kept) (ending : Ending) (next : Place) (new : HostPhase) : Type 0 where
-  pub leads : LeadsOn speed place t k ending next
+pub record GoesOn (limits : LimitView) (terms : Terms) (place : Place) (t : TransferView) (k : Kept) (ending : Ending) (next : Place) (new : HostPhase) (before after : List Trouble) : Type 0 where
+  pub leads : LeadsOn terms place t k ending next before after
   pub enters : new ≡ enter limits next
 
 -- a place with its read, or the end there
@@ -107,9 +101,11 @@ abbrev pub view_of : Inside → HostView
 view_of h =
     record {
       limits = h.limits;
-      speed = h.speed;
+      speed = h.terms.speed;
+      choice = h.terms.choice;
       resets = h.resets;
       phase = phase_in h.reset_due (place_in h.reading) h.reading.transfer (kept_in h.reading);
+      forgiven = h.reading.forgiven;
     }
 
 -- a reset is due only while attempts are left, and a read in work is sound

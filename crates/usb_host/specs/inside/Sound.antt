@@ -1,17 +1,20 @@
 -- What holds of a place after the bytes that count.
-use Rattle.std.specs.Prelude.{◌*◌, ◌<◌, ◌≤◌, length, slice_index, ◌≡◌, ℕ, List, [], Some, None}
+use Rattle.std.specs.Prelude.{◌*◌, ◌<◌, ◌≤◌, length, slice_index, ◌≡◌, ℕ, List, [], Some, None, IsTrue}
 use Rattle.usb_fields.specs.Bytes.{AreBytes}
+use Rattle.usb_host.specs.declared.choice.NamedStrings.{NamedStrings}
+use Rattle.usb_host.specs.declared.choice.Choice.{Choice}
+use Rattle.usb_host.specs.Terms.{IsReport, is_asked}
 use Rattle.usb_host.specs.Place.{Place, First, Address, Device, Header, Set, Qualifier, Languages, Text, Configure, Reported, Stopped}
 use Rattle.usb_host.specs.Keeping.{Kept}
 use Rattle.usb_host.specs.Keeping as kept
 use Rattle.usb_host.specs.Order.{sets_of, declared_sets}
-use Rattle.usb_host.specs.Steps.{HostPhase, ResetDue, Reading, Ended, HostView, new_host, reset, Takes}
+use Rattle.usb_host.specs.Steps.{HostPhase, ResetDue, Reading, Ended, HostView, chosen_host, reset, Takes}
 use Rattle.usb_set.specs.declared.tree.SetKind.{SetKind}
 use Rattle.usb_set.specs.declared.tree.SetKind.TheVariants as kinds
 use Rattle.usb_file_data.specs.declared.file.DescriptorFile.{DescriptorFile}
 use Rattle.usb_file_data.specs.declared.file.Other.{Other}
 use Rattle.usb_file_data.specs.declared.file.Strings.{Strings}
-use Rattle.usb_file_data.specs.File.{File, file_bytes, named_indices}
+use Rattle.usb_file_data.specs.File.{file_bytes, named_indices}
 use Rattle.usb_file_data.specs.Front.{IsFront, AllSets, StringsFollow, with_strings}
 use Rattle.usb_fields.specs.declared.packet.Speed.{Speed}
 use Rattle.usb_fields.specs.Packets.{Reply as Answer}
@@ -100,26 +103,26 @@ pub record InStrings (f : DescriptorFile) (s : Strings) (named b : List ℕ) : T
   pub follow : StringsFollow (length (named_indices f)) s
   pub is_named : named ≡ named_indices f
 
--- what holds at a place after these bytes
-abbrev pub Holds : Place → List ℕ → Type 0
-Holds First b = b ≡ []
-Holds (Address first) b = b ≡ []
-Holds (Device first) b = b ≡ []
-Holds (Header kind f) b = InSets kind f b × (length (sets_of kind f) < declared_sets kind f)
-Holds (Set kind f total) b = InSets kind f b × (length (sets_of kind f) < declared_sets kind f)
-Holds (Qualifier f) b = MainDone f b
-Holds (Languages f named) b = SetsDone f b × (0 < length (named_indices f)) × (named ≡ named_indices f)
-Holds (Text f s named) b = InStrings f s named b × (length s.texts < length s.languages * length named)
-Holds (Configure f) b = IsRead f b × (AreBytes b → File f b)
-Holds (Reported f) b = IsRead f b × (AreBytes b → File f b)
-Holds (Stopped trouble) b = Unit {0}
+-- what holds at a place after these bytes: strings are read only where they are asked for
+abbrev pub Holds : NamedStrings → Place → List ℕ → Type 0
+Holds texts First b = b ≡ []
+Holds texts (Address first) b = b ≡ []
+Holds texts (Device first) b = b ≡ []
+Holds texts (Header kind f) b = InSets kind f b × (length (sets_of kind f) < declared_sets kind f)
+Holds texts (Set kind f total) b = InSets kind f b × (length (sets_of kind f) < declared_sets kind f)
+Holds texts (Qualifier f) b = MainDone f b
+Holds texts (Languages f named) b = SetsDone f b × (0 < length (named_indices f)) × (named ≡ named_indices f) × IsTrue (is_asked texts)
+Holds texts (Text f s named) b = InStrings f s named b × (length s.texts < length s.languages * length named) × IsTrue (is_asked texts)
+Holds texts (Configure f) b = IsRead f b × (AreBytes b → IsReport texts f b)
+Holds texts (Reported f) b = IsRead f b × (AreBytes b → IsReport texts f b)
+Holds texts (Stopped trouble) b = Unit {0}
 
 -- What may still be asked for falls with each answer.
 
 -- A new host asks for at most `most` transactions, a reset adds none, and each answer that a read in work takes lowers
 -- what is left, whatever it is. The premise on `left` is what one transfer promises.
 pub record AsksLess : Type 0 where
-  pub at_most : (limits : LimitView) (speed : Speed) → left_to_ask (new_host limits speed) ≡ most limits
+  pub at_most : (limits : LimitView) (speed : Speed) (choice : Choice) → left_to_ask (chosen_host limits speed choice) ≡ most limits
   pub resets : (v : HostView) → v.phase ≡ ResetDue → v.resets < v.limits.attempts →
       IsSteady (reset v).phase × (left_to_ask (reset v) ≤ left_to_ask v)
   pub takes : (v w : HostView) (place : Place) (t : TransferView) (k : Kept) (answer : Answer) → v.phase ≡ Reading place t k → IsSteady v.phase →

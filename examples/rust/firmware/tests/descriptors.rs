@@ -31,7 +31,7 @@ fn the_mouse_is_polled_at_endpoint_1() {
 fn what_is_wrong_is_said() {
     let mut broken = SET;
     broken[13] = 2; // bNumEndpoints
-    assert!(findings(&broken).unwrap().starts_with("at 9: V5: "));
+    assert_eq!(findings(&broken).unwrap(), "at 9: V5: bNumEndpoints is 2, and the setting has 1 endpoint\n");
     broken[2] = 35; // wTotalLength: a byte more than there is
-    assert_eq!(findings(&broken).unwrap_err(), "set fault 9 (Truncated) at 34");
+    assert_eq!(findings(&broken).unwrap_err(), "set fault 9 (Truncated) at 34: the bytes end before the set does");
 }

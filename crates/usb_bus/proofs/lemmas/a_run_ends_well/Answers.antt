@@ -14,5 +14,5 @@ returns c = record {
       fates earlier n last runs
       (c.an_enumeration_reads_the_description.ensures.causes set_of limits speed f table (fates_used fates n) owned exact accepted fits range);
   limits = λ limits speed f table fates earlier n last owned fits some runs.
-      run_ends_soon f fits table owned c.a_host_ends.ensures limits speed fates earlier n last some runs;
+      run_ends_soon f fits table owned c.a_host_ends.ensures.everything limits speed fates earlier n last some runs;
 }

@@ -1,5 +1,6 @@
 use Rattle.std.proofs.Common.{◌∙◌, IfSome, refl, sym, ap, subst, arith}
 use Rattle.std.specs.Prelude.{IsNone, IsSome}
+use Rattle.usb_host.specs.Terms.{everything}
 use Rattle.usb_host.specs.Steps.{new_host}
 use Rattle.usb_host.proofs.LowerLemmas.{asks_less}
 use Rattle.usb_bus.specs.declared.enumeration.Run.{Run}
@@ -14,7 +15,7 @@ use Rattle.usb_bus.proofs.steps.run_with.Goals as goal
 pub loop-host-init : goal.loop-host-init
 loop-host-init g c =
     let new = c.new-host.ensures ∙ ap (λ s. new_host c.args.limits s) c.speed.ensures in
-    let most_new = asks_less.at_most c.args.limits c.args.d.now.speed in
+    let most_new = asks_less.at_most c.args.limits c.args.d.now.speed everything in
     record {
       leads = leads_none c.args.d.now.file c.args.d.now.speed c.args.limits c.args.fates.now (g.S.Steps.does c.args.d.now.file c.args.fates.now)
           (both c.new-host.result c.of-device.result.device) c.args.w.now

@@ -6,7 +6,7 @@ use Rattle.usb_host.specs.Steps.{Reading}
 use Rattle.usb_host.proofs.current_read.begin.Goals as goal
 
 -- nothing is kept yet
-pub returns : goal.returns
-returns c =
+pub returns-clause-stands : goal.returns-clause-stands
+returns-clause-stands c =
     ap (λ k. Reading First c.transfer_at-transfer.result k) (c.new.ensures dues.First c.new-draft.result)
     ∙ c.transfer_at-transfer.ensures (kept.Bytes []) refl

@@ -1,5 +1,8 @@
-use Rattle.std.proofs.Common.{sym}
+use Rattle.std.proofs.Common.{◌∙◌, ap, arith, inr, subst, sym, ◌+◌}
 use Rattle.usb_fields.specs.Packets.{sent_of}
+use Rattle.usb_device.specs.Requests.{answer}
+use Rattle.usb_bus.specs.Damaged.{IsExchanged, bits_of}
+use Rattle.usb_bus.specs.Run.{fate_at}
 use Rattle.usb_bus.proofs.AddressLemmas.{legal_due, take_within}
 use Rattle.usb_bus.proofs.wire.enumeration.step_bytes.Goals as goal
 
@@ -10,3 +13,25 @@ pub returns-in-Send-clause-within : goal.returns-in-Send-clause-within
 returns-in-Send-clause-within g c =
     let (answered, r, carries, heard, device) = c.exchange_bytes.ensures in
     take_within c.args.host.now c.exchange_bytes.new.host r.reply c.requires.within heard.0
+
+pub returns-in-Send-clause-seen : goal.returns-in-Send-clause-seen
+returns-in-Send-clause-seen g c =
+    let f = c.args.device.now.description.file in
+    let d = c.args.device.now.device in
+    let sent = sent_of c.in-Send.t in
+    let (answered, r, carries, heard, device) = c.exchange_bytes.ensures in
+    let at = c.at-fate.ensures ∙ ap (fate_at c.args.wire.fates.now) c.from-before.ensures in
+    inr (
+      record {
+        sent = sent;
+        due = sym c.in-Send.ensures.action;
+        answered = answered;
+        brings = r;
+        carries = subst (λ n. IsExchanged (answer f) f.device.packet d sent (fate_at c.args.wire.fates.now c.args.transactions) (bits_of c.args.wire.changes.now (n + 1)) answered r) c.from-before.ensures
+            (subst (λ fate. IsExchanged (answer f) f.device.packet d sent fate (bits_of c.args.wire.changes.now (c.from-before.result + 1)) answered r) at carries);
+        host = heard.0;
+        device = ap (λ v. v.device) device;
+      },
+      omega arith,
+      heard.2,
+    )

@@ -12,4 +12,4 @@ returns-clause-fewer c =
     c.self.view_is
     (begun_fewer (view_of c.self.inside) (stands c.begin.result)
     (ap (λ b. phase_in b (place_in c.self.inside.reading) c.self.inside.reading.transfer (kept_in c.self.inside.reading)) c.if-not-self.false)
-    c.self.invariant c.begin.ensures)
+    c.self.invariant c.begin.ensures.stands)

@@ -17,7 +17,7 @@ returns-then-has_ended-clause-taken c =
     })))
     c.self.view_is
     (host_takes (view_of c.self.inside) (place_in c.self.inside.reading) (place_in c.take-has_ended.new.self) c.self.inside.reading.transfer c.take-has_ended.new.self.transfer
-    (kept_in c.self.inside.reading) (kept_in c.take-has_ended.new.self) (reply_of c.args.answer) c.may_try_again-self-inside.result
+    (kept_in c.self.inside.reading) (kept_in c.take-has_ended.new.self) (reply_of c.args.answer) c.may_try_again-self-inside.result c.take-has_ended.new.self.forgiven
     (reads_here c.self.inside.reset_due (place_in c.self.inside.reading) c.self.inside.reading.transfer (kept_in c.self.inside.reading) c.if-self.false (sym (c.if-is_end.ensures c.self.inside.reading.draft)))
     c.take-has_ended.ensures.takes c.may_try_again-self-inside.ensures)
 
@@ -41,7 +41,7 @@ returns-else-has_ended-clause-taken c =
     })))
     c.self.view_is
     (host_takes (view_of c.self.inside) (place_in c.self.inside.reading) (place_in c.take-has_ended.new.self) c.self.inside.reading.transfer c.take-has_ended.new.self.transfer
-    (kept_in c.self.inside.reading) (kept_in c.take-has_ended.new.self) (reply_of c.args.answer) c.self.inside.reset_due
+    (kept_in c.self.inside.reading) (kept_in c.take-has_ended.new.self) (reply_of c.args.answer) c.self.inside.reset_due c.take-has_ended.new.self.forgiven
     (reads_here c.self.inside.reset_due (place_in c.self.inside.reading) c.self.inside.reading.transfer (kept_in c.self.inside.reading) c.if-self.false (sym (c.if-is_end.ensures c.self.inside.reading.draft)))
     c.take-has_ended.ensures.takes
     (c.if-self.false ∙ sym (ap (λ b. b && nat_lt c.self.inside.resets c.self.inside.limits.attempts) (c.take-has_ended.ensures.quiet c.if-has_ended.false))))
