@@ -4,6 +4,7 @@ import glob
 import importlib.util
 import json
 import os
+import random
 import re
 
 from . import array, data_of, held, inputs, program, ready, said
@@ -43,6 +44,29 @@ def difference(came, wanted):
         if one != other:
             return f"{one!r} in place of {other!r}"
     return f"{len(came)} characters in place of {len(wanted)}"
+
+
+def mutations(page, usbdesc, count):
+    """Of broken bytes too the text is the program's, and every tab draws what there is of them."""
+    chance, all_inputs = random.Random(75), list(inputs())
+    for number in range(count):
+        name, data = chance.choice(all_inputs)
+        data = bytearray(data)
+        for _ in range(chance.randint(1, 4)):
+            data[chance.randrange(len(data))] = chance.choice((0, 1, 2, 4, 5, 9, 11, 255, chance.randrange(256)))
+        data = data[: chance.choice((len(data), chance.randrange(len(data) + 1)))]
+        wanted = program(usbdesc, *OPTIONS, given=data)[0]
+        came = page.value(f"""(async () => {{
+            tab('{("tree", "picture", "ladder")[number % 3]}');
+            await drop({array(data)}, 'mutation');
+            await sleep(20);
+            return textShown();
+        }})()""")
+        held(f"mutation {number} of {name}: the text is the program's", came == IN_HEXADECIMAL.sub("", wanted), difference(came, wanted), data.hex(" "))
+        told = page.value("at('told').textContent + at('ladder-told').textContent")
+        held(f"mutation {number} of {name}: no error", not page.errors and not re.search("undefined|null|not a function", told), told, page.errors, data.hex(" "))
+    page.value("tab('tree')")
+    said(f"{count} mutations have the program's texts, and are drawn")
 
 
 def fields(page):

@@ -17,7 +17,8 @@ import tempfile
 import webbrowser
 
 __all__ = ["main", "page_of"]
-_PAGE = os.path.join(os.path.dirname(__file__), "nozzlegorse.html")
+# In a wheel it is beside this file, in a Debian package with the documents.
+_PAGES = [os.path.join(os.path.dirname(__file__), it) for it in ("nozzlegorse.html", "../../doc/nozzlegorse/nozzlegorse.html")]
 _SYS = "/sys/bus/usb/devices"
 _GIVEN = '<script type="text/plain" id="given"></script>'
 _BUS_ID = re.compile(r"usb\d+|\d+-\d+(\.\d+)*")
@@ -54,7 +55,7 @@ def main(words: list[str] | None = None) -> int:
     asked = parser.parse_args(words)
     try:
         data = _bytes_of(asked.target) if asked.target else b""
-        with open(_PAGE, encoding="utf-8") as it:
+        with open(next(filter(os.path.exists, _PAGES), _PAGES[0]), encoding="utf-8") as it:
             page = page_of(it.read(), data, asked.target or "")
         path = _written(page, asked.out)
     except OSError as error:
