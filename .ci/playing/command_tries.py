@@ -73,6 +73,7 @@ TRIES = [
     ("nozzlegorse usbip", 2, ["nozzlegorse.usbip: the following arguments are required: FILE"]),
     ("nozzlegorse bench x", 2, ["nozzlegorse.bench: "]),
     ("nozzlegorse usbfs 99-99", 2, ["no such device"]),
+    ("nozzlegorse page missing.bin --out page.html", 2, ["No such file"]),
     ("ulimit -v 400000; nozzlegorse explain /dev/zero", 2, ["nozzlegorse: "]),
     ("set -m; mkfifo ctrl-c; nozzlegorse check ctrl-c & exec 3> ctrl-c; kill -INT %1; wait %1", 130, []),
 ]

@@ -18,7 +18,7 @@ import webbrowser
 
 __all__ = ["main", "page_of"]
 # In a wheel it is beside this file, in a Debian package with the documents.
-_PAGES = [os.path.join(os.path.dirname(__file__), it) for it in ("nozzlegorse.html", "../../doc/nozzlegorse/nozzlegorse.html")]
+_PAGES = [os.path.join(os.path.dirname(__file__), it) for it in ("nozzlegorse.html", "../../../doc/nozzlegorse/nozzlegorse.html")]
 _SYS = "/sys/bus/usb/devices"
 _GIVEN = '<script type="text/plain" id="given"></script>'
 _BUS_ID = re.compile(r"usb\d+|\d+-\d+(\.\d+)*")
