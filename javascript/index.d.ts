@@ -30,6 +30,8 @@ export interface Library {
     check(bytes: Uint8Array): Finding[];
     remarks(bytes: Uint8Array, options?: { speed?: Speed }): Remark[];
     walk(bytes: Uint8Array): Generator<Walked>;
+    /** Each whole set and each device descriptor in any bytes. */
+    find(bytes: Uint8Array): Generator<{ kind: 'set' | 'device'; place: number; bytes: Uint8Array }>;
     string(bytes: Uint8Array, descriptor: Descriptor): string;
     /** Each export of nozzlegorse.h by its name, over values: devices, hosts, transfers and writes too. */
     calls: Calls;

@@ -76,6 +76,12 @@ function facts(calls) {
             while (calls.nzg_next(bytes, cursor))
                 yield { ...cursor, bytes: bytes.subarray(cursor.place, cursor.place + cursor.length), fields: [...fieldsOf(bytes, cursor)] };
         },
+        // Each whole set and each device descriptor in any bytes, 'set' or 'device', with its place.
+        * find(bytes) {
+            const found = { next: 0 };
+            while (calls.nzg_find(bytes, found.next, found))
+                yield { kind: found.kind === 1 ? 'set' : 'device', place: found.place, bytes: bytes.subarray(found.place, found.place + found.length) };
+        },
         string: (bytes, descriptor) => utf8.decode(done(calls.nzg_text(bytes, descriptor)).text),
     };
 }

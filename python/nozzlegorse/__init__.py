@@ -6,18 +6,18 @@
 >>> for finding in usb.check(data):
 ...     print(finding)
 
-`read` gives descriptors as values, `walk` also those of broken bytes; `check` gives findings, `remarks` what else is remarked;
+`read` gives descriptors as values, `walk` also those of broken bytes, `find` where sets and device descriptors stand in any bytes; `check` gives findings, `remarks` what else is remarked;
 `show`, `build` and `explain` the texts of the program `usbdesc`, `enumerate` a whole enumeration. `nozzlegorse.ends` has a device and a host transaction by
 transaction, `nozzlegorse.packets` the packets of the bus. What is refused is a `Fault`, a `ValueError` with its kind, number, name, place and message. Bytes are `bytes` or what
 any buffer holds.
 """
 from . import ends, packets
-from .descriptors import (Association, Configuration, Descriptor, Descriptors, Device, Endpoint, Field, Finding, Interface,
-                          Languages, Qualifier, Raw, Remark, String, check, judge, message, read, remarks, walk)
+from .descriptors import (Association, Configuration, Descriptor, Descriptors, Device, Endpoint, Field, Finding, Found, Interface,
+                          Languages, Qualifier, Raw, Remark, String, check, find, judge, message, read, remarks, walk)
 from .faults import Fault
 from .texts import Decoder, Enumeration, Explanation, build, enumerate, enumerate_log, explain, show, with_strings
 
 __version__ = "0.2.0-dev"
 __all__ = ["Association", "Configuration", "Decoder", "Descriptor", "Descriptors", "Device", "Endpoint", "Enumeration",
-           "Explanation", "Fault", "Field", "Finding", "Interface", "Languages", "Qualifier", "Raw", "Remark", "String", "build",
-           "check", "ends", "enumerate", "enumerate_log", "explain", "judge", "message", "packets", "read", "remarks", "show", "walk", "with_strings"]
+           "Explanation", "Fault", "Field", "Finding", "Found", "Interface", "Languages", "Qualifier", "Raw", "Remark", "String", "build",
+           "check", "ends", "enumerate", "enumerate_log", "explain", "find", "judge", "message", "packets", "read", "remarks", "show", "walk", "with_strings"]

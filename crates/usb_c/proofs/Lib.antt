@@ -22,3 +22,5 @@ mod StringItems
 mod StringTexts
 mod StringTrees
 mod StringsShown
+mod Seeking
+mod Standing

@@ -7,6 +7,7 @@ pub mod Descriptors
 pub mod Devices
 pub mod Enumerations
 pub mod Facts
+pub mod Found
 pub mod Hosts
 pub mod Remarks
 pub mod Strings
