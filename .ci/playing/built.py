@@ -43,3 +43,9 @@ def build(name, out, root=ROOT, cpu="x86-64", toolchain=f"{KIT}/toolchain"):
     words = [*crate.words(["--cpu", cpu]), "--toolchain", toolchain, "--incremental", "out/incremental"]
     run(f"{KIT}/bin/rattle", "build", *words, "-o", out, cwd=crate.folder)
     return out
+
+
+def library(folder):
+    """Builds usb_c as an archive and as a shared library in a folder."""
+    archive = build("usb_c", f"{folder}/libnozzlegorse.a")
+    run(LLD, "-shared", "--whole-archive", archive, "--no-whole-archive", f"{KIT}/c/liblibc_c.a", f"{KIT}/toolchain/lib/libc.so.6", "-o", f"{folder}/libnozzlegorse.so")

@@ -14,10 +14,11 @@ any buffer holds.
 from . import ends, packets
 from .descriptors import (Association, Configuration, Descriptor, Descriptors, Device, Endpoint, Field, Finding, Found, Interface,
                           Languages, Qualifier, Raw, Remark, String, check, find, judge, message, read, remarks, walk)
+from .dicts import to_dict
 from .faults import Fault
 from .texts import Decoder, Enumeration, Explanation, build, enumerate, enumerate_log, explain, show, with_strings
 
 __version__ = "0.2.0-dev"
 __all__ = ["Association", "Configuration", "Decoder", "Descriptor", "Descriptors", "Device", "Endpoint", "Enumeration",
            "Explanation", "Fault", "Field", "Finding", "Found", "Interface", "Languages", "Qualifier", "Raw", "Remark", "String", "build",
-           "check", "ends", "enumerate", "enumerate_log", "explain", "find", "judge", "message", "packets", "read", "remarks", "show", "walk", "with_strings"]
+           "check", "ends", "enumerate", "enumerate_log", "explain", "find", "judge", "message", "packets", "read", "remarks", "show", "to_dict", "walk", "with_strings"]

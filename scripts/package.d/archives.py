@@ -42,11 +42,14 @@ Architecture: amd64
 Maintainer: {maintainer}
 Installed-Size: {size}
 Depends: libc6 (>= 2.14)
+Recommends: python3 (>= 3.10)
 Section: utils
 Priority: optional
 {homepage}Description: {summary}
  The program usbdesc explains, checks, lists and builds the descriptors of a
- USB device, and reads them as a host does over a bus that loses packets.
+ USB device, and reads them as a host does over a bus that loses packets. The
+ command nozzlegorse does so of files and of devices that are plugged in, and
+ compares them, in the forms that CI reads. It is written in Python.
  .
  The library has the same calls for C, and both ends of the control pipe,
  transaction by transaction. Its header, archive and pkg-config file are in
@@ -56,6 +59,19 @@ Priority: optional
 # Which package has a library of this name and number.
 SHLIBS = """libnozzlegorse {number} nozzlegorse (>= {version})
 libnozzlegorse_bench {number} nozzlegorse (>= {version})
+"""
+# The command of the Python package, beside which its library is.
+STARTS = """#!/bin/sh
+here=$(dirname "$(realpath "$0")")/..
+: "${{NOZZLEGORSE_LIBRARY:=$here/{library}}}"
+export NOZZLEGORSE_LIBRARY
+exec python3 -B "$here/share/nozzlegorse/python" "$@"
+"""
+MAIN = """import sys
+
+from nozzlegorse.command import main
+
+sys.exit(main())
 """
 METADATA = """Metadata-Version: 2.1
 Name: nozzlegorse
@@ -86,6 +102,7 @@ class Made(NamedTuple):
     version: str
     room: str
     help: pages.Help
+    command: pages.CommandHelp
     epoch: int
     repository: str = ""
 
@@ -103,8 +120,15 @@ def read(path):
         return it.read()
 
 
-def man(made):
-    return pages.man(made.help, made.version, made.epoch).encode()
+def pages_of(made):
+    """The man pages and completions of both programs, by their places."""
+    files = {}
+    for it in (made.help, made.command):
+        files[f"share/man/man1/{it.name}.1.gz"] = gzip.compress(pages.man(it, made.version, made.epoch).encode(), 9, mtime=0), 0o644
+        files[f"share/bash-completion/completions/{it.name}"] = pages.bash(it).encode(), 0o644
+        files[f"share/zsh/vendor-completions/_{it.name}"] = pages.zsh(it).encode(), 0o644
+        files[f"share/fish/vendor_completions.d/{it.name}.fish"] = pages.fish(it).encode(), 0o644
+    return files
 
 
 def with_version(path, made):
@@ -114,7 +138,9 @@ def with_version(path, made):
 
 
 def python_module():
-    return [*sorted(glob.glob(f"{ROOT}/python/nozzlegorse/*.py")), *glob.glob(f"{ROOT}/python/nozzlegorse/py.typed")]
+    """The files of the package by their names in it."""
+    found = (it for kind in ("**/*.py", "py.typed") for it in glob.glob(f"{ROOT}/python/nozzlegorse/{kind}", recursive=True))
+    return {os.path.relpath(it, f"{ROOT}/python"): it for it in sorted(found)}
 
 
 def bench():
@@ -139,12 +165,13 @@ def unlinked(name, content):
 
 
 def shared():
-    """What each package has at the same places: the bench for C, and all examples."""
+    """What each package has at the same places: the bench for C, all examples, and the schema of JSON."""
     files = {f"share/nozzlegorse/bench/{os.path.basename(it)}": (read(it), 0o644) for it in bench()}
     for name, path in examples():
         if name not in UNPACKED:
             mode = 0o755 if os.access(path, os.X_OK) else 0o644
             files[f"share/doc/nozzlegorse/examples/{name}"] = unlinked(name, read(path)), mode
+    files["share/doc/nozzlegorse/schema.json"] = read(f"{ROOT}/docs/schema.json"), 0o644
     return files
 
 
@@ -169,11 +196,11 @@ def installed(made, libdir, prefix):
         f"{plain}_bench.so": (of_bench, 0o777),
         f"{libdir}/pkgconfig/nozzlegorse.pc": (config.encode(), 0o644),
         "include/nozzlegorse.h": (read(f"{made.room}/nozzlegorse.h"), 0o644),
-        "share/man/man1/usbdesc.1.gz": (gzip.compress(man(made), 9, mtime=0), 0o644),
-        "share/bash-completion/completions/usbdesc": (pages.bash(made.help).encode(), 0o644),
-        "share/zsh/vendor-completions/_usbdesc": (pages.zsh(made.help).encode(), 0o644),
-        "share/fish/vendor_completions.d/usbdesc.fish": (pages.fish(made.help).encode(), 0o644),
         "share/doc/nozzlegorse/copyright": (read(f"{ROOT}/LICENSE"), 0o644),
+        "bin/nozzlegorse": (STARTS.format(library=f"{libdir}/{major}").encode(), 0o755),
+        **{f"share/nozzlegorse/python/{name}": (with_version(path, made), 0o644) for name, path in python_module().items()},
+        "share/nozzlegorse/python/__main__.py": (MAIN.encode(), 0o644),
+        **pages_of(made),
         **shared(),
     }
 
@@ -255,12 +282,13 @@ def metadata(made):
 def wheel(made):
     name = f"nozzlegorse-{made.for_python()}"
     info = f"{name}.dist-info"
-    files = {f"nozzlegorse/{os.path.basename(it)}": (with_version(it, made), 0o644) for it in python_module()}
+    files = {name: (with_version(path, made), 0o644) for name, path in python_module().items()}
     for library in ("libnozzlegorse.so", "libnozzlegorse_bench.so"):
         files[f"nozzlegorse/{library}"] = read(f"{made.room}/{library}"), 0o644
     files[f"{name}.data/scripts/usbdesc"] = read(f"{made.room}/usbdesc"), 0o755
     # In the package's folder, which pip removes whole.
-    files |= {f"nozzlegorse/{path}": it for path, it in shared().items()}
+    files |= {f"nozzlegorse/{path}": it for path, it in (shared() | pages_of(made)).items()}
+    files[f"{info}/entry_points.txt"] = b"[console_scripts]\nnozzlegorse = nozzlegorse.command:main\n", 0o644
     files["nozzlegorse/include/nozzlegorse.h"] = read(f"{made.room}/nozzlegorse.h"), 0o644
     files[f"{info}/METADATA"] = metadata(made).encode(), 0o644
     files[f"{info}/WHEEL"] = f"Wheel-Version: 1.0\nGenerator: nozzlegorse\nRoot-Is-Purelib: false\nTag: {WHEEL}\n".encode(), 0o644
