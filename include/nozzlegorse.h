@@ -160,6 +160,16 @@ struct nzg_answer nzg_fields(const uint8_t *bytes, nzg_size len, const struct nz
 /* The first with this name, as wMaxPacketSize. False as nzg_field. */
 bool nzg_field_named(const uint8_t *bytes, nzg_size len, const struct nzg_descriptor *descriptor, const uint8_t *name, nzg_size name_len, struct nzg_field *field);
 
+struct nzg_found {
+    nzg_size place, length; /* of its first byte; in bytes */
+    nzg_size next;          /* where the search goes on: behind a set; one byte on in a device descriptor, which hides nothing */
+    uint8_t kind;         /* 1 a set, 4 a device descriptor */
+};
+/* What stands first from a place on in any bytes, as a firmware image: a whole set whose first descriptor has 9 bytes, or a device
+ * descriptor, of which bLength, type, bcdUSB, bMaxPacketSize0 and bNumConfigurations are looked at. False where nothing follows:
+ * nothing changes then. A try reads bLength and type of each descriptor, at most to wTotalLength. */
+bool nzg_find(const uint8_t *bytes, nzg_size len, nzg_size start, struct nzg_found *found);
+
 /* --- facts about bytes; these ask for memory ----------------------------------------------------------------------- */
 
 /* what the bytes are: done, and number 1 a set, 2 a descriptor file, 3 a dump; or the fault */

@@ -36,6 +36,8 @@ export interface Library {
     walk(bytes: Uint8Array): Generator<Walked>;
     /** Its first field of a name, as 'wMaxPacketSize'. */
     field(bytes: Uint8Array, descriptor: Descriptor, name: string): NamedField | null;
+    /** Each whole set and each device descriptor in any bytes. */
+    find(bytes: Uint8Array): Generator<{ kind: 'set' | 'device'; place: number; bytes: Uint8Array }>;
     string(bytes: Uint8Array, descriptor: Descriptor): string;
     /** Each export of nozzlegorse.h by its name, over values: devices, hosts, transfers and writes too. */
     calls: Calls;

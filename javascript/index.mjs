@@ -85,6 +85,12 @@ function facts(calls) {
             const field = {};
             return calls.nzg_field_named(bytes, descriptor, new TextEncoder().encode(name), field) ? named(field) : null;
         },
+        // Each whole set and each device descriptor in any bytes, 'set' or 'device', with its place.
+        * find(bytes) {
+            const found = { next: 0 };
+            while (calls.nzg_find(bytes, found.next, found))
+                yield { kind: found.kind === 1 ? 'set' : 'device', place: found.place, bytes: bytes.subarray(found.place, found.place + found.length) };
+        },
         string: (bytes, descriptor) => utf8.decode(done(calls.nzg_text(bytes, descriptor)).text),
     };
 }

@@ -1,5 +1,6 @@
-/* walk FILE: a line for each descriptor: its numbers, and its fields as name=place+width:value. Ends in 9 where memory was
- * asked for, and in 8 where a field is another by its number or its name than in the list of all. */
+/* walk FILE: a line for each descriptor: its numbers, and its fields as name=place+width:value. Then one for each set and each
+ * device descriptor that is found. Ends in 9 where memory was asked for, and in 8 where a field is another by its number or its
+ * name than in the list of all. */
 #include "pool.h"
 #include "hosted.h"
 
@@ -40,5 +41,7 @@ int main(int argc, char **argv) {
             printf(" %.*s=%zu+%u:%llu", f->name_length, (char *)f->name, f->place, f->width, (unsigned long long)f->value);
         printf("\n");
     }
+    struct nzg_found found = {0};
+    while (nzg_find(bytes, (size_t)read, found.next, &found)) printf("found %zu %zu %u\n", found.place, found.length, found.kind);
     return pool_calls ? 9 : 0;
 }

@@ -13,6 +13,7 @@ struct nzg_descriptor { size_t place, languages_place, endpoint_number; uint64_t
     role, owner, depth, part, index; size_t next, left, strings, main_sets, other_sets, set, associations, settings, setting, endpoints;
     uint8_t interface_, alternate, class_, subclass, protocol, endpoint, below; bool is_other, has_device, has_languages; };
 struct nzg_field { size_t place; uint64_t value; uint8_t width, name_length, name[62]; };
+struct nzg_found { size_t place, length, next; uint8_t kind; };
 struct nzg_finding { size_t place, set, setting, endpoint; uint8_t rule, part, role; };
 struct nzg_remark { size_t place, set, setting, endpoint; uint8_t number, part, role; };
 struct nzg_packet_fields { uint32_t split; uint16_t frame, place, length; uint8_t pid, address, endpoint; };
@@ -40,6 +41,7 @@ bool nzg_next(const uint8_t *, size_t, struct nzg_descriptor *);
 bool nzg_field(const uint8_t *, size_t, const struct nzg_descriptor *, size_t, struct nzg_field *);
 struct nzg_answer nzg_fields(const uint8_t *, size_t, const struct nzg_descriptor *, struct nzg_field *, size_t);
 bool nzg_field_named(const uint8_t *, size_t, const struct nzg_descriptor *, const uint8_t *, size_t, struct nzg_field *);
+bool nzg_find(const uint8_t *, size_t, size_t, struct nzg_found *);
 struct nzg_answer nzg_judge(const uint8_t *, size_t);
 struct nzg_answer nzg_findings(const uint8_t *, size_t, struct nzg_finding *, size_t);
 struct nzg_answer nzg_remarks(const uint8_t *, size_t, uint8_t, struct nzg_remark *, size_t);

@@ -215,6 +215,17 @@ class Configuration(Descriptor):
         return f" {self.value}, {len(self.interfaces)} settings"
 
 
+class Found(Value):
+    """What stands among other bytes: a whole 'set', or a 'device' descriptor alone, which may stand there by chance."""
+
+    place: int
+    kind: str
+    bytes: bytes
+
+    def __str__(self) -> str:
+        return f"at {self.place}: {self.kind}, {len(self.bytes)} bytes"
+
+
 class Finding(Value):
     """A rule of chapter 9 that is broken, by which descriptor. Sets, settings and endpoints are numbers from 0, each in what it belongs
     to. `str` has its place, its rule and its message."""
@@ -306,6 +317,18 @@ def _walk(data, length, at):
             ROLES[at.role], at.place, data[at.place:at.place + at.length], at.depth, ROLES[at.owner], PARTS[at.part], at.set,
             at.setting, at.endpoint_number, at.interface_, at.alternate, (at.class_, at.subclass, at.protocol), data,
             bytes(at))
+
+
+def find(data: bytes) -> Iterator[Found]:
+    """Each whole set and each device descriptor in any bytes, as a firmware image, in their order. What is within a set is listed with
+    it alone."""
+    (data, length), at = c.lend(data), c.structs["found"]()
+    return iter(_find(data, length, at))
+
+
+def _find(data, length, at):
+    while c.lib.nzg_find(data, length, at.next, at):
+        yield Found(at.place, "set" if at.kind == 1 else "device", data[at.place:at.place + at.length])
 
 
 def judge(data: bytes) -> str:

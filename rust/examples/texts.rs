@@ -20,7 +20,11 @@ fn walk(bytes: &[u8]) -> String {
         format!("{place} {length} {role} {depth} {owner} {part} {set} {setting} {endpoint} {interface} {alternate} ")
             + &format!("{class} {subclass} {protocol} {language} {index}{fields}\n")
     };
-    descriptors(bytes).map(line).collect()
+    let found = |it: nozzlegorse::Found| {
+        let kind = if it.kind == nozzlegorse::FoundKind::Set { 1 } else { 4 };
+        format!("found {} {} {kind}\n", it.place, it.bytes.len())
+    };
+    descriptors(bytes).map(line).chain(nozzlegorse::find(bytes).map(found)).collect()
 }
 
 /// A line for each configuration and each setting, interface after interface.

@@ -3,6 +3,7 @@
 mod descriptor;
 mod ends;
 mod fault;
+mod find;
 mod packet;
 mod sys;
 mod tree;
@@ -16,6 +17,7 @@ pub use ends::{
 };
 use fault::done;
 pub use fault::{Fault, Kind, Step};
+pub use find::{find, Found, FoundKind, Finds};
 pub use packet::{crc16, crc5, Damage, DataKind, Handshake, Packet, TokenKind};
 use std::fmt;
 use sys::{nzg_answer, nzg_outcome};

@@ -30,6 +30,7 @@ structs! {
         bool: is_other has_device has_languages;
     }
     nzg_field { usize: place; u64: value; u8: width name_length; [u8; 62]: name; }
+    nzg_found { usize: place length next; u8: kind; }
     nzg_finding { usize: place set setting endpoint; u8: rule part role; }
     nzg_remark { usize: place set setting endpoint; u8: number part role; }
     nzg_packet_fields { u32: split; u16: frame place length; u8: pid address endpoint; }
@@ -68,6 +69,7 @@ extern "C" {
         bytes: *const u8, len: usize, descriptor: *const nzg_descriptor, name: *const u8, name_len: usize,
         field: *mut nzg_field,
     ) -> bool;
+    pub fn nzg_find(bytes: *const u8, len: usize, start: usize, found: *mut nzg_found) -> bool;
     pub fn nzg_judge(bytes: *const u8, len: usize) -> nzg_answer;
     pub fn nzg_findings(bytes: *const u8, len: usize, found: *mut nzg_finding, room: usize) -> nzg_answer;
     pub fn nzg_remarks(bytes: *const u8, len: usize, speed: u8, remarks: *mut nzg_remark, room: usize) -> nzg_answer;

@@ -23,3 +23,5 @@ mod StringItems
 mod StringTexts
 mod StringTrees
 mod StringsShown
+mod Seeking
+mod Standing

@@ -9,6 +9,7 @@ pub mod Enumerations
 pub mod Explaining
 pub mod Facts
 pub mod FieldLists
+pub mod Found
 pub mod FromText
 pub mod Hosts
 pub mod Remarks

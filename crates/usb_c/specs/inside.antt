@@ -1,3 +1,4 @@
 pub mod Refusals
 pub mod Taking
 pub mod Owning
+pub mod Seeking

@@ -9,6 +9,8 @@
 //! memory: `specs/Descriptors.antt`, `specs/DescriptorFields.antt`. [`laws`] says which descriptors those are. So are a transfer and a
 //! write: `specs/Transfers.antt`, `specs/Writes.antt`.
 //!
+//! `nzg_find` is what stands first among any bytes, whole sets and device descriptors: `specs/Found.antt`.
+//!
 //! `nzg_packet_parse` and `nzg_packet_write` are packets of the bus from PID to CRC: `specs/BusPackets.antt`.
 //!
 //! Each call comes to a `Verdict`, which is given as the numbers of an [`Answer`]. [`NzgTransaction`], [`NzgPacket`],
@@ -30,6 +32,7 @@ mod enumeration_log;
 mod explaining;
 mod fault_text;
 mod fields;
+mod find;
 mod finding;
 mod finding_text;
 mod from_text;
@@ -71,6 +74,7 @@ pub use enumeration::NzgOutcome;
 pub use enumeration_log::nzg_enumerate_log;
 pub use fault_text::nzg_fault_text;
 pub use fields::{nzg_field_named, nzg_fields};
+pub use find::{NzgFound, nzg_find};
 pub use finding::{NzgFinding, nzg_findings, nzg_rule};
 pub use finding_text::nzg_finding_text;
 pub use from_text::nzg_from_text;

@@ -3,11 +3,12 @@ from __future__ import annotations
 
 import sys
 
-from . import checking, difference, explaining, listing
+from . import checking, difference, explaining, finding, listing
 from .terminal import Terminal, give_up, say
 from .words import parser
 
-_COMMANDS = {"list": listing.listed, "explain": explaining.explained, "check": checking.checked, "show": explaining.listed, "diff": difference.differs}
+_COMMANDS = {"list": listing.listed, "explain": explaining.explained, "check": checking.checked, "show": explaining.listed, "find": finding.searched,
+             "diff": difference.differs}
 _BAD = 2
 
 

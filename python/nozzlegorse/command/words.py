@@ -20,6 +20,7 @@ EXAMPLES = {
     "explain": ["explain 1-1", "explain 0483:5740 | less", "explain --speed high desc.bin", "xclip -o | nozzlegorse explain -"],
     "check": ["check desc.bin", "check --fail remarks 1-1", "check --format sarif firmware/*.bin > report.sarif"],
     "show": ["show 1-1 > device.txt"],
+    "find": ["find firmware.elf", "find --extract found firmware.hex firmware.uf2"],
     "diff": ["diff good.bin bad.bin", "diff 1-1 firmware/desc.bin"],
 }
 
@@ -92,6 +93,10 @@ def parser() -> Words:
     it.add_argument("--format", choices=FORMATS, metavar="FORMAT", help="words, github, gitlab, junit, sarif or json; without it words, or in a job of GitHub or GitLab its form")
     it.add_argument("--fail", choices=("findings", "remarks", "never"), default="findings", metavar="WHAT", help="for what the status is 1: findings, which is so without it, remarks too, or never")
     _targets(_command(commands, "show", "lists descriptors as text, which 'usbdesc build' makes into the same bytes"), speed=False)
+    it = _command(commands, "find", "finds sets and device descriptors in any file, as a firmware image",
+                  " Intel HEX and UF2 are put together first, and the places are addresses. The status is 1 where a rule is broken, and 2 where a FILE can't be read.")
+    it.add_argument("files", metavar="FILE", nargs="+", help="any file, or - for standard input")
+    it.add_argument("--extract", metavar="FOLDER", help="writes what is found into files there")
     it = _command(commands, "diff", "says what differs of two devices, a line a field", " The status is 1 where something does.")
     it.add_argument("targets", metavar="TARGET", nargs=2, help=" ".join(_TARGET.split()))
     it.add_argument("--speed", choices=SPEEDS, metavar="SPEED", help="at which both ran: low, full, high or super")
