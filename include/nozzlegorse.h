@@ -165,9 +165,9 @@ struct nzg_found {
     nzg_size next;          /* where the search goes on: behind a set; one byte on in a device descriptor, which hides nothing */
     uint8_t kind;         /* 1 a set, 4 a device descriptor */
 };
-/* What stands first from a place on in any bytes, as a firmware image: a whole set whose first descriptor has 9 bytes, or a device
- * descriptor, of which bLength, type, bcdUSB, bMaxPacketSize0 and bNumConfigurations are looked at. False where nothing follows:
- * nothing changes then. A try reads bLength and type of each descriptor, at most to wTotalLength. */
+/* The first of these from a place on in any bytes, as a firmware image: a whole set whose first descriptor has 9 bytes, or a device
+ * descriptor, of which bLength, type, bcdUSB, bMaxPacketSize0 and bNumConfigurations are looked at. False where there is none:
+ * nothing changes then. The bytes of a set that isn't whole are looked at again by each set that seems to begin in them. */
 bool nzg_find(const uint8_t *bytes, nzg_size len, nzg_size start, struct nzg_found *found);
 
 /* --- facts about bytes; these ask for memory ----------------------------------------------------------------------- */

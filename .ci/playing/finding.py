@@ -111,4 +111,5 @@ def main():
     print(f"what stands among {len(counts)} runs of bytes: {sum(counts)} found, as a second reading has them")
 
 
-main()
+if __name__ == "__main__":
+    main()

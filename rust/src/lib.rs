@@ -17,7 +17,7 @@ pub use ends::{
 };
 use fault::done;
 pub use fault::{Fault, Kind, Step};
-pub use find::{find, Found, FoundKind, Finds};
+pub use find::{find, Finds, Found, FoundKind};
 pub use packet::{crc16, crc5, Damage, DataKind, Handshake, Packet, TokenKind};
 use std::fmt;
 use sys::{nzg_answer, nzg_outcome};
