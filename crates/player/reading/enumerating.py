@@ -269,7 +269,9 @@ class Host:
                 raise ValueError
             else:
                 other_sets = yield from self.read_sets("other_", 7, qualifier[8])
-        indices = [] if self.strings == "skipped" else named(device, sets + other_sets)
+        indices = named(device, sets + other_sets)
+        self.lacks_strings = self.strings == "skipped" and indices != []
+        indices = [] if self.lacks_strings else indices
         strings = yield from self.read_strings(indices)
         yield self.begin("configure", bytes([0, 9, sets[0][5], 0, 0, 0, 0, 0]))
         self.read = device + b"".join(sets) + qualifier + b"".join(other_sets) + strings
