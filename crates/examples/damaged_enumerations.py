@@ -2,8 +2,8 @@
 """Writes data/enumerate/damages.txt: rows of enumerations over a bus of bytes on which bits change.
 
 What must come is worked out by the second readings of an enumeration (../player/reading/enumerating.py), of packets
-(packets.py) and of a listing (reading.py). The bus is read here from docs/control-transfers.md once more: each packet is
-written, its bits change, and whoever receives it reads it or ignores it. Where each packet is changed slightly, the bus that
+(packets.py), of a listing (reading.py) and of a log (long_enumerations.py). The bus is read here from docs/control-transfers.md once
+more: each packet is written, its bits change, and whoever receives it reads it or ignores it. So are the lines of packets. Where each packet is changed slightly, the bus that
 loses packets must come to the same, or nothing is written. It shares no code with the crates. The gate compares what it writes
 (.ci/readings).
 """
@@ -15,7 +15,7 @@ import sys
 
 import packets
 import reading
-from long_enumerations import bytes_of, expand, names_of
+from long_enumerations import Log, bytes_of, expand, names_of
 
 HERE = os.path.dirname(os.path.abspath(__file__))
 sys.path.insert(0, os.path.join(HERE, "../player/reading"))
@@ -46,6 +46,35 @@ ROWS = [
     ("The DATA1 of a status stage becomes DATA0: the device acknowledges it, as a packet that came before.", "--damage 3:2:3,7", "MOUSE", None),
     ("An address that becomes another one by damage that the CRC misses is that of no device.", "--damage 1:1:ADDRESS", "MOUSE", "d"),
     ("At high speed, by the last two numbers that a list can name.", "--speed high --damage 1:1:008;18446744073709551615:3:4294967295", "MOUSE", None),
+]
+# The same with a log. Three transactions that fail end an attempt.
+LOGS = [
+    ("A bit of a token, and two of the host's ACK, which becomes a NAK.", "--brief --damage 1:1:9;3:3:3,7", "MOUSE", None),
+    ("A bit of a token, of the data of a SETUP, and of an ACK.", "--attempts 1 --damage 1:1:9;2:2:40;3:3:4", "MOUSE", "ddu"),
+    ("The same at a second transfer, of an IN.", "--attempts 1 --damage 2:1:8;3:2:79;4:2:0", "MOUSE", ".duu"),
+    ("The same of an OUT, of its empty data packet and of the ACK of that.", "--attempts 1 --damage 3:1:23;4:2:23;5:3:7", "MOUSE", "..ddu"),
+    ("One bit of the PID of a token and of data, and two bits of a CRC.", "--attempts 1 --damage 1:1:0;2:2:7;3:1:19,23", "MOUSE", "ddd"),
+    ("PIDs that are 0000: of an ACK, of data and of a token.", "--attempts 1 --damage 1:3:1,5;2:2:0,1,4,5;3:1:0,2,3,4,6,7", "MOUSE", None),
+    ("PIDs of packets of another length: a token is an ACK, data are an OUT, an ACK is DATA0.", "--attempts 1 --damage 1:1:0,1,2,3,4,5,6,7;2:2:1,5;3:3:0,4", "MOUSE", None),
+    ("Each damage of the data of an answer: three bits, sixteen in a row, and one of the PID beside others.",
+     "--attempts 1 --damage 2:2:8,50,71;3:2:60,61,62,63,64,65,66,67,68,69,70,71,72,73,74,75;4:2:3,9,10,11,12,13", "MOUSE", ".uuu"),
+    ("Bits past the end of a packet, a bit that is changed back, and the same bit three times.", "--attempts 1 --damage 1:1:24;1:2:88;1:3:8,4000000000;2:1:9,9;2:2:10,10,10;3:1:8;4:1:8", "MOUSE", ".udd"),
+    ("Packets that there are not.", "--attempts 1 --damage 1:1:9;1:3:0;2:1:9;2:2:64;3:1:9;3:3:2;9:1:1", "MOUSE", "ddd"),
+    ("An ACK of a SETUP becomes a NAK, which cannot follow.", "--damage 1:3:3,7", "MOUSE", None),
+    ("An ACK becomes a NYET, which is no answer to a SETUP.", "--attempts 1 --damage 1:3:2,6;2:1:8;3:1:8", "MOUSE", None),
+    ("Four bits of the setup packet that its CRC misses: the device answers more than was asked for.", "--damage 1:2:FOUR", "MOUSE", None),
+    ("Three bits of a token that its CRC misses: no device has this address.", "--attempts 1 --damage 1:1:ADDRESS;2:1:8;3:1:9", "MOUSE", "ddd"),
+    ("A token that becomes another one: an IN is an OUT, and then a SETUP, with no data after it.", "--attempts 1 --damage 2:1:3,7;3:1:2,6;4:1:9", "MOUSE", None),
+    ("A token that becomes a SOF, a PING, a SPLIT: a device that hears no token of its own is silent.", "--attempts 1 --damage 1:1:3,7;2:1:0,3,4,7;3:1:0,2,4,6", "MOUSE", None),
+    ("DATA1 becomes DATA0, which the host has had, and DATA2 and MDATA, which are none for it.", "--attempts 1 --damage 2:2:3,7;3:2:2,3,6,7;4:2:2,6", "MOUSE", None),
+    ("The host's ACK becomes a PRE.", "--attempts 1 --brief --damage 5:3:1,2,3,5,6,7", "MOUSE", None),
+    ("A NAK becomes an ACK.", "--fates .n --damage 2:2:3,7", "MOUSE", None),
+    ("What a fate loses isn't there to change.", "--attempts 1 --fates d.u --damage 1:1:8;2:3:5;3:3:1;4:1:0", "MOUSE", None),
+    ("The same with all packets.", "--attempts 1 --packets --fates d.u --damage 1:1:8;2:3:5;3:3:1;4:1:0", "MOUSE", None),
+    ("All packets of an enumeration in which nothing is lost.", "--packets", "MOUSE", ""),
+    ("The same in a brief log, of packets of 8 bytes; the ACK that ends SET_ADDRESS is lost.", "--packets --brief --fates ........a", "MOUSE 7=08", None),
+    ("A device that isn't ready.", "--packets --brief --naks 1 --attempts 1 --fates .nn", "MOUSE", None),
+    ("At high speed, with damage of every kind and a second attempt.", "--speed high --brief --damage 1:2:30;2:1:9;2:2:9;3:2:9;4:2:9", "MOUSE", None),
 ]
 BAD = ["", ";", "1:1:1;", "1:1", "1:1:1:1", "0:1:1", "1:0:1", "1:4:1", "1:1:", "1:1:1,", "1:1:-1", "1:1:x", ":1:1", "1::1", "1:1:1,,2", "18446744073709551616:1:1", "1:256:1",
        "1:1:4294967296", "a:1:1", "1:1:1;2", "1,1,1"]
@@ -84,13 +113,17 @@ class Bus:
 
     def arrives(self, place, packet, is_lost):
         """What is read of a packet that is sent, if one is."""
-        bits = [bit for number, at, bit in self.damages if (number, at) == (self.number, place) and packet and bit < 8 * len(packet)]
-        return packets.read(b"" if is_lost else packets.changed(packet, bits)) if packet else None
+        if packet is None:
+            return None
+        bits = [bit for number, at, bit in self.damages if (number, at) == (self.number, place)]
+        came = b"" if is_lost else packets.changed(packet, [bit for bit in bits if bit < 8 * len(packet)])
+        self.seen.append((place, packet, None if is_lost else bits, came))
+        return packets.read(came)
 
-    def transaction(self, device, host):
-        self.number += 1
+    def transaction(self, device, transfer):
+        """What the device answers, and what comes of it. `seen` has what happened to each packet."""
+        self.number, self.seen = self.number + 1, []
         fate = self.fates[self.number - 1] if self.number <= len(self.fates) else "."
-        transfer = host.transfer
         token = transfer.token()
         data = packet_of_data(False, token[1]) if token[0] == "setup" else packet_of_data(True, b"") if token[0] == "out" else None
         heard = heard_by_device(self.arrives(1, packet_of_token(transfer.address, token), fate == "d"), self.arrives(2, data, fate == "d"))
@@ -100,9 +133,9 @@ class Bus:
         came = (name == "Data1", fields[0]) if name in ("Data0", "Data1") else name.lower() if name in ("Ack", "Nak", "Stall") else "silence"
         is_data = isinstance(came, tuple)
         ack = self.arrives(at + 1, packets.written("Ack", []) if is_data else None, fate == "a")
-        host.take(came)
         if ack and ack[0] == "Ack":
             device.acked()
+        return reply, came
 
     def served(self, device, heard, ready):
         """What the device answers. After a read, data with DATA0 came before, and other data are stalled."""
@@ -117,23 +150,45 @@ class Bus:
         return device.serve(address, token, ready)
 
 
+class WireLog(Log):
+    """A log of that bus, which shows all packets or those alone that are changed."""
+
+    def __init__(self, device, host, bus, words):
+        self.bus, self.shows_all = bus, "--packets" in words
+        super().__init__(device, host, bus.fates, "--brief" in words)
+
+    def step(self, device, host, transfer, fate):
+        reply, came = self.bus.transaction(device, transfer)
+        below = [line for it in self.bus.seen if self.shows_all or it[2] for line in self.packet(*it)]
+        self.show(device, host, fate, reply, came, below)
+
+    def packet(self, place, sent, bits, came):
+        """The lines of a packet: a number for its place, what was sent, the changed bits or None where it was lost, and what came."""
+        if not bits:
+            return self.packet_lines(f"{place}: ", sent, "lost" if bits is None else "arrives")
+        changed = " ".join(["bits", *map(str, bits)])
+        if why := packets.damage_of(came):
+            return self.packet_lines(f"{place}: ", sent, f"{changed}: refused as {why}")
+        return self.packet_lines(f"{place}: ", sent, changed) + self.packet_lines("as ", came, "arrives")
+
+    def packet_lines(self, head, data, words):
+        name = packets.NAMES[data[0] & 15]
+        short, long = self.bytes(data)
+        return [f"{'':8}{head + {'StartOfFrame': 'SOF'}.get(name, name).upper():15}{short:17}{words}", *long]
+
+
 def run(words, given, names):
     """The exit status, and what the program writes with these words over these bytes."""
     options = dict(re.findall(r"--(\w+) ([^- ]\S*)", words))
     fates, data = expand(options.pop("fates", ""), names), bytes_of(given, names)
-    damages = damages_of(options.pop("damage", ""))
+    damages = damages_of(options.pop("damage")) if "damage" in options else []
     device, host = Device(File(data)), Host(**{name: text if name == "speed" else int(text) for name, text in options.items()})
-    bus = Bus(fates, damages)
-    while host.due != "ended":
-        if host.due == "reset":
-            device.reset()
-            host.reset_done()
-        else:
-            bus.transaction(device, host)
+    lines = WireLog(device, host, Bus(fates, damages), words).lines
+    log = "".join(f"{line}\n" for line in lines) if "--log" in words else ""
     if host.outcome:
-        return 1, f"{host.result()}\n"
+        return 1, f"{log}{host.result()}\n"
     assert host.read == data
-    return 0, f"{host.result()} address {device.address} value {device.selected}\n{reading.listing('file', data)}"
+    return 0, f"{log}{host.result()} address {device.address} value {device.selected}\n{reading.listing('file', data)}"
 
 
 def damages_of(text):
@@ -172,7 +227,7 @@ def missed_in_token():
 def same_under(fates, words, given, names):
     """What comes of the bus that loses packets, under these fates."""
     options = dict(re.findall(r"--(\w+) ([^- ]\S*)", words))
-    options.pop("damage")
+    options.pop("damage", None)
     data = bytes_of(given, names)
     device, host = Device(File(data)), Host(**{name: text if name == "speed" else int(text) for name, text in options.items()})
     enumerate_device(device, host, fates)
@@ -181,13 +236,13 @@ def same_under(fates, words, given, names):
 
 def main():
     names, text = names_of(NAMES), f"# Enumerations over a bus of bytes on which bits change, written by crates/examples/damaged_enumerations.py.\n\n{NAMES}"
-    for comment, words, given, fates in ROWS:
+    for comment, words, given, fates in [*ROWS, *((comment, f"--log {words}", given, fates) for comment, words, given, fates in LOGS)]:
         words = words.replace("FOUR", ",".join(map(str, missed()))).replace("ADDRESS", ",".join(map(str, missed_in_token())))
         status, output = run(words, given, names)
         if fates is not None:
             result, address, selected = same_under(fates, words, given, names)
             wanted = result if status else f"{result} address {address} value {selected}"
-            assert output.splitlines()[0] == wanted, (words, output, wanted)
+            assert wanted in output.splitlines(), (words, output, wanted)
         text += f"\n# {comment}\nusbdesc enumerate {words} < {given} -> {status}\n"
         text += "".join(f"> {line}\n" for line in output.splitlines())
     text += "\n# A list that is none: each is told before the input is read.\n"

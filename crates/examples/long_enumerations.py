@@ -80,8 +80,8 @@ def request_words(setup):
 class Log:
     """The lines of a log. It hears of each transaction from the bus, and what the transfer makes of it."""
 
-    def __init__(self, device, host, fates):
-        self.lines, used = [], []
+    def __init__(self, device, host, fates, is_brief=False):
+        self.is_brief, self.lines, used = is_brief, [], []
         fates = iter(fates)
         while host.due != "ended":
             if host.due == "reset":
@@ -99,19 +99,22 @@ class Log:
         self.lines.append(f"fates: losses {lost}, busy {used.count('n')}")
 
     def step(self, device, host, transfer, fate):
-        token, before = transfer.token(), (len(transfer.got), transfer.strikes, transfer.naks)
-        reply = "silence" if fate == "d" else device.serve(transfer.address, token, fate != "n")
+        reply = "silence" if fate == "d" else device.serve(transfer.address, transfer.token(), fate != "n")
         if isinstance(reply, tuple) and fate in ".n":
             device.acked()
-        heard, ends = "silence" if fate == "u" else reply, []
+        self.show(device, host, fate, reply, "silence" if fate == "u" else reply)
+
+    def show(self, device, host, fate, reply, heard, below=()):
+        """The host hears what came of a reply. `below` are lines below that of the transaction and its data."""
+        transfer, ends = host.transfer, []
+        token, before = transfer.token(), (len(transfer.got), transfer.strikes, transfer.naks)
         transfer.take = lambda answer: ends.append(type(transfer).take(transfer, answer)) or ends[0]
         host.take(heard)
         sent, data = self.name(token[0].upper(), fate == "d"), self.data(token, reply)
         has = self.host(transfer, before, heard, ends[0])
-        short, long = (data.hex(), b"") if 0 < len(data or b"") < 9 else ("" if data is None else f"{len(data)} bytes", data or b"")
-        columns = [str(host.transactions), fate, sent + self.answer(reply, fate), short, has, self.device(device)]
-        self.lines.append(self.row(columns))
-        self.lines += [" " * 23 + line for line in re.findall(".{1,32}", long.hex())]
+        short, long = self.bytes(data)
+        columns = [str(host.transactions), fate, sent + self.answer(reply, heard, fate), short, has, self.device(device)]
+        self.lines += [self.row(columns), *([] if self.is_brief else long), *below]
         number = ends[0] if host.due == "reset" else host.outcome
         if number:
             self.lines.append(f"attempt {host.resets} given up: {CAUSES[number - 1]}")
@@ -122,12 +125,18 @@ class Log:
     def name(self, packet, is_lost):
         return f"({packet})" if is_lost else packet
 
-    def answer(self, reply, fate):
+    def bytes(self, data):
+        """Bytes in their column, and lines below it of more than 8."""
+        if 0 < len(data or b"") < 9:
+            return data.hex(), []
+        return "" if data is None else f"{len(data)} bytes", [" " * 23 + line for line in re.findall(".{1,32}", (data or b"").hex())]
+
+    def answer(self, reply, heard, fate):
         if reply == "silence":
             return ""
         if not isinstance(reply, tuple):
             return " " + self.name(reply.upper(), fate == "u")
-        ack = "" if fate == "u" else " " + self.name("ACK", fate == "a")
+        ack = " " + self.name("ACK", fate == "a") if isinstance(heard, tuple) else ""
         return " " + self.name(f"DATA{int(reply[0])}", fate == "u") + ack
 
     def data(self, token, reply):
@@ -154,9 +163,7 @@ def run(words, given, names):
     fates, data = expand(options.pop("fates", ""), names), bytes_of(given, names)
     device, host = Device(File(data)), Host(**{name: int(text) for name, text in options.items()})
     if "--log" in words:
-        lines = Log(device, host, fates).lines
-        if "--brief" in words:
-            lines = [line for line in lines if not line.startswith(" ")]
+        lines = Log(device, host, fates, "--brief" in words).lines
     else:
         lines = enumerate_device(device, host, fates) and []
     if host.outcome:

@@ -27,6 +27,7 @@ const WHOLE: Manner = Manner {
 const LOGGED: EnumerateFlags = EnumerateFlags {
     log: true,
     brief: false,
+    packets: false,
     with_strings: false,
 };
 
@@ -34,6 +35,7 @@ const LOGGED: EnumerateFlags = EnumerateFlags {
 const BRIEF: EnumerateFlags = EnumerateFlags {
     log: true,
     brief: true,
+    packets: false,
     with_strings: false,
 };
 

@@ -16,17 +16,17 @@ use Rattle.usb_text.proofs.Pages.{appends_more, appends_nothing, less_is_front, 
 use Rattle.usb_device.specs.Accepted.{Accepted, Refuses, refusal_of}
 use Rattle.usb_device.specs.declared.acceptance.DescriptionFault.{DescriptionFault}
 use Rattle.usb_device.specs.declared.acceptance.DescriptionFault.TheVariants as refusals
-use Rattle.usb_bus.specs.DamagedRuns.{IsDamagedEnumeration}
 use Rattle.usb_bus.specs.declared.enumeration.Run.{Run}
 use Rattle.usb_bus.specs.declared.wire.change.BitChange.{BitChange}
 use Rattle.usb_host.specs.declared.step.Trouble.{Trouble}
-use Rattle.usb_tool.specs.Enumerations.{Conditions, IsNotTaken, IsRun, IsRunOver, IsTaken, RefusesToEnumerate, StopsShort, Tells, WritesResult, WritesResultFront, run_text, refused_line, success_line, trouble_line}
+use Rattle.usb_tool.specs.Enumerations.{Conditions, IsNotTaken, IsRun, IsRunOver, IsTaken, RefusesToEnumerate, StopsShort, Tells, WritesResult, WritesResultFront, has_bytes, run_text, refused_line, success_line, trouble_line}
 use Rattle.usb_tool.specs.EnumerationEnds.{end_of}
 use Rattle.usb_tool.specs.declared.enumeration_end.EnumerationEnd.{EnumerationEnd}
 use Rattle.usb_tool.specs.declared.enumeration_end.EnumerationEnd.TheVariants as ends
 use Rattle.usb_tool.specs.Faults.{fault_of_output}
 use Rattle.usb_tool.specs.inside.Telling.{BreaksRun, EndsWith, IsCutShort}
 use Rattle.usb_tool.specs.declared.fault.ToolFault.{ToolFault}
+use Rattle.usb_tool.specs.declared.settings.EnumerateFlags.{EnumerateFlags}
 use Rattle.usb_tool.specs.declared.fault.ToolFault.TheVariants as faults
 
 -- eight texts, joined from the left or from the right
@@ -81,14 +81,16 @@ run_told c f b run log taken accepted enumerated = record {
   told = inr (record { run = run; accepted = accepted; enumerated = enumerated; told = refl; ended = refl });
 }
 
--- a run over a bus on which bits change has no log
-changed_over : (changes : List BitChange) (c : Conditions) (f : DescriptorFile) (run : Run) → changes ≢ [] → IsDamagedEnumeration f c.speed c.limits c.fates changes run
-    → IsRunOver changes c.flags.log c f run []
-changed_over [] c f run some made = absurd (some refl)
-changed_over (change ∷ more) c f run some made = (made, refl)
+-- a run over a bus of bytes or not, and with a log or not
+pub run_is : (bytes logged : Bool) (c : Conditions) (f : DescriptorFile) (run : Run) (log : List ℕ) → has_bytes c.changes c.flags ≡ bytes → c.flags.log ≡ logged
+    → IsRunOver bytes logged c f run log → IsRun c f run log
+run_is bytes logged c f run log is asked made =
+    subst (λ b. IsRunOver b c.flags.log c f run log) (sym is) (subst (λ l. IsRunOver bytes l c f run log) (sym asked) made)
 
-pub changed_run : (c : Conditions) (f : DescriptorFile) (run : Run) → c.changes ≢ [] → IsDamagedEnumeration f c.speed c.limits c.fates c.changes run → IsRun c f run []
-changed_run c f run some made = changed_over c.changes c f run some made
+-- a bus that carries no bytes changes none
+pub none_changed : (changes : List BitChange) (flags : EnumerateFlags) → has_bytes changes flags ≡ false → (changes ≡ []) × (flags.packets ≡ false)
+none_changed [] flags is = (refl, is)
+none_changed (change ∷ more) flags is = absurd (cc)
 
 -- a text that was not written to its end
 pub cut_by : (o : OutFault) (text : List ℕ) (held holds : Held) → AppendsLess held holds text → IsCutShort text held holds (fault_of_output o)

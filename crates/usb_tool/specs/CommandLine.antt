@@ -68,7 +68,7 @@ explain_app = command_with (codes "explain")
 
 abbrev pub enumerate_app : App
 enumerate_app = command_with (codes "enumerate")
-    (speed_rule ∷ address_rule ∷ naks_rule ∷ attempts_rule ∷ fates_rule ∷ damage_rule ∷ flag_rule (codes "log") ∷ flag_rule (codes "brief") ∷ flag_rule (codes "with-strings") ∷ [])
+    (speed_rule ∷ address_rule ∷ naks_rule ∷ attempts_rule ∷ fates_rule ∷ damage_rule ∷ flag_rule (codes "log") ∷ flag_rule (codes "brief") ∷ flag_rule (codes "packets") ∷ flag_rule (codes "with-strings") ∷ [])
 
 -- a command that prints its version where it is asked for
 abbrev pub versioned : App → App
@@ -135,11 +135,16 @@ pub record HasTexts (o : Options) (rows : List Row) : Type 0 where
 
 -- the flags of `enumerate` that were found
 abbrev pub flags_of : List Row → EnumerateFlags
-flags_of rows = record { log = gives (codes "log") rows; brief = gives (codes "brief") rows; with_strings = gives (codes "with-strings") rows }
+flags_of rows = record {
+  log = gives (codes "log") rows;
+  brief = gives (codes "brief") rows;
+  packets = gives (codes "packets") rows;
+  with_strings = gives (codes "with-strings") rows;
+}
 
 -- none of them
 abbrev pub no_flags : EnumerateFlags
-no_flags = record { log = false; brief = false; with_strings = false }
+no_flags = record { log = false; brief = false; packets = false; with_strings = false }
 
 -- the subcommand of this name was found, and this holds of what was found for its options
 abbrev pub Finds : Text → (List Row → Type 0) → Option (Text × List Row) → Type 0

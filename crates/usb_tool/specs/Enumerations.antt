@@ -27,6 +27,7 @@ use Rattle.usb_bus.specs.declared.wire.change.BitChange.{BitChange}
 use Rattle.usb_bus.specs.DamagedRuns.{IsDamagedEnumeration}
 use Rattle.usb_bus.specs.Enumerate.{IsEnumeration}
 use Rattle.usb_bus.specs.Log.{IsLogOf, WritesLogLess}
+use Rattle.usb_bus.specs.LogOnWire.{IsWireLogOf, WritesWireLogLess}
 use Rattle.usb_tool.specs.EnumerationEnds.{end_of, end_status}
 use Rattle.usb_tool.specs.declared.enumeration_end.EnumerationEnd.{EnumerationEnd}
 use Rattle.usb_tool.specs.declared.enumeration_end.EnumerationEnd.TheVariants.{Refused}
@@ -56,7 +57,7 @@ refused_line (refusals.Finding finding) = codes "refused 1 " ++ finding_line fin
 refused_line fault = codes "refused " ++ decimal (fault_number fault) ++ 10 ∷ []
 
 -- what an enumeration is made under: the limits of the host, the speed of the device, the fates of the transactions, the bits
--- that change, and whether a log is asked for, a brief one, and a dump is taken
+-- that change, and whether a log is asked for, a brief one or with packets, and a dump is taken
 pub record Conditions : Type 0 where
   pub limits : LimitView
   pub speed : Speed
@@ -81,15 +82,26 @@ pub record TellsRefusal (c : Conditions) (f : DescriptorFile) (text : List ℕ) 
   pub told : text ≡ refused_line fault
   pub ended : end ≡ Refused fault
 
--- A device with these descriptors was enumerated, and this is the log of that very run, or nothing where none is asked for. Where
--- bits change, it was over a bus of bytes, and there is no log.
-abbrev pub IsRunOver : List BitChange → Bool → Conditions → DescriptorFile → Run → List ℕ → Type 0
-IsRunOver [] false c f run log = IsEnumeration f c.speed c.limits c.fates run × (log ≡ [])
-IsRunOver [] true c f run log = IsLogOf c.flags.brief f c.speed c.limits c.fates run log
-IsRunOver (change ∷ more) logged c f run log = IsDamagedEnumeration f c.speed c.limits c.fates (change ∷ more) run × (log ≡ [])
+-- whether the bus carries bytes: bits change on it, or packets are shown
+abbrev pub has_bytes : List BitChange → EnumerateFlags → Bool
+has_bytes [] flags = flags.packets
+has_bytes (change ∷ more) flags = true
+
+-- A device with these descriptors was enumerated, over a bus of bytes or not, and this is the log of that very run, or nothing where
+-- none is asked for.
+abbrev pub IsRunOver : Bool → Bool → Conditions → DescriptorFile → Run → List ℕ → Type 0
+IsRunOver false false c f run log = IsEnumeration f c.speed c.limits c.fates run × (log ≡ [])
+IsRunOver false true c f run log = IsLogOf c.flags.brief f c.speed c.limits c.fates run log
+IsRunOver true false c f run log = IsDamagedEnumeration f c.speed c.limits c.fates c.changes run × (log ≡ [])
+IsRunOver true true c f run log = IsWireLogOf c.flags.brief c.flags.packets f c.fates c.changes c.speed c.limits run log
 
 abbrev pub IsRun : Conditions → DescriptorFile → Run → List ℕ → Type 0
-IsRun c f run log = IsRunOver c.changes c.flags.log c f run log
+IsRun c f run log = IsRunOver (has_bytes c.changes c.flags) c.flags.log c f run log
+
+-- its log was cut off
+abbrev pub CutsLog : Bool → Conditions → DescriptorFile → Held → Held → OutFault → Type 0
+CutsLog false c f held holds fault = WritesLogLess c.flags.brief f c.speed c.limits c.fates held holds fault
+CutsLog true c f held holds fault = WritesWireLogLess c.flags.brief c.flags.packets f c.fates c.changes c.speed c.limits held holds fault
 
 -- a device was made of the file and enumerated, this is the log of that run, if it is asked for, and the text what is reported
 -- of it
@@ -139,7 +151,7 @@ pub record WritesLogFront (c : Conditions) (b : List ℕ) (held holds : Held) (f
   pub taken : IsTaken c.flags.with_strings file b
   pub accepted : Accepted file c.speed
   pub asked : c.flags.log ≡ true
-  pub written : WritesLogLess c.flags.brief file c.speed c.limits c.fates held holds fault
+  pub written : CutsLog (has_bytes c.changes c.flags) c file held holds fault
 
 -- the bytes show this fault of a file, and are no dump where strings are asked for
 abbrev pub IsNotTaken : Bool → List ℕ → FileFault → Type 0

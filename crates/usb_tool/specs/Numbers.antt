@@ -251,7 +251,7 @@ SettingsNumbers =
     × (settings_fault_number options.SpeedAlone ≡ 5)
     × (settings_fault_number options.BriefAlone ≡ 7)
     × (settings_fault_number options.Damages ≡ 8)
-    × (settings_fault_number options.DamageLogged ≡ 9)
+    × (settings_fault_number options.PacketsAlone ≡ 9)
 
 -- All of them, so that two variants that change places in the code are refused.
 pub record NumbersAreThoseOfTheTables : Type 0 where

@@ -25,7 +25,7 @@ settings_fault_number faults.Memory = 4
 settings_fault_number faults.SpeedAlone = 5
 settings_fault_number faults.BriefAlone = 7
 settings_fault_number faults.Damages = 8
-settings_fault_number faults.DamageLogged = 9
+settings_fault_number faults.PacketsAlone = 9
 
 -- its line on standard error, without its line feed
 abbrev pub settings_line : SettingsFault → List ℕ
@@ -36,7 +36,7 @@ settings_line faults.Memory = codes "usbdesc: out of memory"
 settings_line faults.SpeedAlone = codes "usbdesc: --speed without --remarks"
 settings_line faults.BriefAlone = codes "usbdesc: --brief without --log"
 settings_line faults.Damages = codes "usbdesc: bad damages"
-settings_line faults.DamageLogged = codes "usbdesc: --damage with --log"
+settings_line faults.PacketsAlone = codes "usbdesc: --packets without --log"
 
 -- what it means, for people
 abbrev pub settings_meaning : SettingsFault → List ℕ
@@ -47,7 +47,7 @@ settings_meaning faults.Memory = codes "there was not enough memory"
 settings_meaning faults.SpeedAlone = codes "a speed is for remarks: check --remarks --speed full"
 settings_meaning faults.BriefAlone = codes "a log is brief: enumerate --log --brief"
 settings_meaning faults.Damages = codes "damage is TRANSACTION:PACKET:BIT,..;.. with packets 1 to 3"
-settings_meaning faults.DamageLogged = codes "a log doesn't show damage"
+settings_meaning faults.PacketsAlone = codes "a log shows packets: enumerate --log --packets"
 
 -- the exit status: 2 as for a line that is no command, and 3 where it is out of memory
 abbrev pub settings_status : SettingsFault → ℕ

@@ -30,7 +30,7 @@ use Rattle.usb_tool.specs.declared.checking.Checking.{Checking}
 use Rattle.usb_tool.specs.OptionFaults.{settings_line, settings_meaning, settings_status}
 use Rattle.usb_tool.specs.Damages.{IsDamageSettled, RefusesBeside}
 use Rattle.usb_tool.specs.declared.damages.DamageSettings.{DamageSettings}
-use Rattle.usb_tool.specs.Settings.{IsSettledUnless, RefusesUnless, is_brief_alone}
+use Rattle.usb_tool.specs.Settings.{IsSettledUnless, RefusesUnless, flag_alone}
 use Rattle.usb_tool.specs.declared.manner.Explaining.{Explaining}
 use Rattle.usb_tool.specs.declared.command_line.Line.{Line}
 use Rattle.usb_tool.specs.declared.command_line.Line.TheVariants as lines
@@ -163,15 +163,15 @@ EndsUnder person c from to held holds errors told status =
 -- how `enumerate` ends with these options and flags
 abbrev pub EndsEnumeration : Bool → Options → EnumerateFlags → Course
 EndsEnumeration person o flags from to held holds errors told status =
-    OptionsAreTaken Settings (IsSettledUnless (is_brief_alone flags) o) (λ s. EndsUnder person (under s.limits s.speed s.fates.items [] flags)) from to held holds errors told status
-    ⊎ OptionsAreRefused person (RefusesUnless (is_brief_alone flags) o) from to held holds errors told status
+    OptionsAreTaken Settings (IsSettledUnless (flag_alone flags) o) (λ s. EndsUnder person (under s.limits s.speed s.fates.items [] flags)) from to held holds errors told status
+    ⊎ OptionsAreRefused person (RefusesUnless (flag_alone flags) o) from to held holds errors told status
 
 -- the same with damage, which this text names
 abbrev pub EndsDamaged : Bool → Options → EnumerateFlags → List ℕ → Course
 EndsDamaged person o flags text from to held holds errors told status =
     OptionsAreTaken DamageSettings (IsDamageSettled o flags text)
     (λ s. EndsUnder person (under s.settings.limits s.settings.speed s.settings.fates.items s.changes.items flags)) from to held holds errors told status
-    ⊎ OptionsAreRefused person (RefusesBeside flags.log o flags text) from to held holds errors told status
+    ⊎ OptionsAreRefused person (RefusesBeside o flags text) from to held holds errors told status
 
 -- what to try where the input of `build` is at fault
 abbrev pub build_hint : Bool → Hint

@@ -1,5 +1,5 @@
 -- What the options of `enumerate` come to.
-use Rattle.std.specs.Prelude.{◌≡◌, ◌&&◌, not, ℕ, Bool, true, false, List, [], IsSome, IsSomeAnd, Option, Some, None, is_some, if◌then◌else◌, option_and_then}
+use Rattle.std.specs.Prelude.{◌≡◌, ℕ, List, [], IsSome, IsSomeAnd, Option, Some, None, is_some, if◌then◌else◌, option_and_then}
 use Rattle.std.specs.Borrow.{Bor}
 use Rattle.usb_fields.specs.declared.packet.Speed.{Speed}
 use Rattle.usb_fields.specs.declared.packet.Speed.TheVariants.{Full}
@@ -68,21 +68,25 @@ RefusesOptions o faults.Memory = IsSome (limits_said o) × (IsSome (speed_said o
 RefusesOptions o faults.SpeedAlone = ⊥
 RefusesOptions o faults.BriefAlone = ⊥
 RefusesOptions o faults.Damages = ⊥
-RefusesOptions o faults.DamageLogged = ⊥
+RefusesOptions o faults.PacketsAlone = ⊥
 
--- lines of a log are left out, and none is asked for
-abbrev pub is_brief_alone : EnumerateFlags → Bool
-is_brief_alone flags = flags.brief && not flags.log
+-- the fault of a flag that is for a log where none is asked for: lines of data are left out, or else packets are shown
+abbrev pub flag_alone : EnumerateFlags → Option SettingsFault
+flag_alone flags =
+    if flags.log then None
+    else if flags.brief then Some faults.BriefAlone
+    else if flags.packets then Some faults.PacketsAlone
+    else None
 
 -- there are no settings then, and else those that the options come to
-abbrev pub IsSettledUnless : Bool → Options → Settings → Type 0
-IsSettledUnless true o s = ⊥
-IsSettledUnless false o s = IsSettled o s
+abbrev pub IsSettledUnless : Option SettingsFault → Options → Settings → Type 0
+IsSettledUnless (Some alone) o s = ⊥
+IsSettledUnless None o s = IsSettled o s
 
 -- why options and flags are refused: for that, and else by the options
-abbrev pub RefusesUnless : Bool → Options → SettingsFault → Type 0
-RefusesUnless true o fault = fault ≡ faults.BriefAlone
-RefusesUnless false o fault = RefusesOptions o fault
+abbrev pub RefusesUnless : Option SettingsFault → Options → SettingsFault → Type 0
+RefusesUnless (Some alone) o fault = fault ≡ alone
+RefusesUnless None o fault = RefusesOptions o fault
 
 -- a fault of the fates is one of the settings
 abbrev pub settings_fault_of : FatesFault → SettingsFault

@@ -9,8 +9,8 @@ use crate::help::{
     BUILD_USAGE, CHECK_ABOUT, CHECK_ANY_HELP, CHECK_HELP, CHECK_USAGE, COMMENTS_HELP, DAMAGE,
     DAMAGE_HELP, ENUMERATE_ABOUT, ENUMERATE_HELP, ENUMERATE_USAGE, EXPLAIN_ABOUT, EXPLAIN_HELP,
     EXPLAIN_USAGE, FATES, FATES_HELP, FORMATS_HELP, HEX_HELP, HEX_OUTPUT_HELP, LOG_HELP,
-    LOOSE_HELP, NAKS_HELP, NO_PLACES_HELP, RAN_AT_HELP, REMARKS_HELP, RUNNING_SPEEDS, SHOW_ABOUT,
-    SHOW_ANY_HELP, SHOW_HELP, SHOW_USAGE, SPEED_HELP, SPEEDS, UTF8_HELP, VERSION,
+    LOOSE_HELP, NAKS_HELP, NO_PLACES_HELP, PACKETS_HELP, RAN_AT_HELP, REMARKS_HELP, RUNNING_SPEEDS,
+    SHOW_ABOUT, SHOW_ANY_HELP, SHOW_HELP, SHOW_USAGE, SPEED_HELP, SPEEDS, UTF8_HELP, VERSION,
     WITH_STRINGS_HELP,
 };
 use clap::{Arg, ArgAction, Command, value_parser};
@@ -106,6 +106,7 @@ fn enumerate<'a>(alloc: Global) -> Result<Command<'a>, AllocError>
     let enumerate = add_option(enumerate, damage(alloc))?;
     let enumerate = add_option(enumerate, flag(alloc, "log", LOG_HELP))?;
     let enumerate = add_option(enumerate, flag(alloc, "brief", BRIEF_LOG_HELP))?;
+    let enumerate = add_option(enumerate, flag(alloc, "packets", PACKETS_HELP))?;
     add_option(enumerate, flag(alloc, "with-strings", WITH_STRINGS_HELP))
 }
 

@@ -152,7 +152,7 @@ fn enumerate_of<'a>(matches: &ArgMatches<'a>) -> Line<'a>
     let flags = flags_of(matches);
     match damage_of(matches) {
         Some(text) => Line::EnumerateDamaged(options, flags, text),
-        None if flags.log || flags.brief || flags.with_strings => {
+        None if flags.log || flags.brief || flags.packets || flags.with_strings => {
             Line::EnumerateWith(options, flags)
         }
         None => Line::Enumerate(options),
@@ -185,6 +185,7 @@ fn flags_of(matches: &ArgMatches<'_>) -> EnumerateFlags
     EnumerateFlags {
         log: has_flag(matches, "log"),
         brief: has_flag(matches, "brief"),
+        packets: has_flag(matches, "packets"),
         with_strings: has_flag(matches, "with-strings"),
     }
 }

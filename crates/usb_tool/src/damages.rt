@@ -20,14 +20,13 @@ pub struct DamageSettings {
 ///
 /// ```rust
 /// let options = Options { speed: None, address: None, naks: None, attempts: None, fates: None };
-/// let flags = EnumerateFlags { log: true, brief: false, with_strings: false };
-/// assert_eq!(rt; damage_settings(alloc, &options, flags, "1:1:0").err(), Some(SettingsFault::DamageLogged));
+/// let flags = EnumerateFlags { log: false, brief: true, packets: false, with_strings: false };
+/// assert_eq!(rt; damage_settings(alloc, &options, flags, "1:1").err(), Some(SettingsFault::BriefAlone));
 /// ```
 ///
 /// # Errors
 ///
-/// [`SettingsFault::DamageLogged`] where a log is asked for, else those of [`settings_with`], and else those of
-/// [`read_damages`].
+/// Those of [`settings_with`], and else those of [`read_damages`].
 pub fn damage_settings(
     alloc: Global,
     options: &Options<'_>,
@@ -35,11 +34,8 @@ pub fn damage_settings(
     text: &str,
 ) -> Result<DamageSettings, SettingsFault>
     ensures ok { IfOk result (IsDamageSettled options.now flags text.now) }
-    ensures err { IfErr result (RefusesBeside flags.log options.now flags text.now) }
+    ensures err { IfErr result (RefusesBeside options.now flags text.now) }
 {
-    if flags.log {
-        return Err(SettingsFault::DamageLogged);
-    }
     let settings = settings_with(alloc, options, flags)?;
     let changes = read_damages(alloc, text)?;
     Ok(DamageSettings { settings, changes })

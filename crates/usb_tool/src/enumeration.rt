@@ -1,8 +1,8 @@
 //! The command `enumerate`.
-ghost use Rattle.std.specs.Prelude.{◌≢◌, ◌++◌, [], IfErr, IfOk};
+ghost use Rattle.std.specs.Prelude.{◌≡◌, ◌≢◌, ◌++◌, [], IfErr, IfOk, false, true};
 ghost use Rattle.usb_listing.specs.Listing.{file_lines};
 ghost use Rattle.usb_tool.specs.CommandLine.{no_flags};
-ghost use Rattle.usb_tool.specs.Enumerations.{EnumerateFails, Enumerated, EnumeratedTo, IsNotTaken, IsTaken, RefusesToEnumerate, WritesResult, run_text, under, refused_line, success_line, trouble_line};
+ghost use Rattle.usb_tool.specs.Enumerations.{EnumerateFails, Enumerated, EnumeratedTo, IsNotTaken, IsTaken, RefusesToEnumerate, WritesResult, has_bytes, run_text, under, refused_line, success_line, trouble_line};
 ghost use Rattle.usb_tool.specs.EnumerationEnds.{end_of};
 ghost use Rattle.usb_tool.specs.declared.enumeration_end.EnumerationEnd.TheVariants.{Refused, Success, Trouble as TroubleEnd};
 ghost use Rattle.usb_tool.specs.inside.Telling.{BreaksRun, EndsWith, IsCutShort, MakesRun};
@@ -17,8 +17,8 @@ use crate::settings::EnumerateFlags;
 use std::alloc::Global;
 use std::io::{Read, Write};
 use usb_bus::{
-    BitChange, Fate, Run, enumerate_encoded, enumerate_encoded_logged,
-    enumerate_encoded_on_the_wire,
+    BitChange, Fate, Logging, Run, enumerate_encoded, enumerate_encoded_logged,
+    enumerate_encoded_on_the_wire, enumerate_encoded_on_the_wire_logged,
 };
 use usb_device::{DescriptionFault, Encoded};
 use usb_fields::Speed;
@@ -62,19 +62,21 @@ pub fn run_enumerate<R: Read, W: Write>(
     let flags = EnumerateFlags {
         log: false,
         brief: false,
+        packets: false,
         with_strings: false,
     };
     run_enumerate_with(alloc, r, w, l, s, fates, flags)
 }
 
 /// The same with these flags: where they say so a dump is taken too, and a log is written, of which a line for each bus
-/// reset, each transfer and each transaction comes before the result, as soon as it is done. A brief log has no lines of data.
+/// reset, each transfer and each transaction comes before the result, as soon as it is done. A brief log has no lines of data. One that
+/// shows packets is of a bus of bytes.
 ///
 /// ```rust
 /// let mut dump: &[u8] = &[18, 1, 0, 2, 0, 0, 0, 64, 0x34, 0x12, 0x78, 0x56, 0, 1, 1, 0, 0, 0];
 /// let mut lines = Vec::new(alloc);
 /// let limits = Limits::new(1, 16, 3)?;
-/// let flags = EnumerateFlags { log: false, brief: false, with_strings: true };
+/// let flags = EnumerateFlags { log: false, brief: false, packets: false, with_strings: true };
 /// assert_eq!(rt; run_enumerate_with(alloc, &mut dump, &mut lines, limits, Speed::Full, &[], flags)?, 1);
 /// // A device has a configuration.
 /// assert_eq!(rt; lines.as_slice(), b"refused 1 V10 main 0 0 0\n");
@@ -102,8 +104,8 @@ pub fn run_enumerate_with<R: Read, W: Write>(
     }
 }
 
-/// The same over a bus that changes these bits too, and answers how the enumeration has ended. Where bits change no log is
-/// written, whether the flags ask for one or not.
+/// The same over a bus that changes these bits too, and answers how the enumeration has ended. A log shows the packets in which bits
+/// change.
 ///
 /// # Errors
 ///
@@ -181,8 +183,46 @@ fn run_over<W: Write>(
     ensures ok { IfOk result (MakesRun (under l d.now.speed fates.now changes.now flags) d.now.file (W.contents w.old) (W.contents w.new)) }
     ensures err { IfErr result (BreaksRun (under l d.now.speed fates.now changes.now flags) d.now.file (W.contents w.old) (W.contents w.new)) }
 {
-    if changes.is_empty() {
+    if has_bytes(changes, flags) {
+        run_on_the_wire(alloc, d, l, fates, changes, flags, w)
+    } else {
         run_losing(alloc, d, l, fates, flags, w)
+    }
+}
+
+/// Whether the bus carries bytes.
+fn has_bytes(changes: &[BitChange], flags: EnumerateFlags) -> bool
+    ensures { result ≡ has_bytes changes.now flags }
+{
+    match changes {
+        [] => flags.packets,
+        [_, ..] => true,
+    }
+}
+
+/// The enumeration over a bus of bytes, and its log where one is asked for.
+fn run_on_the_wire<W: Write>(
+    alloc: Global,
+    d: &Encoded,
+    l: Limits,
+    fates: &[Fate],
+    changes: &[BitChange],
+    flags: EnumerateFlags,
+    w: &mut W,
+) -> Result<Run, ToolFault>
+    requires { has_bytes changes.now flags ≡ true }
+    ensures ok { IfOk result (MakesRun (under l d.now.speed fates.now changes.now flags) d.now.file (W.contents w.old) (W.contents w.new)) }
+    ensures err { IfErr result (BreaksRun (under l d.now.speed fates.now changes.now flags) d.now.file (W.contents w.old) (W.contents w.new)) }
+{
+    if flags.log {
+        let logging = Logging {
+            fates,
+            changes,
+            brief: flags.brief,
+            packets: flags.packets,
+        };
+        let run = enumerate_encoded_on_the_wire_logged(alloc, d, l, logging, w)?;
+        Ok(run)
     } else {
         Ok(enumerate_encoded_on_the_wire(alloc, d, l, fates, changes))
     }
@@ -197,6 +237,7 @@ fn run_losing<W: Write>(
     flags: EnumerateFlags,
     w: &mut W,
 ) -> Result<Run, ToolFault>
+    requires { flags.packets ≡ false }
     ensures ok { IfOk result (MakesRun (under l d.now.speed fates.now [] flags) d.now.file (W.contents w.old) (W.contents w.new)) }
     ensures err { IfErr result (BreaksRun (under l d.now.speed fates.now [] flags) d.now.file (W.contents w.old) (W.contents w.new)) }
 {

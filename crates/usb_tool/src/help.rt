@@ -223,6 +223,9 @@ Log:
   have then. Data of more than 8 bytes are below it, but not with --brief. A line begins each
   bus reset and each transfer. The last line counts the fates that lose, and those of a device
   that is not ready.
+  A packet in which bits change has a line below: its number, its bytes, the bits, and what it
+  is refused as. Where no check finds the change, a second line has what arrives. With --packets
+  each packet has a line: lost, or arrives.
 
 Fates:
   A letter for each transaction of the bus, in order. After the last one all packets arrive.
@@ -237,7 +240,7 @@ Damage:
   Who receives what is no packet ignores it; what still is one arrives as what it became.
   An entry N:P:B,.. names a transaction and a packet of it, counted from 1, and the bits,
   counted from 0 as they are sent: 7:2:5,17 is transaction 7, second packet, bits 5 and 17.
-  A ';' parts entries. What a fate loses isn't there to change. There is no log of damage.
+  A ';' parts entries. What a fate loses isn't there to change.
 
 Refused, 'refused N', with the first finding where N is 1:
   1  a rule of chapter 9 is broken
@@ -297,6 +300,9 @@ pub(crate) const WITH_STRINGS_HELP: &str =
 
 /// What `--log` says.
 pub(crate) const LOG_HELP: &str = "Writes a line for each transaction before the result";
+
+/// What `--packets` says.
+pub(crate) const PACKETS_HELP: &str = "Shows the bytes of each packet in the log";
 
 /// What `--brief` of `enumerate` says.
 pub(crate) const BRIEF_LOG_HELP: &str = "Leaves the lines of data out of the log";

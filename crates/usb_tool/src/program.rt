@@ -292,6 +292,7 @@ fn enumerate_plainly<R: Read, W: Write, E: Write>(
     let flags = EnumerateFlags {
         log: false,
         brief: false,
+        packets: false,
         with_strings: false,
     };
     enumerate_with(alloc, options, flags, person, r, w, e)

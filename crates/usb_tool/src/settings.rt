@@ -3,7 +3,7 @@ ghost use Rattle.std.specs.Prelude.{◌≡◌, IfErr, IfOk, Some, IsSomeAnd};
 ghost use Rattle.usb_tool.specs.OptionValues.{speed_of, RefusesFates, fate_of, fates_of};
 ghost use Rattle.usb_tool.specs.declared.settings.FatesFault.TheVariants as letters;
 ghost use Rattle.usb_tool.specs.declared.settings.SettingsFault.TheVariants as faults;
-ghost use Rattle.usb_tool.specs.Settings.{IsSettled, IsSettledUnless, RefusesOptions, RefusesUnless, byte_said, fates_said, is_brief_alone, limits_said, settings_fault_of, speed_said, word_said};
+ghost use Rattle.usb_tool.specs.Settings.{IsSettled, IsSettledUnless, RefusesOptions, RefusesUnless, byte_said, fates_said, flag_alone, limits_said, settings_fault_of, speed_said, word_said};
 ghost use Rattle.usb_tool.specs.OptionFaults.{settings_fault_number, settings_line, settings_status};
 
 use std::alloc::{AllocError, AllocFailed, Global};
@@ -141,6 +141,8 @@ pub struct EnumerateFlags {
     pub log: bool,
     /// Whether its lines of data are left out.
     pub brief: bool,
+    /// Whether it shows the bytes of each packet.
+    pub packets: bool,
     /// Whether a dump is taken, with a text in each place that names a string.
     pub with_strings: bool,
 }
@@ -192,33 +194,41 @@ pub fn settings_of(alloc: Global, options: &Options<'_>) -> Result<Settings, Set
 ///
 /// ```rust
 /// let options = Options { speed: None, address: None, naks: None, attempts: None, fates: None };
-/// let flags = EnumerateFlags { log: false, brief: true, with_strings: false };
+/// let flags = EnumerateFlags { log: false, brief: true, packets: false, with_strings: false };
 /// assert_eq!(rt; settings_with(alloc, &options, flags).err(), Some(SettingsFault::BriefAlone));
 /// ```
 ///
 /// # Errors
 ///
-/// [`SettingsFault::BriefAlone`] where lines of a log are left out and none is asked for, and else those of [`settings_of`].
+/// [`SettingsFault::BriefAlone`] or [`SettingsFault::PacketsAlone`] where a flag is for a log and none is asked for, and else those of
+/// [`settings_of`].
 pub fn settings_with(
     alloc: Global,
     options: &Options<'_>,
     flags: EnumerateFlags,
 ) -> Result<Settings, SettingsFault>
-    ensures ok { IfOk result (IsSettledUnless (is_brief_alone flags) options.now) }
-    ensures err { IfErr result (RefusesUnless (is_brief_alone flags) options.now) }
+    ensures ok { IfOk result (IsSettledUnless (flag_alone flags) options.now) }
+    ensures err { IfErr result (RefusesUnless (flag_alone flags) options.now) }
 {
-    if is_brief_alone(flags) {
-        Err(SettingsFault::BriefAlone)
-    } else {
-        settings_of(alloc, options)
+    match flag_alone(flags) {
+        Some(fault) => Err(fault),
+        None => settings_of(alloc, options),
     }
 }
 
-/// Whether lines of a log are left out and none is asked for.
-fn is_brief_alone(flags: EnumerateFlags) -> bool
-    ensures { result ≡ is_brief_alone flags }
+/// The fault of a flag that is for a log where none is asked for.
+fn flag_alone(flags: EnumerateFlags) -> Option<SettingsFault>
+    ensures { result ≡ flag_alone flags }
 {
-    flags.brief && !flags.log
+    if flags.log {
+        None
+    } else if flags.brief {
+        Some(SettingsFault::BriefAlone)
+    } else if flags.packets {
+        Some(SettingsFault::PacketsAlone)
+    } else {
+        None
+    }
 }
 
 /// The limits that the numbers say.
@@ -289,8 +299,8 @@ pub enum SettingsFault {
     BriefAlone,
     /// A text names no changes of bits.
     Damages,
-    /// Bits change, and a log is asked for, which shows none of that.
-    DamageLogged,
+    /// The bytes of packets are asked for, and no log is, which shows them.
+    PacketsAlone,
 }
 
 impl SettingsFault {
@@ -310,7 +320,7 @@ impl SettingsFault {
             SettingsFault::SpeedAlone => 5,
             SettingsFault::BriefAlone => 7,
             SettingsFault::Damages => 8,
-            SettingsFault::DamageLogged => 9,
+            SettingsFault::PacketsAlone => 9,
         }
     }
 
@@ -344,7 +354,7 @@ impl SettingsFault {
             SettingsFault::SpeedAlone => "a speed is for remarks: check --remarks --speed full",
             SettingsFault::BriefAlone => "a log is brief: enumerate --log --brief",
             SettingsFault::Damages => "damage is TRANSACTION:PACKET:BIT,..;.. with packets 1 to 3",
-            SettingsFault::DamageLogged => "a log doesn't show damage",
+            SettingsFault::PacketsAlone => "a log shows packets: enumerate --log --packets",
         }
     }
 }
@@ -362,7 +372,7 @@ impl fmt::Display for SettingsFault {
             SettingsFault::SpeedAlone => f.write_str("usbdesc: --speed without --remarks"),
             SettingsFault::BriefAlone => f.write_str("usbdesc: --brief without --log"),
             SettingsFault::Damages => f.write_str("usbdesc: bad damages"),
-            SettingsFault::DamageLogged => f.write_str("usbdesc: --damage with --log"),
+            SettingsFault::PacketsAlone => f.write_str("usbdesc: --packets without --log"),
         }
     }
 }

@@ -5,7 +5,6 @@ use Rattle.usb_text.specs.declared.output.OutFault.TheVariants as outs
 use Rattle.usb_text.specs.Output.{AppendsFront, AppendsLess, Held}
 use Rattle.usb_file_data.specs.declared.file.DescriptorFile.{DescriptorFile}
 use Rattle.usb_bus.specs.declared.enumeration.Run.{Run}
-use Rattle.usb_bus.specs.Log.{WritesLogLess}
 use Rattle.usb_explain.specs.declared.manner.Manner.{Manner}
 use Rattle.usb_explain.specs.Explanations.{explanation}
 use Rattle.usb_explain.specs.Fragments.{fragment_lines}
@@ -13,7 +12,7 @@ use Rattle.usb_explain.specs.Subjects.{Reading}
 use Rattle.usb_text.specs.Shown.{Shown}
 use Rattle.usb_tool.specs.Endings.{Extent}
 use Rattle.usb_tool.specs.Explains.{ShowsAfter, WithoutMemory}
-use Rattle.usb_tool.specs.Enumerations.{Conditions, IsRun}
+use Rattle.usb_tool.specs.Enumerations.{Conditions, CutsLog, IsRun, has_bytes}
 use Rattle.usb_tool.specs.declared.fault.ToolFault.{ToolFault}
 use Rattle.usb_tool.specs.declared.fault.ToolFault.TheVariants as faults
 
@@ -53,6 +52,6 @@ pub record MakesRun (c : Conditions) (f : DescriptorFile) (held holds : Held) (r
 
 -- a log is asked for, and a step of the enumeration broke it
 abbrev pub BreaksRun : Conditions → DescriptorFile → Held → Held → ToolFault → Type 0
-BreaksRun c f held holds faults.Write = (c.flags.log ≡ true) × WritesLogLess c.flags.brief f c.speed c.limits c.fates held holds outs.Write
-BreaksRun c f held holds faults.Memory = (c.flags.log ≡ true) × WritesLogLess c.flags.brief f c.speed c.limits c.fates held holds outs.Memory
+BreaksRun c f held holds faults.Write = (c.flags.log ≡ true) × CutsLog (has_bytes c.changes c.flags) c f held holds outs.Write
+BreaksRun c f held holds faults.Memory = (c.flags.log ≡ true) × CutsLog (has_bytes c.changes c.flags) c f held holds outs.Memory
 BreaksRun c f held holds fault = ⊥

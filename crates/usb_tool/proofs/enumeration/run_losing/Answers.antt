@@ -1,9 +1,15 @@
-use Rattle.std.proofs.Common.{[], refl}
+use Rattle.std.proofs.Common.{[], false, refl}
 use Rattle.usb_text.proofs.Pages.{appends_nothing, keeps_refl}
+use Rattle.usb_tool.specs.Enumerations.{under}
+use Rattle.usb_tool.proofs.Telling.{run_is}
 use Rattle.usb_tool.proofs.enumeration.run_losing.Goals as goal
 
 -- src/enumeration.rt: where no log is asked for, nothing is written
 pub returns-else-flags-clause-ok : goal.returns-else-flags-clause-ok
 returns-else-flags-clause-ok g c =
     let held = g.W.Write.contents c.args.w.now in
-    rw c.if-flags.false (record { log = []; enumerated = (c.enumerate_encoded.ensures.run, refl); written = appends_nothing held held (keeps_refl held) })
+    record {
+      log = [];
+      enumerated = run_is false false (under c.args.l c.args.d.now.speed c.args.fates.now [] c.args.flags) c.args.d.now.file c.enumerate_encoded.result [] c.requires c.if-flags.false (c.enumerate_encoded.ensures.run, refl);
+      written = appends_nothing held held (keeps_refl held);
+    }

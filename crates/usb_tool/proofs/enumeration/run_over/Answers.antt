@@ -1,16 +1,21 @@
-use Rattle.std.proofs.Common.{◌≢◌, [], rules}
-use Rattle.usb_text.proofs.Pages.{appends_nothing, keeps_refl}
+use Rattle.std.proofs.Common.{List, ◌∙◌, subst, sym}
+use Rattle.std.specs.Prelude.{IfErr, IfOk}
+use Rattle.usb_bus.specs.declared.wire.change.BitChange.{BitChange}
 use Rattle.usb_tool.specs.Enumerations.{under}
-use Rattle.usb_tool.proofs.Telling.{changed_run}
+use Rattle.usb_tool.specs.inside.Telling.{BreaksRun, MakesRun}
+use Rattle.usb_tool.proofs.Telling.{none_changed}
 use Rattle.usb_tool.proofs.enumeration.run_over.Goals as goal
 
--- src/enumeration.rt: where bits change, nothing is written
-pub returns-else-is_empty-clause-ok : goal.returns-else-is_empty-clause-ok
-returns-else-is_empty-clause-ok g c =
-    let held = g.W.Write.contents c.args.w.now in
-    let some : c.args.changes.now ≢ [] = search rules in
-    record {
-      log = [];
-      enumerated = changed_run (under c.args.l c.args.d.now.speed c.args.fates.now c.args.changes.now c.args.flags) c.args.d.now.file c.enumerate_encoded_on_the_wire.result some c.enumerate_encoded_on_the_wire.ensures.run;
-      written = appends_nothing held held (keeps_refl held);
-    }
+-- src/enumeration.rt: a bus that carries no bytes changes none
+pub run_losing-requires : goal.run_losing-requires
+run_losing-requires g c = (none_changed c.args.changes.now c.args.flags (sym c.has_bytes.ensures ∙ c.if-has_bytes.false)).1
+
+pub returns-else-has_bytes-clause-ok : goal.returns-else-has_bytes-clause-ok
+returns-else-has_bytes-clause-ok g c =
+    subst (λ (changes : List BitChange). IfOk c.run_losing.result (MakesRun (under c.args.l c.args.d.now.speed c.args.fates.now changes c.args.flags) c.args.d.now.file (g.W.Write.contents c.args.w.now) (g.W.Write.contents c.run_losing.new.w)))
+    (sym (none_changed c.args.changes.now c.args.flags (sym c.has_bytes.ensures ∙ c.if-has_bytes.false)).0) c.run_losing.ensures.ok
+
+pub returns-else-has_bytes-clause-err : goal.returns-else-has_bytes-clause-err
+returns-else-has_bytes-clause-err g c =
+    subst (λ (changes : List BitChange). IfErr c.run_losing.result (BreaksRun (under c.args.l c.args.d.now.speed c.args.fates.now changes c.args.flags) c.args.d.now.file (g.W.Write.contents c.args.w.now) (g.W.Write.contents c.run_losing.new.w)))
+    (sym (none_changed c.args.changes.now c.args.flags (sym c.has_bytes.ensures ∙ c.if-has_bytes.false)).0) c.run_losing.ensures.err
