@@ -1,0 +1,116 @@
+//! What a frame says of a transfer.
+ghost use Rattle.std.specs.Prelude.{◌≡◌, ◌+◌, ◌<◌, Some, IfOk, IfErr};
+ghost use Rattle.usb_capture.specs.Events.{event_fault, long_at, short_at, transfer_of, IsEvent};
+
+use crate::frame::Frame;
+use crate::order::ByteOrder;
+use crate::{usbmon, usbpcap};
+use usb_fields::{Setup, byte_at};
+use usb_set::TransferType;
+
+/// What befell a transfer of a host.
+#[derive(Clone, Copy, Debug, PartialEq, Eq, Hash)]
+pub enum EventKind {
+    /// It was given to the host controller.
+    Submission,
+    /// It came back.
+    Completion,
+    /// The host controller didn't take it.
+    Refusal,
+}
+
+/// Why a frame tells of no transfer: the first of these that holds.
+#[derive(Clone, Copy, Debug, PartialEq, Eq, Hash)]
+pub enum EventFault {
+    /// Its link type is another one: it has no USB, or packets of the bus.
+    Link,
+    /// It has fewer bytes than its header.
+    Short,
+    /// It is no submission, completion or refusal.
+    Kind,
+    /// It has no type of a transfer.
+    Transfer,
+}
+
+/// What a frame says of a transfer.
+#[derive(Clone, Copy, Debug)]
+pub struct Event<'d> {
+    /// What a submission and its completion have in common.
+    pub id: u64,
+    /// What befell it.
+    pub kind: EventKind,
+    /// The type of its endpoint.
+    pub transfer: TransferType,
+    /// The number of its bus.
+    pub bus: u16,
+    /// The address of its device.
+    pub device: u16,
+    /// The address of its endpoint, with the direction in bit 7 as in bEndpointAddress (USB 2.0, 9.6.6).
+    pub endpoint: u8,
+    /// Its setup packet, where the frame has it.
+    pub setup: Option<Setup>,
+    /// How it ended, as the host's system numbers it: 0 is success. Linux has a negative number in two's complement.
+    pub status: u32,
+    /// How many bytes were asked for or, at its completion, came or went.
+    pub length: u32,
+    /// Those of them that the frame has.
+    pub data: &'d [u8],
+}
+
+impl<'d> Event<'d> {
+    /// What this frame says.
+    ///
+    /// # Errors
+    ///
+    /// The first [`EventFault`] that holds.
+    pub fn of_frame(frame: &'d Frame) -> Result<Event<'d>, EventFault>
+        ensures ok { IfOk result (λ event. IsEvent frame.now.link frame.now.order frame.now.bytes event) }
+        ensures err { IfErr result (λ fault. event_fault frame.now.link frame.now.bytes ≡ Some fault) }
+    {
+        let bytes = frame.bytes.as_slice();
+        match frame.link {
+            189 => usbmon::read(frame.order, usbmon::OLD_HEADER_LENGTH, bytes),
+            220 => usbmon::read(frame.order, usbmon::HEADER_LENGTH, bytes),
+            249 => usbpcap::read(bytes),
+            _ => Err(EventFault::Link),
+        }
+    }
+}
+
+/// The type of a transfer by its number, which usbmon and USBPcap have in common.
+pub(crate) fn transfer_of(number: u8) -> Option<TransferType>
+    ensures { result ≡ transfer_of number }
+{
+    match number {
+        0 => Some(TransferType::Isochronous),
+        1 => Some(TransferType::Interrupt),
+        2 => Some(TransferType::Control),
+        3 => Some(TransferType::Bulk),
+        _ => None,
+    }
+}
+
+/// The number of 16 bits at this place.
+pub(crate) fn short_at(order: ByteOrder, b: &[u8], at: u8) -> u16
+    ensures { result ≡ short_at order b.now at }
+{
+    let first = byte_at(b, usize::from(at));
+    let second = byte_at(b, usize::from(at) + 1);
+    match order {
+        ByteOrder::Little => u16::from(first) + 256 * u16::from(second),
+        ByteOrder::Big => u16::from(second) + 256 * u16::from(first),
+    }
+}
+
+/// The number of 64 bits at this place.
+pub(crate) fn long_at(order: ByteOrder, b: &[u8], at: u8) -> u64
+    requires { at + 4 < 256 }
+    ensures { result ≡ long_at order b.now at }
+{
+    let first = u64::from(order.number_at(b, at));
+    let second = u64::from(order.number_at(b, at + 4));
+    match order {
+        ByteOrder::Little => first + 4_294_967_296 * second,
+        ByteOrder::Big => second + 4_294_967_296 * first,
+    }
+}
