@@ -175,7 +175,7 @@ fn explain_found<W: Write>(
     explain_bytes(alloc, heading.as_bytes(), bytes, w, decoded, loose)
 }
 
-/// Puts what is before the explanation of so many bytes that were hexadecimal text.
+/// Puts what is before the explanation of `count` bytes that were hexadecimal text.
 #[tactic(auto, unfolding(crate::specs::Explains::hexadecimal_words))]
 fn put_hexadecimal(text: &mut Text, count: usize) -> Result<(), AllocError>
     ensures { OnOk result (text.new ≡ text.old ++ hexadecimal_words count) }

@@ -183,10 +183,10 @@ pub(crate) const NO_PLACES_HELP: &str = "Leaves the places out";
 
 /// What `--utf8` says.
 pub(crate) const UTF8_HELP: &str =
-    "Writes characters beyond ASCII as they are (Unicode 15.0), but for those that steer a terminal";
+    "Prints non-ASCII characters unescaped (Unicode 15.0), except control characters";
 
 /// What `--hex` of the other commands says.
-pub(crate) const HEX_HELP: &str = "Takes nothing but hexadecimal text";
+pub(crate) const HEX_HELP: &str = "Reads the input as hexadecimal text";
 
 /// What `--loose` says.
 pub(crate) const LOOSE_HELP: &str =
@@ -221,8 +221,8 @@ Log:
   With --log a line for each transaction is written before the result: its number, its fate,
   its packets, in brackets where one was lost, its data, and what the host and what the device
   have then. Data of more than 8 bytes are below it, but not with --brief. A line begins each
-  bus reset and each transfer. The last line counts the fates that lose, and those of a device
-  that is not ready.
+  bus reset and each transfer. The last line counts lost packets and busy
+  transactions.
   A packet in which bits change has a line below: its number, its bytes, the bits, and what it
   is refused as. Where no check finds the change, a second line has what arrives. With --packets
   each packet has a line: lost, or arrives.

@@ -41,7 +41,7 @@ impl Intake {
         Ok(Intake::File(Vec::from_slice(alloc, front)?))
     }
 
-    /// Takes the next bytes, so many having been taken before.
+    /// Takes the next bytes, after `before` bytes.
     ///
     /// # Errors
     ///
@@ -60,7 +60,7 @@ impl Intake {
         }
     }
 
-    /// The set or the file that all of the bytes are, of which there were so many.
+    /// The set or the file that all of the `count` bytes are.
     ///
     /// # Errors
     ///
@@ -100,7 +100,7 @@ impl SetIntake {
         }
     }
 
-    /// Gives the next bytes to the decoder, so many having been given before. What follows the set, or a
+    /// Gives the next bytes to the decoder, after `before` bytes. What follows the set, or a
     /// fault of it, changes nothing.
     ///
     /// # Errors
@@ -127,7 +127,7 @@ impl SetIntake {
         Ok(())
     }
 
-    /// The set that all of the bytes are, of which there were so many.
+    /// The set that all of the `count` bytes are.
     ///
     /// # Errors
     ///
