@@ -1,4 +1,5 @@
 pub mod Numbers
+pub mod BusPackets
 pub mod Events
 pub mod Pcap
 pub mod Reading

@@ -4,12 +4,14 @@
 //!   is whole: its time, its link type and its bytes. It holds at most [`MOST_HELD`] bytes, however long the file is.
 //! - [`Event::of_frame`] reads what a frame says of a transfer, where its link type is that of usbmon or of USBPcap: whose
 //!   transfer it is, its setup packet, its status and its data.
+//! - [`packet_of`] reads a frame that is a packet of the bus.
 //! - [`laws`]: the frames of a file are one list, so it doesn't matter how its bytes were cut into pieces.
 //!
 //! The format is that of the Internet draft "PCAP Capture File Format" (draft-ietf-opsawg-pcap), those of frames are
 //! the kernel's document "usbmon" and USBPcap's "Capture format specification".
 #![tactic(auto)]
 
+mod bus_packet;
 mod event;
 mod fault;
 mod frame;
@@ -22,6 +24,7 @@ mod tests;
 mod usbmon;
 mod usbpcap;
 
+pub use bus_packet::{PacketFault, packet_of};
 pub use event::{Event, EventFault, EventKind};
 pub use fault::CaptureFault;
 pub use frame::{Frame, MOST_BYTES};

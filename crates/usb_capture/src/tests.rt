@@ -3,6 +3,7 @@ use crate::{ByteOrder, CaptureFault, Event, EventFault, EventKind, Frame, MOST_B
 use std::alloc::Global;
 use usb_fields::{Sequence, Setup, after, prefix};
 use usb_set::TransferType;
+use usb_wire::{Damage, Handshake, Packet};
 
 /// Two records of link type 220: one of three bytes, and an earlier one, of which the file has no byte.
 const LITTLE: &[u8] = &[
@@ -234,4 +235,20 @@ fn refuses_frames_cut_in_their_header(rt: HostRuntime) {
     }
     let other = frame_with(rt.alloc(), 1, ByteOrder::Little, SUBMISSION).expect(&rt, "memory");
     assert!(rt; matches!(Event::of_frame(&other), Err(EventFault::Link)));
+}
+
+#[test]
+fn reads_packets_of_the_bus(rt: HostRuntime) {
+    let order = ByteOrder::Little;
+    for link in [288, 293, 294, 295] {
+        let whole = frame_with(rt.alloc(), link, order, &[0xd2]).expect(&rt, "memory");
+        assert!(rt; packet_of(&whole) == Ok(Packet::Handshake(Handshake::Ack)));
+        let damaged = frame_with(rt.alloc(), link, order, &[0xd3]).expect(&rt, "memory");
+        assert!(rt; packet_of(&damaged) == Err(PacketFault::Damaged(Damage::Pid)));
+        let mut cut = frame_with(rt.alloc(), link, order, &[0xd2]).expect(&rt, "memory");
+        cut.original = 1;
+        assert!(rt; packet_of(&cut) == Err(PacketFault::Cut));
+    }
+    let other = frame_with(rt.alloc(), 220, order, &[0xd2]).expect(&rt, "memory");
+    assert!(rt; packet_of(&other) == Err(PacketFault::Link));
 }

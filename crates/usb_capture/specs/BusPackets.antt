@@ -1,0 +1,17 @@
+-- Frames that are packets of the bus.
+use Rattle.std.specs.Prelude.{ℕ, ◌==◌, ◌||◌, Bool, Option, Some, nat_lt, if◌then◌else◌}
+use Rattle.std.specs.Option.{option_map}
+use Rattle.usb_wire.specs.Damages.{damage_of}
+use Rattle.usb_capture.specs.declared.bus_packet.PacketFault.{PacketFault}
+use Rattle.usb_capture.specs.declared.bus_packet.PacketFault.TheVariants.{Link, Cut, Damaged}
+use Rattle.usb_capture.specs.declared.frame.Frame.{Frame}
+
+-- the link types of USB 2.0, and of its packets at low, full and high speed
+abbrev pub is_of_bus : ℕ → Bool
+is_of_bus link = link == 288 || link == 293 || link == 294 || link == 295
+
+-- the first fault of a frame as a packet
+abbrev pub packet_fault : Frame → Option PacketFault
+packet_fault frame =
+    if is_of_bus frame.link then (if nat_lt frame.captured frame.original then Some Cut else option_map Damaged (damage_of frame.bytes))
+    else Some Link
