@@ -119,8 +119,12 @@ walks (suc n) (len ∷ []) c total place le sum =
     let room : total - place ≡ 1 = omega (arith, sum) in
     elim (cases_Bool (ltb len 2)) [
       | inl y ↦ (place, ItemLength, ap (λ (r : Reading). reads r (len ∷ [])) start ∙ later_refuses c total place (len ∷ []) ItemLength (cond-true (ltb len 2) _ _ y))
-      | inr t ↦ (place, Over, ap (λ (r : Reading). reads r (len ∷ [])) start ∙ later_refuses c total place (len ∷ []) Over
-          (cond-false (ltb len 2) _ _ t ∙ cond-true (ltb (total - place) len) _ _ (lt-ltb (total - place) len (omega (arith, room, ltb-false len 2 t)))))
+      | inr t ↦ (
+        place,
+        Over,
+        ap (λ (r : Reading). reads r (len ∷ [])) start ∙ later_refuses c total place (len ∷ []) Over
+            (cond-false (ltb len 2) _ _ t ∙ cond-true (ltb (total - place) len) _ _ (lt-ltb (total - place) len (omega (arith, room, ltb-false len 2 t)))),
+      )
     ]
 walks (suc n) (len ∷ kind ∷ rest) c total place le sum =
     let start = before_end c total place (omega (arith, sum)) in

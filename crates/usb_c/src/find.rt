@@ -4,7 +4,9 @@ ghost use Rattle.usb_set.specs.Faults.{is_set_type, least_length};
 ghost use Rattle.usb_c.specs.Found.{Finds, begins_device, is_first_packet, is_version};
 ghost use Rattle.usb_c.specs.inside.Seeking.{are_items, first_standing, has_header, is_item, set_length, standing};
 
-use usb_fields::{after, byte_at, descriptor_length, descriptor_type, known_bytes, prefix, word_at};
+use usb_fields::{
+    after, byte_at, descriptor_length, descriptor_type, known_bytes, prefix, word_at,
+};
 
 /// What stands among bytes: the struct `nzg_found` of nozzlegorse.h.
 #[repr(C)]

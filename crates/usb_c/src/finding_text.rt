@@ -9,9 +9,9 @@ use crate::buffer::fill_done;
 use crate::finding::NzgFinding;
 use std::alloc::{AllocError, Global};
 use usb_explain::put_finding_words;
-use usb_remarks::Outline;
 use usb_file::{Input, read_input};
 use usb_file_data::{Cause, Found, found_in_order};
+use usb_remarks::Outline;
 use usb_text::{Lines, Page};
 
 /// Puts what a finding of these bytes says into the buffer, in the words that an explanation has after its rule. Of the struct

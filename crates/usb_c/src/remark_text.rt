@@ -14,9 +14,9 @@ use crate::remark::NzgRemark;
 use crate::text::running_speed;
 use std::alloc::{AllocError, Global};
 use usb_explain::put_remark_words;
-use usb_remarks::{Descriptor, Outline, Remark, SetSpeed};
 use usb_file::{Input, read_input};
 use usb_file_data::found_in_order;
+use usb_remarks::{Descriptor, Outline, Remark, SetSpeed};
 use usb_text::{Lines, Page};
 
 /// Puts what a remark on these bytes says into the buffer, in the words of an explanation. The device ran at the speed of this
