@@ -1,5 +1,8 @@
 //! Files whose bytes are typed from the format's document, each in two pieces, cut at every byte.
-use crate::{ByteOrder, CaptureFault, Event, EventFault, EventKind, Frame, MOST_BYTES, PcapReader};
+use crate::{
+    ByteOrder, CaptureFault, Event, EventFault, EventKind, Frame, MOST_BYTES, PacketFault,
+    PcapReader, packet_of,
+};
 use std::alloc::Global;
 use usb_fields::{Sequence, Setup, after, prefix};
 use usb_set::TransferType;
