@@ -55,7 +55,8 @@ def end(host):
         return "host, asking", ""
     if host.outcome:
         return f"host, trouble {host.outcome} {host.step.split()[0]}", host.step
-    return "host, success", host.read.hex()
+    told = "no file" if host.lacks_strings else host.read.hex()
+    return "host, success", told + "".join(f", {why} {step}" for why, step in host.forgiven)
 
 
 def line_of(host, kind, told):
@@ -85,9 +86,9 @@ def anything(b):
 
 
 def exchange(host, device, kind, times, numbers, ready=1):
-    """A transaction, in which the device's answer is another one once in so many times, and in which the device is ready
+    """A transaction, in which the device's answer is another one once in so many times, never at 0, and in which the device is ready
     once in so many."""
-    lies = numbers.below(times) == 0
+    lies = times > 0 and numbers.below(times) == 0
     is_ready = ready == 1 or numbers.below(ready) == 0
     answer = device.serve(host.transfer.address, host.transfer.token(), is_ready)
     acknowledged = isinstance(answer, tuple)
@@ -142,4 +143,22 @@ def lies(b):
                 host.reset_done()
             elif host.due == "send":
                 exchange(host, device, kind, times, numbers)
+        yield settled(host, numbers, b)
+
+
+def choosing(b):
+    """Hosts of all six choices, by a device whose answers are now and then others where strings are read."""
+    numbers, device = Numbers(6), Device(File(b))
+    for number in range(HOSTS):
+        host = new_host(numbers)
+        host.strings, host.other_speed = ["needed", "wanted", "skipped"][number % 3], number % 6 < 3
+        device.reset()
+        answers, kind, times = numbers.below(512), numbers.below(8), numbers.below(8) + 2
+        for _ in range(answers):
+            if host.due == "reset":
+                device.reset()
+                host.reset_done()
+            elif host.due == "send":
+                of_strings = host.step.split()[0] in ("languages", "text")
+                exchange(host, device, kind, times if of_strings else 0, numbers)
         yield settled(host, numbers, b)

@@ -61,7 +61,7 @@ DEVICES = {
     "mouse-64": ["anything", "lies", *TALKS, "enumerate-five-0-1", "enumerate-five-2-2", "enumerate-long-2-2", "enumerate-far-65535-1", "log-far-65535-1"],
     "mouse-8": ["lies", *TALKS, *SHORT],
     "everything": ["lies", "long", "enumerate-long-1-3", "log-long-1-3"],
-    "real-mouse": ["enumerate-given-16-3", "log-given-16-3", "brief-given-16-3"],
+    "real-mouse": ["choices", "enumerate-given-16-3", "log-given-16-3", "brief-given-16-3"],
 }
 
 
@@ -142,7 +142,7 @@ def devices(way, b, number):
         for lines, state in asking.hosts(changing.Numbers(number)):
             yield ("".join(line + "\n" for line in lines) + state).encode(), [f"device, {line.split(' ')[0]}" for line in lines]
         return
-    for line, kind in {"anything": answering.anything, "lies": answering.lies, "long": answering.long}[way](b):
+    for line, kind in {"anything": answering.anything, "lies": answering.lies, "long": answering.long, "choices": answering.choosing}[way](b):
         yield line.encode(), [kind]
 
 

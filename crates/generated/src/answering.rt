@@ -7,8 +7,8 @@ use anyhow::Result;
 use std::alloc::{AllocError, Global};
 use usb_device::Device;
 use usb_fields::{Answer, Speed, Toggle, Transaction};
-use usb_file::write_file;
-use usb_host::{Action, Host, Limits};
+use usb_file::{DescriptorFile, write_file};
+use usb_host::{Action, Choice, Host, Limits, NamedStrings, Step};
 
 /// How many hosts there are of each kind.
 const HOSTS: u32 = 10_000;
@@ -48,6 +48,27 @@ pub(crate) fn lied_to(example: &Example, tally: &mut Tally) -> Result<()> {
     Ok(())
 }
 
+/// Hosts of all six choices, which are answered by the device of the example, and now and then otherwise where strings are
+/// read.
+pub(crate) fn choosing(example: &Example, tally: &mut Tally) -> Result<()> {
+    let description = example.description()?;
+    let mut numbers = Numbers(6);
+    for number in 0..HOSTS {
+        let choice = Choice {
+            strings: match number % 3 {
+                0 => NamedStrings::Needed,
+                1 => NamedStrings::Wanted,
+                _ => NamedStrings::Skipped,
+            },
+            other_speed: number % 6 < 3,
+        };
+        let mut answered = Answered::bearing(tally.alloc, 4, choice, &mut numbers)?;
+        answered.ask_for_strings(&mut Device::new(&description), &mut numbers)?;
+        answered.settle(&mut numbers, &example.bytes, tally)?;
+    }
+    Ok(())
+}
+
 /// Hosts that are given long lists of answers: by the device of the example, which is not ready most of the time, and now
 /// and then otherwise; and once they have ended by anything.
 pub(crate) fn at_length(example: &Example, tally: &mut Tally) -> Result<()> {
@@ -62,7 +83,7 @@ pub(crate) fn at_length(example: &Example, tally: &mut Tally) -> Result<()> {
     Ok(())
 }
 
-/// Which lies a host is given, and how often: once in so many times. And how often the device is ready for it.
+/// Which lies a host is given, and how often: once in so many times, or never at 0. And how often the device is ready for it.
 #[derive(Clone, Copy)]
 struct Lies {
     kind: usize,
@@ -89,23 +110,28 @@ struct Answered {
 impl Answered {
     /// A host with few NAKs.
     fn new(alloc: Global, numbers: &mut Numbers) -> Result<Answered> {
-        Answered::bearing(alloc, 4, numbers)
+        Answered::bearing(alloc, 4, Choice::everything(), numbers)
     }
 
     /// A host that may bear many NAKs.
     fn patient(alloc: Global, numbers: &mut Numbers) -> Result<Answered> {
-        Answered::bearing(alloc, 4_096, numbers)
+        Answered::bearing(alloc, 4_096, Choice::everything(), numbers)
     }
 
     /// A host with an address of 1 to 127, fewer NAKs than these, and 1 to 8 attempts.
-    fn bearing(alloc: Global, naks: u16, numbers: &mut Numbers) -> Result<Answered> {
+    fn bearing(
+        alloc: Global,
+        naks: u16,
+        choice: Choice,
+        numbers: &mut Numbers,
+    ) -> Result<Answered> {
         let address = numbers.below(127).saturating_add(1) as u8;
         let naks = numbers.below(usize::from(naks).max(1)) as u16;
         let attempts = numbers.below(8).saturating_add(1) as u8;
         let limits = Limits::new(address, naks, attempts)?;
         Ok(Answered {
             alloc,
-            host: Host::new(alloc, limits, Speed::Full),
+            host: Host::with_choice(alloc, limits, Speed::Full, choice),
             most: STEPS
                 .saturating_mul(u64::from(naks).saturating_add(3))
                 .saturating_mul(u64::from(attempts)),
@@ -138,6 +164,26 @@ impl Answered {
             ready: 1,
         };
         for _ in 0..steps {
+            self.go_on_by(device, lies, numbers)?;
+        }
+        Ok(())
+    }
+
+    /// Up to 511 resets and answers of this device, among them lies of one kind where strings are read.
+    fn ask_for_strings(&mut self, device: &mut Device<'_>, numbers: &mut Numbers) -> Result<()> {
+        let steps = numbers.below(512);
+        let kind = numbers.below(8);
+        let times = numbers.below(8).saturating_add(2);
+        for _ in 0..steps {
+            let times = match self.host.step() {
+                Some(Step::Languages | Step::Text { .. }) => times,
+                _ => 0,
+            };
+            let lies = Lies {
+                kind,
+                times,
+                ready: 1,
+            };
             self.go_on_by(device, lies, numbers)?;
         }
         Ok(())
@@ -199,7 +245,7 @@ impl Answered {
         numbers: &mut Numbers,
     ) -> Result<(), AllocError> {
         self.transactions = self.transactions.saturating_add(1);
-        let is_lie = numbers.below(lies.times.max(1)) == 0;
+        let is_lie = lies.times > 0 && numbers.below(lies.times) == 0;
         let is_ready = lies.ready <= 1 || numbers.below(lies.ready) == 0;
         let answer = device.serve(transaction, is_ready);
         let has_data = matches!(&answer, Answer::Data(_, _));
@@ -289,6 +335,20 @@ impl Answered {
         }
     }
 
+    /// What it has read: the bytes of a file, or that there is none without the strings; and what it has passed over.
+    fn told(&self, file: &DescriptorFile) -> Result<String> {
+        let alloc = self.alloc;
+        let mut told = match write_file(alloc, file) {
+            Ok(bytes) => hex::encode(alloc, bytes)?,
+            Err(_) => format!(in alloc; "no file")?,
+        };
+        for trouble in self.host.forgiven() {
+            let (why, step) = (trouble.why.number(), trouble.step);
+            told.push_str(&format!(in alloc; ", {why} {step}")?)?;
+        }
+        Ok(told)
+    }
+
     /// How it has ended, if it has.
     fn end(&self) -> Result<End> {
         let alloc = self.alloc;
@@ -299,7 +359,7 @@ impl Answered {
             }),
             Some(Ok(file)) => Ok(End {
                 kind: format!(in alloc; "host, success")?,
-                told: hex::encode(alloc, write_file(alloc, file)?)?,
+                told: self.told(file)?,
             }),
             Some(Err(trouble)) => {
                 let told = format!(in alloc; "{}", trouble.step)?;

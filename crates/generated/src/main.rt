@@ -100,6 +100,7 @@ fn take(example: &Example, way: &str, tally: &mut Tally) -> Result<()> {
         ("anything", _) => answering::anything(example, tally),
         ("lies", _) => answering::lied_to(example, tally),
         ("long", _) => answering::at_length(example, tally),
+        ("choices", _) => answering::choosing(example, tally),
         (_, Some((word, "readers"))) => take_failing(example, word, End::Reader, tally),
         (_, Some((word, "writers"))) => take_failing(example, word, End::Writer, tally),
         (_, Some((word, words))) => Runs::of(words)?.all(example, word, tally),
