@@ -1,7 +1,6 @@
 """How the page looks: contrast, a phone's width, saved pictures; and how long it takes."""
 
 import base64
-import os
 import time
 import xml.dom.minidom
 
@@ -125,11 +124,9 @@ def times(page, file):
     for what, item in items.items():
         found[f"64 KiB{what}"] = min(taken(page, set_of(65535, item)) for _ in range(TRIES))
         found[f"1 MiB{what}"] = min(taken(page, device + set_of(65535, item) * 16) for _ in range(TRIES))
-    # More work than processors makes all of it longer.
-    share = max(1, os.getloadavg()[0] / os.cpu_count())
     for what, most in (("64 KiB", 1000), ("1 MiB", 10000)):
-        held(f"{what} in {most} ms, {share:.1f} times as long", all(it <= most * share for name, it in found.items() if name.startswith(what)), found)
-    said("64 KiB are read within a second, 1 MiB within ten" + f", {share:.1f} times as long on a machine with other work" * (share > 1))
+        held(f"{what} in {most} ms", all(it <= most for name, it in found.items() if name.startswith(what)), found)
+    said("64 KiB are read within a second, 1 MiB within ten")
     return [f"{what}: {it:.0f} ms" for what, it in found.items()]
 
 
