@@ -52,7 +52,7 @@ enum nzg_status {
     NZG_CLOSED = 9,            /* the handle holds nothing */
     NZG_BAD_ARGUMENT = 10,     /* number: 1 address, 2 attempts, 3 speed, 4 a fate, 5 a rule, 6 no string, 7 a packet size, 8 a reply,
                                 * 9 a request without data to the device, 10 data that are not wLength bytes, 11 numbers of no transfer,
-                                * 12 no packet, 13 no such finding, remark, fault or trouble */
+                                * 12 no packet, 13 no such finding, remark, fault or trouble, 14 what becomes of strings */
     NZG_TROUBLE = 11,          /* number 1..7: why a transfer or an enumeration failed */
     NZG_UNANSWERED = 12,       /* number 1..4: why the device doesn't take the answer to a request */
     NZG_NO_BYTES = 13,         /* number: why the file of a host has no bytes; a law of the library says it doesn't come */
@@ -109,6 +109,7 @@ enum nzg_role {
     NZG_RAW = 6, /* of a class, of a vendor, or of a type that has no meaning in a set */
     NZG_QUALIFIER = 7, NZG_LANGUAGES = 8, NZG_STRING = 9
 };
+enum nzg_transfer_type { NZG_CONTROL = 0, NZG_ISOCHRONOUS = 1, NZG_BULK = 2, NZG_INTERRUPT = 3 }; /* bits 1 and 0 of bmAttributes (9.6.6) */
 
 /* A descriptor where it stands in its input. The walk goes on from it, so a copy is a place to come back to. What does
  * not apply is 0. Class, subclass and protocol are those of the interface setting that it belongs to, of a device its
@@ -119,6 +120,7 @@ struct nzg_descriptor {
     nzg_size endpoint_number;   /* number of the endpoint in its setting, from 0: as findings count */
     uint64_t named[4];        /* bit i % 64 of word i / 64, i from 1 on: a descriptor so far names string i */
     uint16_t language;        /* of a string */
+    uint16_t packet;          /* of an endpoint: bits 10 to 0 of wMaxPacketSize, the most bytes of data in a packet (9.6.6) */
     uint8_t length, type;     /* bLength, bDescriptorType */
     uint8_t role;             /* enum nzg_role; 0 before the first descriptor */
     uint8_t owner;            /* of an association or a raw one: the role of what it belongs to, which is the nearest
@@ -127,6 +129,9 @@ struct nzg_descriptor {
                                * owner, and what is in no set has 0 */
     uint8_t part;             /* 0 device, 1 its sets, 2 its qualifier and the sets of the other speed */
     uint8_t index;            /* of a string */
+    uint8_t attributes;       /* of an endpoint: bmAttributes */
+    uint8_t transactions;     /* of an endpoint: in a microframe, 1 to 3 by bits 12 and 11 of wMaxPacketSize; 0 where those are reserved */
+    uint8_t interval;         /* of an endpoint: bInterval */
     nzg_size next;              /* place of the byte after it */
     nzg_size left;              /* bytes of its set after it */
     nzg_size strings;           /* strings that came, it included */
@@ -160,16 +165,6 @@ struct nzg_answer nzg_fields(const uint8_t *bytes, nzg_size len, const struct nz
 /* The first with this name, as wMaxPacketSize. False as nzg_field. */
 bool nzg_field_named(const uint8_t *bytes, nzg_size len, const struct nzg_descriptor *descriptor, const uint8_t *name, nzg_size name_len, struct nzg_field *field);
 
-struct nzg_found {
-    nzg_size place, length; /* of its first byte; in bytes */
-    nzg_size next;          /* where the search goes on: behind a set; one byte on in a device descriptor, which hides nothing */
-    uint8_t kind;         /* 1 a set, 4 a device descriptor */
-};
-/* The first of these from a place on in any bytes, as a firmware image: a whole set whose first descriptor has 9 bytes, or a device
- * descriptor, of which bLength, type, bcdUSB, bMaxPacketSize0 and bNumConfigurations are looked at. False where there is none:
- * nothing changes then. The bytes of a set that isn't whole are looked at again by each set that seems to begin in them. */
-bool nzg_find(const uint8_t *bytes, nzg_size len, nzg_size start, struct nzg_found *found);
-
 /* --- facts about bytes; these ask for memory ----------------------------------------------------------------------- */
 
 /* what the bytes are: done, and number 1 a set, 2 a descriptor file, 3 a dump; or the fault */
@@ -198,6 +193,21 @@ struct nzg_answer nzg_remark_text(const uint8_t *bytes, nzg_size len, uint8_t sp
 struct nzg_answer nzg_fault_text(const uint8_t *bytes, nzg_size len, uint8_t *text, nzg_size room);
 /* what breaks a rule from 1 to 13, in words, as in docs/formats.md; this asks for no memory */
 struct nzg_answer nzg_rule(uint8_t rule, uint8_t *text, nzg_size room);
+
+struct nzg_found {
+    nzg_size place, length; /* of its first byte; in bytes */
+    nzg_size next;          /* where the search goes on: after a set; one byte on in a device descriptor, which hides nothing */
+    uint8_t kind;         /* 1 a set, 4 a device descriptor */
+};
+/* The first of these from a place on in any bytes, as a firmware image: a whole set whose first descriptor has 9 bytes, or a device
+ * descriptor, of which bLength, type, bcdUSB, bMaxPacketSize0 and bNumConfigurations are looked at. False where there is none:
+ * nothing changes then. */
+bool nzg_find(const uint8_t *bytes, nzg_size len, nzg_size start, struct nzg_found *found);
+/* One after another, as many as there is room for. Gives how many these are: fewer are all, else the search goes on at the last one's
+ * `next`. However hostile the bytes are, a call looks at them no more than 600 times for each byte that it passed, and 2,097,152 times
+ * beside: a look is at a descriptor's first bytes, or at what is kept of it. So take room for a thousand and more. Where a megabyte was
+ * walked over, each asks for some megabytes of memory, whatever `len` is; without it, it goes on with up to 32,768 looks a byte. */
+nzg_size nzg_find_all(const uint8_t *bytes, nzg_size len, nzg_size start, struct nzg_found *found, nzg_size room);
 /* A string, as UTF-8 with escapes as by `usbdesc explain --utf8`. Role, place and length say where it stands. */
 struct nzg_answer nzg_text(const uint8_t *bytes, nzg_size len, const struct nzg_descriptor *string, uint8_t *text, nzg_size room);
 /* a dump as a descriptor file, with the strings that `usbdesc enumerate --with-strings` puts; a file stays as it is */
@@ -349,7 +359,14 @@ struct nzg_trouble { uint8_t why, step, index; uint16_t language; };
 /* step and index and language as in nzg_outcome; naks so far in a row, bytes kept so far, strikes: losses in a row */
 struct nzg_step { uint16_t naks, kept, language; uint8_t step, index, strikes, setup[8]; };
 
+/* It asks for all that a descriptor file has. */
 struct nzg_answer nzg_host_open(struct nzg_host *host, uint8_t address, uint16_t naks, uint8_t attempts, uint8_t speed);
+/* What becomes of the strings that descriptors name: each must be there; one that the device refuses or gives wrongly may be missing;
+ * none is asked for. */
+enum nzg_named_strings { NZG_NEEDED = 0, NZG_WANTED = 1, NZG_SKIPPED = 2 };
+/* It asks for so much; the qualifier and the sets of the other speed only with `other_speed`. In a file that was read, the language
+ * list that is missing is 0x0409 alone, and a string that is missing is empty. */
+struct nzg_answer nzg_host_open_with(struct nzg_host *host, uint8_t address, uint16_t naks, uint8_t attempts, uint8_t speed, uint8_t strings, bool other_speed);
 /* enum nzg_action. An OUT has no bytes. But for NZG_SEND the transaction is as it was. */
 uint8_t nzg_host_next(struct nzg_host *host, struct nzg_transaction *transaction);
 bool nzg_host_reset_done(struct nzg_host *host);
@@ -358,6 +375,9 @@ bool nzg_host_take(struct nzg_host *host, uint8_t reply, uint8_t toggle, const u
 /* The request that the host makes now, for a log; false where there is none, and the step is then as it was. */
 bool nzg_host_step(struct nzg_host *host, struct nzg_step *step);
 uint8_t nzg_host_attempts(struct nzg_host *host);
+/* What is missing of the strings in this attempt, and why, by its number from 0 on: false where there is none, and the trouble is
+ * then as it was. */
+bool nzg_host_forgiven(struct nzg_host *host, nzg_size number, struct nzg_trouble *trouble);
 struct nzg_answer nzg_host_outcome(struct nzg_host *host, struct nzg_trouble *trouble, uint8_t *file, nzg_size room);
 void nzg_host_close(struct nzg_host *host);
 /* Why an enumeration failed, and at which step, in words: of nzg_enumerate `why` is the number of its answer. */

@@ -74,7 +74,7 @@ export class Ladder {
     drawn(isAsked = () => true) {
         const rows = this.rows.slice(0, MOST).flatMap((row, i) => isAsked(i) ? [this.row(row, i)] : []);
         const sides = [this.host, this.device].map(x => svg('line', { x1: x, x2: x, y1: PAD + HEIGHTS.sides, y2: this.height, class: 'side' }));
-        return svg('svg', { viewBox: `0 0 ${this.width} ${this.height}`, width: this.width, height: this.height, class: 'picture ladder' }, ...sides, ...rows);
+        return svg('svg', { viewBox: `0 0 ${this.width} ${this.height}`, width: this.width, height: this.height, class: 'picture ladder', role: 'none' }, ...sides, ...rows);
     }
 
     row(row, i) {
@@ -92,7 +92,7 @@ export class Ladder {
     }
 
     transaction(row, i, y) {
-        const made = svg('g', { class: `transaction fate-${row.fate === '.' ? 'none' : row.fate}` });
+        const made = svg('g', { class: `transaction fate-${row.fate === '.' ? 'none' : row.fate}`, role: 'none' });
         made.append(...texts(this.hostLines(row), PAD, y + 15, LINE, 'words of-host'));
         made.append(...texts(this.deviceLines(row), this.device + PAD, y + 15, LINE, 'words of-device'));
         row.packets.forEach((packet, k) => made.append(this.packet(row, packet, i, k, y + k * ARROW + 20)));

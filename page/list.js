@@ -66,6 +66,13 @@ export class List {
         this.rows.style.transform = `translateY(${top}px)`;
     }
 
+    // The row to which a key goes from this one; nothing for another key.
+    rowAfter(key, row) {
+        const page = Math.max(1, Math.floor(this.inView()) - 1);
+        const ways = { ArrowDown: row + 1, ArrowUp: row - 1, PageDown: row + page, PageUp: row - page, Home: 0, End: this.count - 1 };
+        return key in ways ? Math.min(Math.max(ways[key], 0), this.count - 1) : undefined;
+    }
+
     // Scrolls as little as shows the row.
     show(number) {
         const first = this.first(), view = Math.floor(this.inView()) || 1;

@@ -1,10 +1,10 @@
 // The page: bytes in, and what the library in its worker says of them. All that is said of bytes is the library's text.
 import { libraryIn } from './asking.js';
 import { Bytes } from './bytes.js';
-import { devicePicture } from './device_picture.js';
+import { devicePicture, drawnOf, PictureView, ROLES } from './device_picture.js';
 import { EnumerationView } from './enumeration.js';
 import { Box, bytesOfBase64, hexadecimal, linkOf, MOST_BYTES, textOfAddress } from './input.js';
-import { headingAt, KINDS, lineAt } from './lines.js';
+import { KINDS, lastUpTo, lineAt, nthOf } from './lines.js';
 import { save, saveSvg } from './svg.js';
 import { tabs } from './tabs.js';
 import { Text } from './text.js';
@@ -13,11 +13,12 @@ import { askDevice, canAsk } from './webusb.js';
 
 const at = id => document.getElementById(id);
 const box = new Box(at('box'), at('behind'));
-const tree = new Tree(at('tree'), (heading, line) => markLine(heading, line));
+const tree = new Tree(at('tree'), (heading, line) => markLine(heading, line), line => saidOf(line));
 const text = new Text(at('text'), line => tree.pick(line));
 const bytes = new Bytes(at('bytes'), place => pickByte(place));
-// What is shown: the bytes, their explanation, their descriptors. `turn` numbers what was asked for, since only the last counts.
-const state = { bytes: new Uint8Array(), explained: null, walked: null, turn: 0 };
+const picture = new PictureView(at('picture'), place => bytes.pick(place));
+// What is shown: the bytes, and what the library reads in them. `turn` numbers what was asked for, since only the last counts.
+const state = { bytes: new Uint8Array(), explained: null, turn: 0 };
 let ask;
 
 function tell(words) {
@@ -63,17 +64,14 @@ async function read(given, name = '') {
     const turn = ++state.turn;
     const explained = await ask('read', given, Number(at('speed').value));
     if (turn !== state.turn) return;
-    Object.assign(state, { bytes: given, explained, walked: null });
+    Object.assign(state, { bytes: given, explained: { ...explained, fields: new Map() } });
     showExplained();
     tell(name);
-    const walked = await ask('walk');
-    if (turn !== state.turn) return;
-    state.walked = walked;
-    drawn();
+    await drawn();
 }
 
 function clear() {
-    Object.assign(state, { bytes: new Uint8Array(), explained: null, walked: null });
+    Object.assign(state, { bytes: new Uint8Array(), explained: null });
     at('found').hidden = true;
     tell('');
 }
@@ -81,79 +79,106 @@ function clear() {
 // --- what is shown ------------------------------------------------------------------------------------------------------------
 
 function showExplained() {
-    const { text: said, lines } = state.explained;
+    const { text: said, fault, lines } = state.explained;
     at('found').hidden = false;
     bytes.show(state.bytes);
-    tree.show(said, lines);
+    tree.show(state.explained);
     at('all-fields').checked = tree.allOpen;
     text.show(said, lines.starts);
-    const last = lines.kinds.length - 1;
-    at('summary').textContent = last > 0 && lines.kinds[last] === KINDS.PLAIN ? lineText(last) : '';
+    at('summary').textContent = fault ? '' : lineText(lines.kinds.length - 1);
 }
 
 // Draws what the tab in front has, where it is a picture.
-function drawn() {
-    if (!state.walked) return;
-    if (!at('picture-view').hidden) drawPicture();
-    if (!at('ladder-view').hidden) enumeration.enter(state.bytes);
+async function drawn() {
+    if (!at('picture-view').hidden) await drawPicture();
+    if (!at('ladder-view').hidden) await enumeration.enter(state.bytes);
 }
 
 const lineText = line => lineAt(state.explained.text, state.explained.lines.starts, line).trim();
 
-// The heading of the descriptor at a place, in words.
-function wordsOf({ place }) {
-    const { headings } = state.explained.lines, number = headingAt(headings, 'place', place);
-    return headings.place[number] === place ? lineText(headings.line[number]).replace(/ @\d+\+\d+$/, '') : '';
+async function drawPicture() {
+    const { turn } = state, { isWhole, descriptors } = await described();
+    if (turn !== state.turn) return;
+    const width = Math.max(300, Math.min(at('picture').clientWidth - 16, 760));
+    picture.show(devicePicture(descriptors, width));
+    at('picture-told').textContent = isWhole ? '' : 'The first descriptors alone are drawn.';
 }
 
-function drawPicture() {
-    const width = Math.max(300, Math.min(at('picture').clientWidth - 16, 760));
-    at('picture').replaceChildren(devicePicture(state.walked.descriptors, wordsOf, width));
-    at('picture-told').textContent = state.walked.isWhole ? '' : 'The first descriptors alone are drawn.';
+// What is drawn of the descriptors: the heading's words of each, and of an association which interfaces it binds.
+async function described() {
+    const { headings } = state.explained, { numbers, isWhole } = drawnOf(headings), found = numbers.map(number => ({
+        place: headings.place[number], role: headings.role[number], interface_: headings.interface_[number],
+        endpoint: headings.endpoint[number], words: tree.headingWords(number),
+    }));
+    const associations = found.filter(it => it.role === ROLES.ASSOCIATION), fields = await ask('fieldsOf', associations.map(it => it.place));
+    associations.forEach((it, i) => {
+        const value = name => fields[i].find(field => field.name === name)?.value;
+        Object.assign(it, { first: value('bFirstInterface'), count: value('bInterfaceCount') });
+    });
+    return { descriptors: found, isWhole };
+}
+
+// --- what the rows of the tree say --------------------------------------------------------------------------------------------
+
+// The fields of a heading's descriptor. What is left of broken bytes has none.
+function fieldsOf(number) {
+    const { fields, headings } = state.explained;
+    if (!fields.has(number)) fields.set(number, headings.role[number] ? ask('fields', headings.place[number]) : Promise.resolve([]));
+    return fields.get(number);
+}
+
+// What is found or remarked in a line: its place and its number, by the name of that. Of broken bytes no remarks are listed.
+function noteAt(line, notes, name) {
+    const { headings, lines } = state.explained, place = headings.place[tree.headingOf(line)];
+    const index = lastUpTo(notes.place, place - 1) + 1 + nthOf(lines.kinds, line);
+    return notes.place[index] === place ? { place, number: notes[name][index] } : null;
+}
+
+const TOLD = {
+    [KINDS.FAULT]: async () => {
+        const { kind, number, place, text: words } = state.explained.fault;
+        return { words: `! ${kind} ${number ? `${number} ` : ''}at ${place}: ${words}` };
+    },
+    [KINDS.FINDING]: async line => {
+        const { place, number } = noteAt(line, state.explained.findings, 'rule');
+        return { words: `! V${number} ${await ask('findingText', place, number)}` };
+    },
+    [KINDS.REMARK]: async line => {
+        const note = noteAt(line, state.explained.remarks, 'number');
+        return { words: note ? `? ${await ask('remarkText', note.place, note.number)}` : lineText(line) };
+    },
+    [KINDS.FIELD]: async line => {
+        const words = lineText(line), field = (await fieldsOf(tree.headingOf(line)))[nthOf(state.explained.lines.kinds, line)];
+        return field ? { name: field.name, words: words.slice(field.name.length).trim() } : { words };
+    },
+};
+
+async function saidOf(line) {
+    return TOLD[state.explained.lines.kinds[line]](line);
 }
 
 // --- marks, both ways ---------------------------------------------------------------------------------------------------------
 
 // The bytes of a heading's descriptor; nothing above the first.
 function rangeOf(number) {
-    const { place, length } = state.explained.lines.headings;
+    const { place, length } = state.explained.headings;
     return number < 0 ? null : { place: place[number], length: length[number] };
 }
 
-// The fields of a heading's descriptor, each with the line that has it: they stand in the same order.
-async function fieldsOf(number) {
-    const { headings, kinds } = state.explained.lines, end = headings.line[number + 1] ?? kinds.length;
-    const fields = await ask('fields', headings.place[number]);
-    let line = headings.line[number];
-    return fields.map(field => {
-        const from = line + 1;
-        for (line = from; line < end && (kinds[line] !== KINDS.FIELD || lineText(line).split(' ')[0] !== field.name); line++);
-        if (line === end) line = from - 1;
-        return { ...field, line };
-    });
-}
-
 async function markLine(number, line) {
-    const { kinds } = state.explained.lines, turn = state.turn, range = rangeOf(number);
-    const fault = /^! .* at (\d+): /.exec(lineText(line));
-    bytes.mark(fault ? { place: Number(fault[1]), length: 1 } : range);
-    if (fault || !range || kinds[line] < KINDS.FIELD) return;
-    const field = (await fieldsOf(number)).findLast(it => it.line <= line);
+    const { fault, lines: { kinds } } = state.explained, { turn } = state, range = kinds[line] === KINDS.PLAIN ? null : rangeOf(number);
+    bytes.mark(kinds[line] === KINDS.FAULT ? { place: fault.place, length: 1 } : range);
+    if (kinds[line] !== KINDS.FIELD) return;
+    const field = (await fieldsOf(number))[nthOf(kinds, line)];
     if (field && turn === state.turn && tree.line === line) bytes.mark(range, { place: field.place, length: field.width });
 }
 
 async function pickByte(place) {
-    const { headings } = state.explained.lines, number = headingAt(headings, 'place', place), range = rangeOf(number), turn = state.turn;
-    if (!range || place >= range.place + range.length) return bytes.mark(null);
-    const field = (await fieldsOf(number)).find(it => place >= it.place && place < it.place + it.width);
+    const { headings, lines } = state.explained, number = lastUpTo(headings.place, place), range = rangeOf(number), { turn } = state;
+    const fields = await fieldsOf(number), index = fields.findIndex(it => place >= it.place && place < it.place + it.width), field = fields[index];
     if (turn !== state.turn) return;
-    tree.select(field?.line ?? headings.line[number]);
+    tree.select(field ? lines.kinds.indexOf(KINDS.FIELD, lines.line[number]) + index : lines.line[number]);
     bytes.mark(range, field && { place: field.place, length: field.width });
-}
-
-function pickPlace(event) {
-    const place = event.target.closest('[data-place]')?.dataset.place;
-    if (place !== undefined) bytes.pick(Number(place));
 }
 
 // --- the page's parts ---------------------------------------------------------------------------------------------------------
@@ -171,15 +196,18 @@ function listen() {
     at('link').addEventListener('click', copyLink);
     at('save-text').addEventListener('click', () => save(state.explained.text, 'text/plain', 'explanation.txt'));
     at('save-picture').addEventListener('click', () => saveSvg(at('picture').firstChild, 'device.svg'));
-    at('picture').addEventListener('click', pickPlace);
     addEventListener('dragover', event => event.preventDefault());
     addEventListener('drop', event => {
         event.preventDefault();
         if (event.dataTransfer.files.length) openFile(event.dataTransfer.files[0]);
     });
     addEventListener('hashchange', openAddress);
-    new ResizeObserver(() => state.explained && drawn()).observe(at('picture'));
-    tabs(at('found'), () => state.explained && drawn());
+    new ResizeObserver(redrawn).observe(at('picture'));
+    tabs(at('found'), redrawn);
+}
+
+function redrawn() {
+    if (state.explained) drawn().catch(failed);
 }
 
 async function openFile(file) {

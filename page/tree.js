@@ -1,12 +1,15 @@
-// The tree: the lines of the explanation, of which those below a heading can be folded. What is picked is marked in the bytes.
-import { headingAt, KINDS, lineAt } from './lines.js';
+// The tree: descriptors with their findings, remarks and fields, which can be folded. What is picked is marked in the bytes. A row is
+// known by the explanation's line that says the same.
+import { KINDS, lastUpTo, lineAt } from './lines.js';
 import { List } from './list.js';
 
-const CLASSES = ['plain', 'heading', 'finding', 'remark', 'field', 'more'];
+const CLASSES = ['plain', 'heading', 'finding', 'remark', 'finding', 'field'];
 // Where there are so few lines, all fields are shown at first.
 const FEW_LINES = 400;
 const WHOLE = 500;
 const STEP = 14;
+// So many rows are asked for at once, so that what is picked meanwhile waits for no more.
+const AT_ONCE = 16;
 
 function element(name, className, text = '') {
     const made = document.createElement(name);
@@ -15,11 +18,18 @@ function element(name, className, text = '') {
     return made;
 }
 
+function fill(row, { name, words }) {
+    if (name) row.append(element('span', 'name', name));
+    row.append(element('span', name ? 'value' : 'words', words));
+}
+
 export class Tree {
-    // `picked` is called with the number of a heading, or -1, and the number of a line.
-    constructor(place, picked) {
+    // `picked` is called with the number of a heading, or -1, and the number of a line. `saidOf` gives the words of a line that is no
+    // heading, and of a field its name.
+    constructor(place, picked, saidOf) {
         this.place = place;
         this.picked = picked;
+        this.saidOf = saidOf;
         this.list = new List(place, row => this.draw(row), WHOLE);
         this.clear();
         place.addEventListener('click', event => this.clicked(event));
@@ -27,13 +37,13 @@ export class Tree {
     }
 
     clear() {
-        Object.assign(this, { headings: { line: [], depth: [] }, kinds: [], rows: [], line: -1 });
+        Object.assign(this, { headings: { line: [], depth: [] }, kinds: [], rows: [], line: -1, said: new Map() });
         this.list.set(0);
     }
 
-    show(text, { starts, kinds, headings }) {
-        Object.assign(this, { text, starts, kinds, headings, line: -1 });
-        this.folded = new Uint8Array(headings.line.length);
+    show({ text, headings, lines: { starts, kinds, line } }) {
+        Object.assign(this, { text, starts, kinds, headings: { ...headings, line }, line: -1, said: new Map() });
+        this.folded = new Uint8Array(this.count);
         this.place.scrollTop = 0;
         this.openAll(kinds.length <= FEW_LINES);
     }
@@ -51,7 +61,7 @@ export class Tree {
 
     // The heading that a line stands below, or is; -1 above the first.
     headingOf(line) {
-        return headingAt(this.headings, 'line', line);
+        return lastUpTo(this.headings.line, line);
     }
 
     // The line after the last one that belongs to a heading alone.
@@ -72,7 +82,7 @@ export class Tree {
     }
 
     hasFields(number) {
-        return this.kinds.subarray(this.headings.line[number], this.endLine(number)).includes(KINDS.FIELD);
+        return this.headings.fields[number] > 0;
     }
 
     // Which lines are shown.
@@ -91,12 +101,12 @@ export class Tree {
 
     depthOf(line) {
         const number = this.headingOf(line);
-        if (number < 0 || this.kinds[line] === KINDS.PLAIN) return 0;
+        if (number < 0 || this.kinds[line] === KINDS.PLAIN || this.kinds[line] === KINDS.FAULT) return 0;
         return this.headings.depth[number] + (this.kinds[line] === KINDS.HEADING ? 0 : 1);
     }
 
     draw(row) {
-        const line = this.rows[row], kind = this.kinds[line], text = lineAt(this.text, this.starts, line).trim();
+        const line = this.rows[row], kind = this.kinds[line];
         const made = element('div', `row ${CLASSES[kind]}`);
         made.id = `line-${line}`;
         made.dataset.line = line;
@@ -104,14 +114,27 @@ export class Tree {
         made.setAttribute('aria-level', this.depthOf(line) + 1);
         made.setAttribute('aria-selected', line === this.line);
         made.style.paddingLeft = `${this.depthOf(line) * STEP + 20}px`;
-        if (kind === KINDS.HEADING) this.drawHeading(made, line, text);
-        else if (kind === KINDS.FIELD || kind === KINDS.MORE) this.drawField(made, kind, text);
-        else made.append(element('span', 'words', text));
+        if (kind === KINDS.HEADING) this.drawHeading(made, line);
+        else if (kind === KINDS.PLAIN) made.append(element('span', 'words', this.wordsAt(line)));
+        else this.say(made, line);
         return made;
     }
 
-    drawHeading(made, line, text) {
-        const number = this.headingOf(line), [, words, place] = /^(.*) (@\d+\+\d+)$/.exec(text);
+    wordsAt(line) {
+        return lineAt(this.text, this.starts, line).trim();
+    }
+
+    // Where a heading's descriptor is, as its line ends.
+    placeOf(number) {
+        return `@${this.headings.place[number]}+${this.headings.length[number]}`;
+    }
+
+    headingWords(number) {
+        return this.wordsAt(this.headings.line[number]).slice(0, -this.placeOf(number).length - 1);
+    }
+
+    drawHeading(made, line) {
+        const number = this.headingOf(line);
         if (this.hasBelow(number)) {
             const isOpen = !this.folded[number] && (this.open[number] || this.endOf(number) > number + 1);
             const fold = element('span', isOpen ? 'fold is-open' : 'fold');
@@ -119,12 +142,37 @@ export class Tree {
             made.setAttribute('aria-expanded', isOpen);
             made.append(fold);
         }
-        made.append(element('span', 'words', words), element('span', 'place', place));
+        made.append(element('span', 'words', this.headingWords(number)), element('span', 'place', this.placeOf(number)));
     }
 
-    drawField(made, kind, text) {
-        const [, name, value] = kind === KINDS.FIELD ? /^(\S+)\s*(.*)$/.exec(text) : [, '', text];
-        made.append(element('span', 'name', name), element('span', 'value', value));
+    // What a finding, a remark or a field says is asked for once its row is drawn, since each may be a call over all bytes.
+    say(row, line) {
+        if (this.said.has(line)) return fill(row, this.said.get(line));
+        row.setAttribute('aria-busy', true);
+        this.isSaying ||= setTimeout(() => this.sayAll());
+    }
+
+    async sayAll() {
+        for (let lines; (lines = this.unsaid()).length; ) {
+            const { said } = this, all = lines.map(it => this.saidOf(it).catch(error => ({ words: error.message })));
+            (await Promise.all(all)).forEach((it, i) => said.set(lines[i], it));
+            if (said === this.said) lines.forEach(it => this.fillRow(it));
+        }
+        this.isSaying = 0;
+    }
+
+    // The lines to be said next: those in view before the others.
+    unsaid() {
+        const lines = Array.from(this.place.querySelectorAll('[aria-busy]'), it => Number(it.dataset.line));
+        const first = this.rows[Math.floor(this.list.first())];
+        return [...lines.filter(it => it >= first), ...lines.filter(it => it < first)].slice(0, AT_ONCE);
+    }
+
+    fillRow(line) {
+        const row = document.getElementById(`line-${line}`);
+        if (!row?.hasAttribute('aria-busy')) return;
+        row.removeAttribute('aria-busy');
+        fill(row, this.said.get(line));
     }
 
     clicked(event) {
@@ -194,9 +242,8 @@ export class Tree {
     }
 
     pressed(event) {
-        const row = this.line < 0 ? -1 : this.rowOf(this.line), page = Math.max(1, Math.floor(this.list.inView()) - 1);
-        const ways = { ArrowDown: row + 1, ArrowUp: row - 1, PageDown: row + page, PageUp: row - page, Home: 0, End: this.rows.length - 1 };
-        if (event.key in ways) this.pick(this.rows[Math.min(Math.max(ways[event.key], 0), this.rows.length - 1)]);
+        const row = this.list.rowAfter(event.key, this.line < 0 ? -1 : this.rowOf(this.line));
+        if (row !== undefined) this.pick(this.rows[row]);
         else if (!this.turned(event.key)) return;
         event.preventDefault();
     }

@@ -10,8 +10,8 @@ async function opened(module) {
 }
 
 // An explanation isn't copied: its memory becomes the page's.
-function buffersOf({ text, lines: { starts, kinds, headings } }) {
-    return [text, starts, kinds, ...Object.values(headings)].map(it => it.buffer);
+function buffersOf({ text, headings, findings, remarks, lines }) {
+    return [text, ...[headings, findings, remarks, lines].flatMap(it => Object.values(it))].map(it => it.buffer);
 }
 
 onmessage = async ({ data: { number, call, given } }) => {

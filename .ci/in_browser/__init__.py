@@ -85,6 +85,10 @@ globalThis.paste = async text => {
 };
 globalThis.textShown = () => at('found').hidden ? '' : [...document.querySelectorAll('#text .row')].map(it => it.textContent).join('');
 globalThis.marked = kind => [...document.querySelectorAll(`#bytes .${kind}`)].map(it => Number(it.dataset.place));
+// Rows that say a finding, a remark or a field are filled once they are drawn.
+globalThis.said = () => until(() => !document.querySelector('#tree [aria-busy]'));
+globalThis.rows = () => [...document.querySelectorAll('#tree .row')].map(it =>
+    [Number(it.dataset.line), it.classList[1], ...[...it.querySelectorAll('span:not(.fold)')].map(part => part.textContent)]);
 globalThis.tab = name => at(`tab-${name}`).click();
 """
 

@@ -1,10 +1,11 @@
 """How the page looks: contrast, a phone's width, saved pictures; and how long it takes."""
 
 import base64
+import re
 import time
 import xml.dom.minidom
 
-from . import array, data_of, held, ready, said
+from . import array, data_of, held, program, ready, said
 from playing.built import ROOT
 
 # The ratio of contrast of each text that is seen, by WCAG 2.1, with the least of 4.5 that AA asks for.
@@ -29,6 +30,8 @@ CONTRAST = """(() => {
     }
     return low;
 })()"""
+HEADINGS = re.compile(r"^ *(.*) @(\d+)\+(\d+)$", re.M)
+DRAWN = re.compile(r"device |qualifier |configuration |other-speed configuration |association |interface |endpoint ")
 TRIES = 4
 TABS = ("tree", "text", "picture", "ladder")
 # Six devices, for the documents.
@@ -49,6 +52,40 @@ SAVED = """(async () => {
 def show(page, name):
     data = data_of(f"{ROOT}/testdata/{name}")
     page.value(f"drop({array(data)}, '{name}')")
+
+
+def picture_by_keys(page, usbdesc):
+    """Each box and arrow of the picture is a button by the name of its heading, reached by keys, which mark its bytes; each packet of
+    the ladder an option."""
+    count = 0
+    for path in PICTURED.values():
+        show(page, path)
+        page.value("tab('picture'); sleep(100)")
+        wanted = [it for it in HEADINGS.findall(program(usbdesc, "explain", "--utf8", "--formats", "--brief", given=data_of(f"{ROOT}/testdata/{path}"))[0]) if DRAWN.match(it[0])]
+        held(f"{path}: each box and arrow has role and name", sorted(names(page, "button", "#picture")) == sorted(it[0] for it in wanted), names(page, "button", "#picture"), wanted)
+        page.value("at('tab-picture').focus()")
+        while page.value("document.activeElement.closest('#picture') === null"):
+            page.key("Tab", 9)
+        page.key("Home", 36)
+        for number, (words, place, length) in enumerate(sorted(wanted, key=lambda it: int(it[1]))):
+            at = page.value("(() => { const it = document.activeElement, part = it.querySelector('.frame, .hit'); return [it.getAttribute('aria-label'), it.matches(':focus-visible'), getComputedStyle(part).strokeWidth] })()")
+            held(f"{path}: part {number} is reached and seen", at == [words, True, "3px"], at, words)
+            page.key(*((" ", 32, " "), ("Enter", 13, "\r"))[number % 2])
+            page.wait(f"marked('in-descriptor').join() === Array.from({{ length: {length} }}, (_, i) => {place} + i).join()")
+            page.key("ArrowDown", 40)
+            count += 1
+    page.value("(async () => { tab('ladder'); await until(() => document.querySelector('.packet')) })()")
+    packets = names(page, "option", "#ladder")
+    held("each packet has role and name", len(packets) == page.value("document.querySelectorAll('.packet').length") and all(packets), packets)
+    page.value("tab('tree')")
+    said(f"{count} boxes and arrows of the picture are buttons with a name, reached, seen and picked by keys alone")
+
+
+def names(page, role, place):
+    """The names of what has this role there, as a reader of the screen is given them."""
+    root = page.ask("Runtime.evaluate", expression=f"document.querySelector('{place}')")["result"]["objectId"]
+    nodes = page.ask("Accessibility.queryAXTree", objectId=root, role=role)["nodes"]
+    return [it["name"]["value"] for it in nodes if not it["ignored"]]
 
 
 def contrasts(page):
@@ -122,20 +159,25 @@ def times(page, file):
     device = bytes([18, 1, 0, 2, 0, 0, 0, 64, 1, 0, 2, 0, 0, 1, 0, 0, 0, 16])
     items = {"": bytes([7, 0x24, 1, 0, 0, 0, 0]), " with a finding at each descriptor": bytes([7, 5, 0x81, 3, 8, 0, 10])}
     for what, item in items.items():
-        found[f"64 KiB{what}"] = min(taken(page, set_of(65535, item)) for _ in range(TRIES))
-        found[f"1 MiB{what}"] = min(taken(page, device + set_of(65535, item) * 16) for _ in range(TRIES))
+        for size, data in (("64 KiB", set_of(65535, item)), ("1 MiB", device + set_of(65535, item) * 16)):
+            tries = [taken(page, data) for _ in range(TRIES)]
+            found[f"{size}{what}"] = min(drawn for drawn, _ in tries)
+            if what:
+                found[f"{size}{what}, until the rows in view say it"] = min(said for _, said in tries)
     for what, most in (("64 KiB", 1000), ("1 MiB", 10000)):
-        held(f"{what} in {most} ms", all(it <= most for name, it in found.items() if name.startswith(what)), found)
+        held(f"{what} in {most} ms", all(it <= most for name, it in found.items() if name.startswith(what) and "," not in name), found)
     said("64 KiB are read within a second, 1 MiB within ten")
     return [f"{what}: {it:.0f} ms" for what, it in found.items()]
 
 
 def taken(page, data):
-    """Milliseconds from the drop to the tree's first rows. The bytes are in the page before."""
+    """Milliseconds from the drop to the tree's first rows, and until those in view have their words. The bytes are in the page before."""
     page.value(f"globalThis.given = Uint8Array.fromBase64?.('{base64.b64encode(data).decode()}'); 0")
     return page.value(f"""(async () => {{
         const begun = performance.now();
         await drop(given, 'large');
         await until(() => document.querySelector('#tree .row')?.textContent.includes('{len(data)} bytes'));
-        return performance.now() - begun;
+        const drawn = performance.now() - begun, tree = at('tree').getBoundingClientRect();
+        await until(() => ![...document.querySelectorAll('#tree [aria-busy]')].some(it => it.getBoundingClientRect().top < tree.bottom));
+        return [drawn, performance.now() - begun];
     }})()""")

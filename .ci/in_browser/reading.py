@@ -8,6 +8,7 @@ import random
 import re
 
 from . import array, data_of, held, inputs, program, ready, said
+from .chromium import opened
 from playing.built import ROOT
 
 OPTIONS = ("explain", "--utf8", "--formats")
@@ -35,8 +36,64 @@ def texts_and_marks(page, usbdesc):
         }))()""")
         visible = [[it[0] if it[1] else -1, it[1]] for it in places]
         held(f"{name}: each heading marks its bytes", marks == visible, marks, visible)
+        page.value("(async () => { at('all-fields').checked || at('all-fields').click(); await said() })()")
+        rows_are_lines(name, page.value("rows()"), wanted)
         count, headings = count + 1, headings + len(marks)
     said(f"{count} texts are the program's, and {headings} headings mark their bytes")
+
+
+def rows_are_lines(name, rows, wanted):
+    """Each row of the tree says what its line of the program's text does, and so is below the same heading."""
+    lines = wanted.split("\n")
+    for number, kind, *parts in rows:
+        words = f"{parts[0]:<22} {parts[1]}" if kind == "field" and len(parts) > 1 else " ".join(parts)
+        line = lines[number].strip().replace("! trailing bytes at", "! trailing at")
+        held(f"{name}: row {number} is the program's line", words == line, repr(words), repr(line))
+
+
+# The worker's answers without what their text says of findings, remarks and faults, and without the names of fields.
+HIDDEN = """
+globalThis.Worker = class extends Worker {
+    set onmessage(answered) {
+        super.onmessage = event => {
+            const text = event.data.value?.lines && event.data.value.text;
+            if (text) {
+                const hidden = new TextDecoder().decode(text).split('\\n').map(hide).join('\\n');
+                text.set(new TextEncoder().encode(hidden));
+            }
+            answered(event);
+        };
+    }
+};
+const hide = line => /^ *[!?] /.test(line) ? line.replace(/[^ ]/g, 'x') : / @\\d+\\+\\d+$/.test(line) ? line : line.replace(/^ +\\w+/, it => it.replace(/\\w/g, 'x'));
+"""
+
+
+def by_calls(file, usbdesc):
+    """The tree's findings, remarks and fields are the calls' and not lines of the explanation. Each marks what it is about."""
+    notes = 0
+    with opened() as page:
+        page.before(HIDDEN)
+        page.look(1400, 2600)
+        ready(page, file)
+        for name in ("files/every-rule-broken.file", "files/qemu-usb-mouse.file", "mistakes/03-total-swapped.bin", "mistakes/31-iso-alt0.bin"):
+            data = data_of(f"{ROOT}/testdata/{name}")
+            wanted, _, _ = program(usbdesc, *OPTIONS, given=data)
+            rows, marks = page.value(f"""(async () => {{
+                await drop({array(data)}, 'hidden');
+                at('all-fields').checked || at('all-fields').click();
+                await said();
+                return [rows(), [...document.querySelectorAll('#tree :is(.finding, .remark)')].map(it => (it.click(), [it.dataset.line, marked('in-descriptor')]))];
+            }})()""")
+            rows_are_lines(f"{name} without its text", [it for it in rows if it[1] != "plain"], wanted)
+            for line, places in marks:
+                above = HEADING.findall("\n".join(wanted.split("\n")[: int(line)]))[-1]
+                fault = re.match(r" *! \w+ fault \d+ at (\d+)", wanted.split("\n")[int(line)])
+                first, length = (int(fault[1]), 1) if fault else map(int, above)
+                held(f"{name}: line {line} marks its descriptor", places == [it for it in range(first, first + length) if it < len(data)], places)
+                notes += 1
+        held("no error in the page", not page.errors, page.errors)
+    said(f"the tree has its fields and {notes} findings, remarks and faults by calls of the library, each of which marks its bytes")
 
 
 def difference(came, wanted):
@@ -62,6 +119,8 @@ def mutations(page, usbdesc, count):
             await sleep(20);
             return textShown();
         }})()""")
+        if not number % 3:
+            rows_are_lines(f"mutation {number} of {name}", page.value("said().then(rows)"), came)
         held(f"mutation {number} of {name}: the text is the program's", came == IN_HEXADECIMAL.sub("", wanted), difference(came, wanted), data.hex(" "))
         told = page.value("at('told').textContent + at('ladder-told').textContent")
         held(f"mutation {number} of {name}: no error", not page.errors and not re.search("undefined|null|not a function", told), told, page.errors, data.hex(" "))
@@ -79,7 +138,9 @@ def fields(page):
             const picked = () => document.querySelector('#tree [aria-selected=true]');
             picked()?.setAttribute('aria-selected', false);
             at(`byte-${place}`).click();
-            const line = await until(picked);
+            await until(picked);
+            await said();
+            const line = picked();
             const part = name => line.querySelector(`.${name}`)?.textContent;
             found.push([place, part('name'), part('value'), marked('in-field')]);
         }
@@ -127,8 +188,12 @@ def keys(page):
     page.value("at('tab-tree').focus()")
     page.key("ArrowRight")
     held("tabs by keys", page.value("!at('text-view').hidden && at('tree-view').hidden && document.activeElement.id === 'tab-text'"))
+    page.value("at('text').focus()")
+    for name in ("ArrowDown", "ArrowDown"):
+        page.key(name)
+    held("a line of the text by keys", page.value("[document.querySelector('#text [aria-selected=true]').textContent.slice(0, 16), marked('in-descriptor').length]") == ["device 0627:0001", 18])
     page.value("tab('tree')")
-    said("tree, bytes, tabs and packets by keys alone")
+    said("tree, text, bytes, tabs and packets by keys alone")
 
 
 def pastes(page, usbdesc):

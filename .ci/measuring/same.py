@@ -67,7 +67,7 @@ def walks_that_differ(walk, plain):
 def differences(program, root):
     """How many runs there were, and the lines of those that differ."""
     program = os.path.abspath(program)
-    os.chdir(os.path.join(root, "crates/examples/data"))
+    os.chdir(os.path.join(root, "crates/test_rows/data"))
     count, told = 0, []
     try:
         for name, run in [*wanted_runs(), *other_runs()]:

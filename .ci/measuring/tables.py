@@ -2,14 +2,16 @@
 
 from typing import NamedTuple
 
-EXAMPLES = "crates/examples/data"
+EXAMPLES = "crates/test_rows/data"
 LONGEST = "crates/benchmarks/sets/longest.bin"
 HID = f"{EXAMPLES}/sets/hid-one-endpoint.bin"
 WEBCAM = f"{EXAMPLES}/sets/linux-gadget-webcam.bin"
+# The indices of strings that it names.
+STRINGS = 9
 AUDIO = f"{EXAMPLES}/sets/ugreen-15765a.bin"
 KEYBOARD = f"{EXAMPLES}/hexadecimal/keyboard"
-EVERYTHING = "crates/examples/data/files/with-everything"
-CAMERA = "crates/examples/data/files/gadget-webcam"
+EVERYTHING = "crates/test_rows/data/files/with-everything"
+CAMERA = "crates/test_rows/data/files/gadget-webcam"
 
 # Where a run counts, without the loop: the host's transactions.
 TRANSFER = ("benchmarks::host::transact", "*works*transact_transfer*")
@@ -154,6 +156,7 @@ def transactions():
     yield "IN of the webcam's set", a_round([(1, host("enumeration-packets", WEBCAM, 10, 110))], 74)
     yield "status stage of a header", a_round([(1, host("enumeration-header"))])
     yield "a write of 64 bytes in packets of 8, both ends", a_round([(1, device("written"))], bound=1.2)
+    yield "host: STALL of a string that may be missing", a_round([(1, host("enumeration-strings", WEBCAM, 10, 110))], STRINGS, 1.2)
 
 
 def enumerations():

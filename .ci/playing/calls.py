@@ -6,10 +6,10 @@ import sys
 from playing.row import Fault, change
 from playing.run import Run, ends_with
 
-sys.path.insert(0, os.path.join(os.path.dirname(os.path.abspath(__file__)), "../../crates/player/reading"))
-from enumerating import named, word  # noqa: E402
+sys.path.append(os.path.join(os.path.dirname(os.path.abspath(__file__)), "../.."))
+from readings.enumerating import named, word  # noqa: E402
 
-# These are asked of the libraries, by the program crates/examples.
+# These are asked of the libraries, by the program test_rows.
 OF_LIBRARIES = set(
     "setup device qualifier endpoint units write_units set feed encode file write assemble named failing_reads"
     " failing_writes failing_write failing_flush packet changed_packet write_packet crc5 crc16".split()

@@ -81,7 +81,7 @@ def of_rust(text):
 
 
 def of_source():
-    text = "".join(map(text_of, sorted(glob.glob("crates/usb_c/src/*.rt") + glob.glob("crates/usb_device/src/*.rt")) + ["crates/usb_walk/src/position.rt"]))
+    text = "".join(map(text_of, sorted(glob.glob("crates/usb_c/src/*.rt") + glob.glob("crates/usb_device/src/*.rt")) + ["crates/usb_find/src/search.rt", "crates/usb_walk/src/position.rt"]))
     found = dict(of_calls(text, r'#\[unsafe\(no_mangle\)\]\s*(?:#\[[^\n]*\]\s*)?pub extern "C" '))
     for name, body in re.findall(r"#\[repr\(C\)\]\s*(?:#\[derive\([^)]*\)\]\s*)?pub struct (\w+) \{(.*?)\n\}", text, re.S):
         fields = re.findall(r"^    (?:pub )?(\w+): ([^,]+),", body.replace("*mut u8", "*mut c_void"), re.M)

@@ -72,6 +72,12 @@ def check_lines(data):
     return out.decode().replace("no findings\n", "").splitlines()
 
 
+def endpoint_numbers(data):
+    """bmAttributes, the bytes of a packet, its transactions in a microframe, 0 where they are reserved, and bInterval (USB 2.0, 9.6.6)."""
+    size = int.from_bytes(data[4:6], "little")
+    return data[3], size & 0x7FF, (1, 2, 3, 0)[size >> 11 & 3], data[6]
+
+
 def walk_differs(walked, told, fault):
     """How the walk differs from the headings, or None. Of broken bytes it may go on over the place of the fault."""
     if fault and all(it.place + len(it.data) > fault[2] for it in walked[len(told):]):
@@ -87,6 +93,8 @@ def walk_differs(walked, told, fault):
             return f"{it} against {words}"
         if it.owner != (owner if it.role in ("association", "raw") else None) or it.place != place:
             return f"owner of {it}: {it.owner}, not {owner}; or a gap at {place}"
+        if it.role == "endpoint" and (it.attributes, it.max_packet_size, it.transactions, it.interval) != endpoint_numbers(it.data):
+            return f"numbers of {it}: {it.attributes}, {it.max_packet_size}, {it.transactions}, {it.interval}"
         if it.role == "raw" and it.depth != OWNERS.index(owner) + 2:
             return f"depth of {it}: {it.depth}, in a {owner}"
         owner, place = it.role if it.role in OWNERS else owner, place + len(it.data)

@@ -112,7 +112,7 @@ static void print_set_unmet(const struct nzg_bench *bench, FILE *out) {
     for (struct nzg_descriptor d = {0}; nzg_next(bench->file, bench->len, &d);) {
         if (d.part != 1 || d.set) continue;
         alternates += d.role == NZG_INTERFACE && d.alternate;
-        endpoints += d.role == NZG_ENDPOINT && !d.alternate && (bench->file[d.place + 3] & 3) != 1;
+        endpoints += d.role == NZG_ENDPOINT && !d.alternate && (d.attributes & 3) != NZG_ISOCHRONOUS;
         if (d.role == NZG_INTERFACE && !bench->file[d.place + 4]) fprintf(out, "not tried: halts of interface %u; its setting %u has no endpoints\n", d.interface_, d.alternate);
     }
     if (!endpoints) fprintf(out, "not tried: halts; no setting 0 of the first configuration has an interrupt or bulk endpoint\n");

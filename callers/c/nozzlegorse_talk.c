@@ -59,7 +59,7 @@ static void find(const uint8_t *file, size_t len, size_t set, struct found *f) {
         }
         bool is_here = d.part == 1 && d.set == set;
         if (d.role == NZG_INTERFACE && is_here && f->setting_count < MOST) f->settings[f->setting_count++] = (struct setting){d.interface_, d.alternate, file[d.place + 4]};
-        if (d.role == NZG_ENDPOINT && is_here && f->endpoint_count < MOST) f->endpoints[f->endpoint_count++] = (struct endpoint){d.interface_, d.alternate, d.endpoint, (file[d.place + 3] & 3) == 1};
+        if (d.role == NZG_ENDPOINT && is_here && f->endpoint_count < MOST) f->endpoints[f->endpoint_count++] = (struct endpoint){d.interface_, d.alternate, d.endpoint, (d.attributes & 3) == NZG_ISOCHRONOUS};
         if (d.role == NZG_QUALIFIER) f->has_qualifier = true;
         if (d.role == NZG_LANGUAGES) f->languages = d.length;
         if (d.role == NZG_STRING && !f->language) f->first_string = d.index, f->language = d.language;

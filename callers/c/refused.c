@@ -10,7 +10,7 @@ static size_t length;
 static long calls, refusals;
 
 enum { SHOW, CHECK, CHECK_ANY, EXPLAIN, LOOSE, HEX, FROM_TEXT, BUILD, BUILD_COMMENTS, ENUMERATE, JUDGE, FINDINGS, REMARKS, TEXT, WITH_STRINGS, DEVICE, HOST, DECODER,
-       FINDING_TEXT, REMARK_TEXT, FAULT_TEXT, TROUBLE_TEXT, ENUMERATE_LOG, KINDS };
+       FINDING_TEXT, REMARK_TEXT, FAULT_TEXT, TROUBLE_TEXT, ENUMERATE_LOG, HOST_WANTED, KINDS };
 
 static struct nzg_answer in_pieces(uint8_t *out) {
     struct nzg_decoder decoder = {0};
@@ -23,15 +23,16 @@ static struct nzg_answer in_pieces(uint8_t *out) {
     return answer;
 }
 
-/* The file, read by a host of a device. */
-static struct nzg_answer by_host(uint8_t *out) {
+/* The file, read by a host of a device, which stalls strings where one may be missing. */
+static struct nzg_answer by_host(uint8_t *out, uint8_t strings) {
     struct nzg_device device = {0};
     struct nzg_host host = {0};
     struct nzg_transaction due;
     struct nzg_packet packet;
     struct nzg_trouble trouble;
     struct nzg_answer answer = nzg_device_open(&device, bytes, length, NZG_FULL);
-    if (answer.status == NZG_DONE) answer = nzg_host_open(&host, 1, 16, 3, NZG_FULL);
+    if (answer.status == NZG_DONE) answer = nzg_host_open_with(&host, 1, 16, 3, NZG_FULL, strings, true);
+    bool stalls = false;
     uint8_t action = answer.status == NZG_DONE ? nzg_host_next(&host, &due) : NZG_NONE;
     for (; action < NZG_ENDED; action = nzg_host_next(&host, &due)) {
         if (action == NZG_RESET) {
@@ -39,9 +40,10 @@ static struct nzg_answer by_host(uint8_t *out) {
             nzg_host_reset_done(&host);
             continue;
         }
+        if (due.stage == NZG_SETUP) stalls = strings == NZG_WANTED && due.setup[1] == 6 && due.setup[3] == 3;
         nzg_device_serve(&device, &due, bytes, 0, true, &packet);
         if (packet.reply == NZG_DATA) nzg_device_acked(&device);
-        nzg_host_take(&host, packet.reply, packet.toggle, packet.data, packet.length);
+        nzg_host_take(&host, stalls && due.stage == NZG_IN ? NZG_STALL : packet.reply, packet.toggle, packet.data, packet.length);
     }
     if (action == NZG_ENDED) answer = nzg_host_outcome(&host, &trouble, out, sizeof text);
     nzg_host_close(&host);
@@ -136,7 +138,8 @@ static struct nzg_answer call(int kind, uint8_t *out) {
     case TEXT: return last_string(out);
     case WITH_STRINGS: return nzg_with_strings(bytes, length, out, sizeof text);
     case DEVICE: return opened_twice();
-    case HOST: return by_host(out);
+    case HOST: return by_host(out, NZG_NEEDED);
+    case HOST_WANTED: return by_host(out, NZG_WANTED);
     case FINDING_TEXT: return finding_text(out);
     case REMARK_TEXT: return remark_text(out);
     case FAULT_TEXT: return nzg_fault_text(bytes, length, out, sizeof text);

@@ -34,7 +34,8 @@ int main(int argc, char **argv) {
     struct nzg_descriptor d = {0};
     while (nzg_next(bytes, (size_t)read, &d)) {
         printf("%zu %u %u %u %u %u %zu %zu %zu ", d.place, d.length, d.role, d.depth, d.owner, d.part, d.set, d.setting, d.endpoint_number);
-        printf("%u %u %u %u %u %u %u", d.interface_, d.alternate, d.class_, d.subclass, d.protocol, d.language, d.index);
+        printf("%u %u %u %u %u %u %u ", d.interface_, d.alternate, d.class_, d.subclass, d.protocol, d.language, d.index);
+        printf("%u %u %u %u", d.attributes, d.packet, d.transactions, d.interval);
         struct nzg_answer all = nzg_fields(bytes, (size_t)read, &d, fields, sizeof fields / sizeof *fields);
         if (all.status != NZG_DONE || !are_same((size_t)read, &d, all.length)) return 8;
         for (struct nzg_field *f = fields; f < fields + all.length; f++)

@@ -85,6 +85,10 @@ static void say_descriptor(const struct nzg_descriptor *it) {
     say_list(" ", it->named[0] ^ it->named[1] ^ it->named[2] ^ it->named[3]);
     say_list(" ", it->endpoint);
     say_list(" ", it->language);
+    say_list(" ", it->attributes);
+    say_list(" ", it->packet);
+    say_list(" ", it->transactions);
+    say_list(" ", it->interval);
 }
 
 static void walk(uint32_t length) {

@@ -1,6 +1,6 @@
 #!/usr/bin/env python3
 """Writes the tables of class names, of types of terminals, of names of bits and of class descriptors, which the
-definitions read, from the files that are read as they are by crates/examples/explaining.py: classes.txt, terminals.txt,
+definitions read, from the files that are read as they are by readings/explaining.py: classes.txt, terminals.txt,
 bits.txt and descriptors.txt of the examples. In each source the part between the lines `made by tables.py` and `end` is
 written anew; all else is left: a new group of bits or rows gets its function and its definition by hand. The gate
 compares what is written (.ci/readings).
@@ -10,7 +10,7 @@ import os
 import re
 
 HERE = os.path.dirname(os.path.abspath(__file__))
-EXPLAIN = os.path.join(HERE, "../examples/data/explain")
+EXPLAIN = os.path.join(HERE, "../test_rows/data/explain")
 # The form and the width of each word for one in descriptors.txt that isn't followed by its width.
 FORMS = {
     "bcd": ("Release", 2),

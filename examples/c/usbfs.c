@@ -1,6 +1,7 @@
 /* usbfs DEVICE [read | test [--disturb] [--junit FILE]]: a device that is plugged into a Linux machine, as 1-1 of /sys/bus/usb/devices.
  *
- * read: a proved host reads its descriptors, and the descriptor file goes to standard output. test: the bench's talk (docs/bench.md), each
+ * read: a proved host reads its descriptors, and the descriptor file goes to standard output. A string that the device refuses or gives
+ * wrongly is told, and empty in the file. test: the bench's talk (docs/bench.md), each
  * answer beside the proved device with these descriptors. What disturbs a device at work is asked with --disturb alone, which detaches
  * the drivers and attaches them again. The status is 1 where something differs, 2 where nothing can be said, 130 after Ctrl-C.
  *
@@ -209,9 +210,20 @@ static void tell_why(const struct plugged *p, const char *step) {
     tell_parts(p);
 }
 
+static const char *const TROUBLES[] = {"", "NoAnswer", "Busy", "Stalled", "TooLong", "Unexpected", "Malformed", "Memory"};
+
+/* What the device did not give of the strings. */
+static void tell_forgiven(const struct plugged *p, struct nzg_host *host) {
+    struct nzg_trouble it;
+    char step[40];
+    for (nzg_size i = 0; nzg_host_forgiven(host, i, &it); i++) {
+        write_step(step, it.step, it.index, it.language);
+        tell(p, "passed over: trouble %u (%s) in %s\n", it.why, TROUBLES[it.why], step);
+    }
+}
+
 /* How a host ended: its file, to be freed, or NULL. */
 static uint8_t *file_of(const struct plugged *p, struct nzg_host *host, size_t *len) {
-    static const char *const words[] = {"", "NoAnswer", "Busy", "Stalled", "TooLong", "Unexpected", "Malformed", "Memory"};
     struct nzg_trouble trouble = {0};
     char step[40];
     uint8_t none, *file = NULL;
@@ -220,7 +232,7 @@ static uint8_t *file_of(const struct plugged *p, struct nzg_host *host, size_t *
     *len = end.length;
     if (end.status == NZG_DONE) return file;
     write_step(step, trouble.step, trouble.index, trouble.language);
-    if (end.status == NZG_TROUBLE) tell(p, "trouble %u (%s) in %s%s", end.number, words[end.number < 8 ? end.number : 0], step, p->error == ETIMEDOUT ? ": no answer within 5 s (9.2.6)" : "");
+    if (end.status == NZG_TROUBLE) tell(p, "trouble %u (%s) in %s%s", end.number, TROUBLES[end.number < 8 ? end.number : 0], step, p->error == ETIMEDOUT ? ": no answer within 5 s (9.2.6)" : "");
     else tell(p, "out of memory");
     tell_parts(p);
     free(file);
@@ -232,7 +244,7 @@ static uint8_t *read_file(struct plugged *p, size_t *len) {
     struct nzg_host host = {0};
     struct nzg_transaction due;
     char step[40] = "its start";
-    bool goes_on = nzg_host_open(&host, AT, NAKS, ATTEMPTS, p->speed).status == NZG_DONE;
+    bool goes_on = nzg_host_open_with(&host, AT, NAKS, ATTEMPTS, p->speed, NZG_WANTED, true).status == NZG_DONE;
     for (uint8_t action; goes_on && (action = nzg_host_next(&host, &due)) != NZG_ENDED;) {
         struct nzg_step it = {0};
         if (action == NZG_RESET) {
@@ -246,6 +258,7 @@ static uint8_t *read_file(struct plugged *p, size_t *len) {
         goes_on = !is_stopped && !is_gone(p) && !p->kept_back && nzg_host_take(&host, back.kind, back.toggle, back.data, back.len);
     }
     if (!goes_on && !is_stopped) tell_why(p, step);
+    if (goes_on) tell_forgiven(p, &host);
     uint8_t *file = goes_on ? file_of(p, &host, len) : NULL;
     nzg_host_close(&host);
     return file;

@@ -16,9 +16,9 @@ class Handle:
         self._handle, self._is_open = c.structs[cls._of](), False
         return self
 
-    def _open(self, *rest) -> None:
+    def _open(self, *rest, by: str = "open") -> None:
         self.close()
-        done(getattr(c.lib, f"nzg_{self._of}_open")(self._handle, *rest))
+        done(getattr(c.lib, f"nzg_{self._of}_{by}")(self._handle, *rest))
         self._is_open = True
 
     def _call(self, name: str, *rest):

@@ -9,8 +9,8 @@ import os
 DECLARATIONS = """
 struct nzg_answer { uint32_t status, number; size_t place, length; };
 struct nzg_outcome { uint64_t transactions; uint8_t attempts, address, selected, step, index; uint16_t language; };
-struct nzg_descriptor { size_t place, languages_place, endpoint_number; uint64_t named[4]; uint16_t language; uint8_t length, type,
-    role, owner, depth, part, index; size_t next, left, strings, main_sets, other_sets, set, associations, settings, setting, endpoints;
+struct nzg_descriptor { size_t place, languages_place, endpoint_number; uint64_t named[4]; uint16_t language, packet; uint8_t length, type,
+    role, owner, depth, part, index, attributes, transactions, interval; size_t next, left, strings, main_sets, other_sets, set, associations, settings, setting, endpoints;
     uint8_t interface_, alternate, class_, subclass, protocol, endpoint, below; bool is_other, has_device, has_languages; };
 struct nzg_field { size_t place; uint64_t value; uint8_t width, name_length, name[62]; };
 struct nzg_found { size_t place, length, next; uint8_t kind; };
@@ -41,7 +41,6 @@ bool nzg_next(const uint8_t *, size_t, struct nzg_descriptor *);
 bool nzg_field(const uint8_t *, size_t, const struct nzg_descriptor *, size_t, struct nzg_field *);
 struct nzg_answer nzg_fields(const uint8_t *, size_t, const struct nzg_descriptor *, struct nzg_field *, size_t);
 bool nzg_field_named(const uint8_t *, size_t, const struct nzg_descriptor *, const uint8_t *, size_t, struct nzg_field *);
-bool nzg_find(const uint8_t *, size_t, size_t, struct nzg_found *);
 struct nzg_answer nzg_judge(const uint8_t *, size_t);
 struct nzg_answer nzg_findings(const uint8_t *, size_t, struct nzg_finding *, size_t);
 struct nzg_answer nzg_remarks(const uint8_t *, size_t, uint8_t, struct nzg_remark *, size_t);
@@ -49,6 +48,8 @@ struct nzg_answer nzg_finding_text(const uint8_t *, size_t, const struct nzg_fin
 struct nzg_answer nzg_remark_text(const uint8_t *, size_t, uint8_t, const struct nzg_remark *, uint8_t *, size_t);
 struct nzg_answer nzg_fault_text(const uint8_t *, size_t, uint8_t *, size_t);
 struct nzg_answer nzg_rule(uint8_t, uint8_t *, size_t);
+bool nzg_find(const uint8_t *, size_t, size_t, struct nzg_found *);
+size_t nzg_find_all(const uint8_t *, size_t, size_t, struct nzg_found *, size_t);
 struct nzg_answer nzg_text(const uint8_t *, size_t, const struct nzg_descriptor *, uint8_t *, size_t);
 struct nzg_answer nzg_with_strings(const uint8_t *, size_t, uint8_t *, size_t);
 uint8_t nzg_packet_parse(const uint8_t *, size_t, struct nzg_packet_fields *);
@@ -77,11 +78,13 @@ struct nzg_answer nzg_write_open(struct nzg_write *, uint8_t, uint8_t, uint16_t,
 struct nzg_answer nzg_write_next(const struct nzg_write *, const uint8_t *, size_t, struct nzg_transaction *);
 struct nzg_answer nzg_write_take(struct nzg_write *, uint8_t, uint8_t, const uint8_t *, size_t);
 struct nzg_answer nzg_host_open(struct nzg_host *, uint8_t, uint16_t, uint8_t, uint8_t);
+struct nzg_answer nzg_host_open_with(struct nzg_host *, uint8_t, uint16_t, uint8_t, uint8_t, uint8_t, bool);
 uint8_t nzg_host_next(struct nzg_host *, struct nzg_transaction *);
 bool nzg_host_reset_done(struct nzg_host *);
 bool nzg_host_take(struct nzg_host *, uint8_t, uint8_t, const uint8_t *, size_t);
 bool nzg_host_step(struct nzg_host *, struct nzg_step *);
 uint8_t nzg_host_attempts(struct nzg_host *);
+bool nzg_host_forgiven(struct nzg_host *, size_t, struct nzg_trouble *);
 struct nzg_answer nzg_host_outcome(struct nzg_host *, struct nzg_trouble *, uint8_t *, size_t);
 void nzg_host_close(struct nzg_host *);
 struct nzg_answer nzg_trouble_text(const struct nzg_trouble *, uint8_t *, size_t);

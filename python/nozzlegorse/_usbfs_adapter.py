@@ -58,9 +58,10 @@ class Adapter:
 
 
 def read_file(adapter: Adapter, is_stopped: Callable[[], bool] = lambda: False) -> bytes:
-    """A proved host enumerates the device: its descriptor file. Why there is none is `Refused`."""
+    """A proved host enumerates the device: its descriptor file. Why there is none is `Refused`. A string that the device refuses, or gives
+    wrongly, is told, and empty in the file."""
     plugged = adapter.plugged
-    with Host(speed=plugged.speed) as host:
+    with Host(speed=plugged.speed, strings="wanted") as host:
         while (due := host.next()) != "ended" and not is_stopped():
             if due == "reset":
                 adapter.packet = 0
@@ -70,6 +71,8 @@ def read_file(adapter: Adapter, is_stopped: Callable[[], bool] = lambda: False) 
             if plugged.is_gone or plugged.kept_back:
                 raise Refused(f"{'unplugged' if plugged.is_gone else os.strerror(plugged.error)} at {step}; {adapter.so_far()}")
             host.take(reply)
+        for it in host.forgiven:
+            plugged.tell(f"passed over: trouble {it.number} ({it.name}) in {it.step}")
         try:
             return host.outcome() or b""
         except Fault as trouble:

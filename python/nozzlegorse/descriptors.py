@@ -172,19 +172,30 @@ class Endpoint(Descriptor):
         return "in" if self.address & 0x80 else "out"
 
     @property
+    def attributes(self) -> int:
+        """bmAttributes."""
+        return self._numbers().attributes
+
+    @property
     def transfer_type(self) -> str:
-        """'control', 'isochronous', 'bulk' or 'interrupt'."""
-        return ("control", "isochronous", "bulk", "interrupt")[self.data[3] & 3]
+        """'control', 'isochronous', 'bulk' or 'interrupt': bits 1 and 0 of bmAttributes."""
+        return ("control", "isochronous", "bulk", "interrupt")[self.attributes & 3]
 
     @property
     def max_packet_size(self) -> int:
         """Bytes in a packet: bits 10 to 0 of wMaxPacketSize."""
-        return int.from_bytes(self.data[4:6], "little") & 0x7FF
+        return self._numbers().packet
+
+    @property
+    def transactions(self) -> int:
+        """In a microframe, by bits 12 and 11 of wMaxPacketSize: 1 to 3, and 0 where those are reserved. They count for isochronous
+        and interrupt endpoints at high speed."""
+        return self._numbers().transactions
 
     @property
     def interval(self) -> int:
         """bInterval."""
-        return self.data[6]
+        return self._numbers().interval
 
     def _words(self):
         return f" {self.address:02x}: {self.transfer_type} {self.direction} {self.number}, {self.max_packet_size} bytes"
@@ -322,13 +333,16 @@ def _walk(data, length, at):
 def find(data: bytes) -> Iterator[Found]:
     """Each whole set and each device descriptor in any bytes, as a firmware image, in their order. What is within a set is listed with
     it alone."""
-    (data, length), at = c.lend(data), c.structs["found"]()
-    return iter(_find(data, length, at))
+    return iter(_find(*c.lend(data)))
 
 
-def _find(data, length, at):
-    while c.lib.nzg_find(data, length, at.next, at):
-        yield Found(at.place, "set" if at.kind == 1 else "device", data[at.place:at.place + at.length])
+def _find(data, length):
+    some, start, count = (c.structs["found"] * 4096)(), 0, 4096
+    while count == len(some):
+        count = c.lib.nzg_find_all(data, length, start, some, len(some))
+        for it in some[:count]:
+            start = it.next
+            yield Found(it.place, "set" if it.kind == 1 else "device", data[it.place:it.place + it.length])
 
 
 def judge(data: bytes) -> str:

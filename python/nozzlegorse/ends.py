@@ -15,6 +15,7 @@ from .faults import STATUSES, Fault, done, step_word, trouble_of
 # The most bytes of an answer or a write, which a device keeps.
 ROOM = 512
 STAGES, KINDS = ("setup", "in", "out"), ("ack", "nak", "stall", "data", "silence")
+_STRINGS = ("needed", "wanted", "skipped")
 
 
 def _word(value: str, known: tuple, name: str) -> int:
@@ -217,13 +218,18 @@ class Write(_Transfer):
 
 
 class Host(Handle):
-    """A host that enumerates one device."""
+    """A host that enumerates one device.
+
+    Each string that descriptors name is 'needed'; or 'wanted', so that it may be missing; or it is 'skipped'. The qualifier and the sets of
+    the other speed are asked for where there may be some, or not. In a file that was read, a language list that is missing is 0x0409
+    alone, and a string that is missing is empty: `forgiven` says which these are.
+    """
 
     _of = "host"
 
-    def __init__(self, address: int = 1, naks: int = 16, attempts: int = 3, speed: str = "full"):
+    def __init__(self, address: int = 1, naks: int = 16, attempts: int = 3, speed: str = "full", strings: str = "needed", other_speed: bool = True):
         self._open(c.number(address, 0, 255, "address"), c.number(naks, 0, 65535, "naks"), c.number(attempts, 0, 255, "attempts"),
-                   c.speed_number(speed))
+                   c.speed_number(speed), _word(strings, _STRINGS, "strings"), bool(other_speed), by="open_with")
 
     def next(self) -> Transaction | str:
         """The transaction that is due, or 'reset' or 'ended'."""
@@ -248,6 +254,14 @@ class Host(Handle):
     def attempts(self) -> int:
         """How often it began."""
         return self._call("attempts")
+
+    @property
+    def forgiven(self) -> list[Fault]:
+        """What is missing of the strings in this attempt, and why, in order: each as the trouble that it was."""
+        troubles, it = [], c.structs["trouble"]()
+        while self._call("forgiven", len(troubles), it):
+            troubles.append(trouble_of(it.why, it))
+        return troubles
 
     def outcome(self) -> bytes | None:
         """The bytes of the file that was read, or None before the end. Trouble is raised as a `Fault`."""

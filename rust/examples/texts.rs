@@ -16,9 +16,14 @@ fn walk(bytes: &[u8]) -> String {
             assert_eq!(it.field(f.name()), it.fields().find(|other| other.name() == f.name()));
             format!(" {}={}+{}:{}", f.name(), f.place(), f.width(), f.value())
         };
+        let endpoint_numbers = it
+            .endpoint()
+            .map_or([0; 4], |e| [e.attributes().into(), e.max_packet_size(), e.transactions().into(), e.interval().into()]);
+        let [attributes, packet, transactions, interval] = endpoint_numbers;
         let fields: String = it.fields().map(field).collect();
         format!("{place} {length} {role} {depth} {owner} {part} {set} {setting} {endpoint} {interface} {alternate} ")
-            + &format!("{class} {subclass} {protocol} {language} {index}{fields}\n")
+            + &format!("{class} {subclass} {protocol} {language} {index} ")
+            + &format!("{attributes} {packet} {transactions} {interval}{fields}\n")
     };
     let found = |it: nozzlegorse::Found| {
         let kind = if it.kind == nozzlegorse::FoundKind::Set { 1 } else { 4 };

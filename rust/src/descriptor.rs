@@ -282,9 +282,13 @@ impl Endpoint<'_> {
     pub fn is_in(&self) -> bool {
         self.address() & 0x80 != 0
     }
+    /// bmAttributes.
+    pub fn attributes(&self) -> u8 {
+        self.at.attributes
+    }
     /// Bits 1 and 0 of bmAttributes.
     pub fn transfer_type(&self) -> TransferType {
-        match self.bytes()[3] & 3 {
+        match self.attributes() & 3 {
             0 => TransferType::Control,
             1 => TransferType::Isochronous,
             2 => TransferType::Bulk,
@@ -293,11 +297,16 @@ impl Endpoint<'_> {
     }
     /// Bytes in a packet: bits 10 to 0 of wMaxPacketSize.
     pub fn max_packet_size(&self) -> u16 {
-        u16::from_le_bytes([self.bytes()[4], self.bytes()[5]]) & 0x7ff
+        self.at.packet
+    }
+    /// Transactions in a microframe, by bits 12 and 11 of wMaxPacketSize: 1 to 3, and 0 where those are reserved. They count for
+    /// isochronous and interrupt endpoints at high speed.
+    pub fn transactions(&self) -> u8 {
+        self.at.transactions
     }
     /// bInterval.
     pub fn interval(&self) -> u8 {
-        self.bytes()[6]
+        self.at.interval
     }
 }
 

@@ -386,11 +386,49 @@ pub enum Action {
     Ended,
 }
 
+/// What becomes of the strings that descriptors name.
+#[derive(Clone, Copy, Debug, PartialEq, Eq, Hash)]
+pub enum NamedStrings {
+    /// Each must be there.
+    Needed,
+    /// One that the device refuses or gives wrongly may be missing.
+    Wanted,
+    /// None is asked for.
+    Skipped,
+}
+
+/// What a host asks a device for beside its device descriptor and its configurations.
+#[derive(Clone, Copy, Debug, PartialEq, Eq, Hash)]
+pub struct Choice {
+    /// The strings.
+    pub strings: NamedStrings,
+    /// Whether the qualifier and the sets of the other speed are asked for, where there may be some.
+    pub other_speed: bool,
+}
+
 impl Host {
-    /// A host that gives this address, takes `naks` NAKs in a row and begins at most so often.
+    /// A host that gives this address, takes `naks` NAKs in a row and begins at most so often. It asks for all that a descriptor file
+    /// has.
     pub fn open(address: u8, naks: u16, attempts: u8, speed: Speed) -> Result<Host, Fault> {
         let mut host = Host(sys::nzg_host::default());
         done(unsafe { sys::nzg_host_open(&mut host.0, address, naks, attempts, speed as u8) })?;
+        Ok(host)
+    }
+    /// One that asks for so much. In a file that was read, a language list that is missing is 0x0409 alone, and a string that is
+    /// missing is empty: [`Host::forgiven`] says which these are.
+    ///
+    /// ```
+    /// use nozzlegorse::{Choice, Host, NamedStrings, Speed};
+    ///
+    /// let choice = Choice { strings: NamedStrings::Wanted, other_speed: false };
+    /// let mut host = Host::open_with(1, 16, 3, Speed::Full, choice)?;
+    /// assert!(host.forgiven().is_empty());
+    /// # Ok::<(), nozzlegorse::Fault>(())
+    /// ```
+    pub fn open_with(address: u8, naks: u16, attempts: u8, speed: Speed, choice: Choice) -> Result<Host, Fault> {
+        let (mut host, Choice { strings, other_speed }) = (Host(sys::nzg_host::default()), choice);
+        let (speed, strings) = (speed as u8, strings as u8);
+        done(unsafe { sys::nzg_host_open_with(&mut host.0, address, naks, attempts, speed, strings, other_speed) })?;
         Ok(host)
     }
     /// What it does next.
@@ -419,6 +457,12 @@ impl Host {
     /// How often it began.
     pub fn attempts(&mut self) -> u8 {
         unsafe { sys::nzg_host_attempts(&mut self.0) }
+    }
+    /// What is missing of the strings in this attempt, and why, in order: each as the trouble that it was.
+    pub fn forgiven(&mut self) -> Vec<Fault> {
+        let mut it = nzg_trouble::default();
+        let mut next = |number| unsafe { sys::nzg_host_forgiven(&mut self.0, number, &mut it) }.then(|| Fault::trouble(&it));
+        (0..).map_while(&mut next).collect()
     }
     /// The bytes of the file that was read, `None` before the end, or the trouble and its step.
     pub fn outcome(&mut self) -> Result<Option<Vec<u8>>, Fault> {

@@ -21,7 +21,7 @@ pub enum Kind {
     Trailing,
     /// Out of memory.
     Memory,
-    /// A number or a letter has no meaning, data and fields don't fit, or nothing is there that is asked for: 1 to 13.
+    /// A number or a letter has no meaning, data and fields don't fit, or nothing is there that is asked for: 1 to 14.
     Argument,
     /// A transfer or an enumeration failed: 1 to 7.
     Trouble,
@@ -134,6 +134,12 @@ impl Fault {
         let inner = if self.kind == Kind::File { meant.number } else { 0 };
         Fault { inner, ..self.saying(words) }
     }
+    /// A trouble with its step.
+    pub(crate) fn trouble(it: &nzg_trouble) -> Fault {
+        let (kind, number, message) = (Kind::Trouble, it.why.into(), String::new());
+        let fault = Fault { kind, number, place: 0, column: 0, step: None, inner: 0, message };
+        fault.at(it.step, it.index, it.language)
+    }
     /// It with the step of an enumeration that failed, where it is such a trouble.
     pub(crate) fn at(self, step: u8, index: u8, language: u16) -> Fault {
         if self.kind != Kind::Trouble {
@@ -157,7 +163,7 @@ impl Fault {
             Kind::Description => &["Finding", "Texts", "Speed", "Memory", "Unwritable"],
             Kind::Argument => &[
                 "address", "attempts", "speed", "fate", "rule", "string", "packet", "reply", "request", "data", "transfer",
-                "fields", "text",
+                "fields", "text", "strings",
             ],
             Kind::Trouble => &["NoAnswer", "Busy", "Stalled", "TooLong", "Unexpected", "Malformed", "Memory"],
             Kind::Unanswered => &["Nothing", "Closed", "Shape", "Room"],

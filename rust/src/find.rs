@@ -26,7 +26,9 @@ pub struct Found<'a> {
 /// What stands in some bytes, in order.
 #[derive(Clone, Debug)]
 pub struct Finds<'a> {
-    at: nzg_found,
+    some: Vec<nzg_found>,
+    used: usize,
+    at: Option<usize>,
     input: &'a [u8],
 }
 
@@ -38,19 +40,35 @@ pub struct Finds<'a> {
 /// assert_eq!((found.len(), found[0].place, found[0].bytes), (1, 1, &image[1..10]));
 /// ```
 pub fn find(bytes: &[u8]) -> Finds<'_> {
-    Finds { at: nzg_found::default(), input: bytes }
+    Finds { some: Vec::new(), used: 0, at: Some(0), input: bytes }
 }
 
 impl<'a> Iterator for Finds<'a> {
     type Item = Found<'a>;
 
     fn next(&mut self) -> Option<Found<'a>> {
-        let at = &mut self.at;
-        unsafe { sys::nzg_find(self.input.as_ptr(), self.input.len(), at.next, at) }.then(|| Found {
-            kind: if at.kind == 1 { FoundKind::Set } else { FoundKind::Device },
-            place: at.place,
-            bytes: &self.input[at.place..at.place + at.length],
+        if self.used == self.some.len() {
+            self.search(self.at?);
+        }
+        let it = self.some.get(self.used)?;
+        self.used += 1;
+        Some(Found {
+            kind: if it.kind == 1 { FoundKind::Set } else { FoundKind::Device },
+            place: it.place,
+            bytes: &self.input[it.place..it.place + it.length],
         })
+    }
+}
+
+impl Finds<'_> {
+    /// Finds the next ones from a place on, and where the search goes on after them, if it does.
+    fn search(&mut self, start: usize) {
+        self.some.resize(4096, nzg_found::default());
+        let room = self.some.len();
+        let count = unsafe { sys::nzg_find_all(self.input.as_ptr(), self.input.len(), start, self.some.as_mut_ptr(), room) };
+        self.some.truncate(count);
+        self.at = if count == room { self.some.last().map(|it| it.next) } else { None };
+        self.used = 0;
     }
 }
 

@@ -13,7 +13,8 @@ pub use descriptor::{
     TransferType,
 };
 pub use ends::{
-    Action, Decoder, Device, Difference, Host, OpenTransfer, Reply, Stage, State, Toggle, Transaction, Transfer, Write,
+    Action, Choice, Decoder, Device, Difference, Host, NamedStrings, OpenTransfer, Reply, Stage, State, Toggle, Transaction,
+    Transfer, Write,
 };
 use fault::done;
 pub use fault::{Fault, Kind, Step};

@@ -23,8 +23,8 @@ structs! {
     nzg_descriptor {
         usize: place languages_place endpoint_number;
         [u64; 4]: named;
-        u16: language;
-        u8: length r#type role owner depth part index;
+        u16: language packet;
+        u8: length r#type role owner depth part index attributes transactions interval;
         usize: next left strings main_sets other_sets set associations settings setting endpoints;
         u8: interface_ alternate class_ subclass protocol endpoint below;
         bool: is_other has_device has_languages;
@@ -69,7 +69,7 @@ extern "C" {
         bytes: *const u8, len: usize, descriptor: *const nzg_descriptor, name: *const u8, name_len: usize,
         field: *mut nzg_field,
     ) -> bool;
-    pub fn nzg_find(bytes: *const u8, len: usize, start: usize, found: *mut nzg_found) -> bool;
+    pub fn nzg_find_all(bytes: *const u8, len: usize, start: usize, found: *mut nzg_found, room: usize) -> usize;
     pub fn nzg_judge(bytes: *const u8, len: usize) -> nzg_answer;
     pub fn nzg_findings(bytes: *const u8, len: usize, found: *mut nzg_finding, room: usize) -> nzg_answer;
     pub fn nzg_remarks(bytes: *const u8, len: usize, speed: u8, remarks: *mut nzg_remark, room: usize) -> nzg_answer;
@@ -119,11 +119,15 @@ extern "C" {
     ) -> nzg_answer;
     pub fn nzg_write_take(write: *mut nzg_write, reply: u8, toggle: u8, data: *const u8, len: usize) -> nzg_answer;
     pub fn nzg_host_open(host: *mut nzg_host, address: u8, naks: u16, attempts: u8, speed: u8) -> nzg_answer;
+    pub fn nzg_host_open_with(
+        host: *mut nzg_host, address: u8, naks: u16, attempts: u8, speed: u8, strings: u8, other_speed: bool,
+    ) -> nzg_answer;
     pub fn nzg_host_next(host: *mut nzg_host, transaction: *mut nzg_transaction) -> u8;
     pub fn nzg_host_reset_done(host: *mut nzg_host) -> bool;
     pub fn nzg_host_take(host: *mut nzg_host, reply: u8, toggle: u8, data: *const u8, len: usize) -> bool;
     pub fn nzg_host_step(host: *mut nzg_host, step: *mut nzg_step) -> bool;
     pub fn nzg_host_attempts(host: *mut nzg_host) -> u8;
+    pub fn nzg_host_forgiven(host: *mut nzg_host, number: usize, trouble: *mut nzg_trouble) -> bool;
     pub fn nzg_host_outcome(host: *mut nzg_host, trouble: *mut nzg_trouble, file: *mut u8, room: usize) -> nzg_answer;
     pub fn nzg_host_close(host: *mut nzg_host);
     pub fn nzg_trouble_text(trouble: *const nzg_trouble, text: *mut u8, room: usize) -> nzg_answer;

@@ -28,7 +28,7 @@ def calls():
     """The calls that the page makes, each of which the header has to declare."""
     sources = "".join(text_of(it) for it in glob.glob(f"{FOLDER}/*.js"))
     known = declared.calls(declared.text_of_header())
-    named = set(re.findall(r"\bcalls\.(nzg_\w+)", sources))
+    named = set(re.findall(r"\bnzg_\w+", sources))
     if lacking := sorted(named - set(known)):
         fail(f"page: the header has no {' '.join(lacking)}")
     return [it for it in known if it in named]

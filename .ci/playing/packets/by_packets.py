@@ -6,11 +6,11 @@ takes of damaged packets or sends. The bench must pass the first and find each o
 import os
 import sys
 
-sys.path[:0] = [os.path.join(os.path.dirname(os.path.abspath(__file__)), it) for it in ("../../../crates/examples", "../..")]
-import packets as second  # noqa: E402
+sys.path[:0] = [os.path.join(os.path.dirname(os.path.abspath(__file__)), it) for it in ("../../..", "../..")]
 from nozzlegorse import bench  # noqa: E402
 from nozzlegorse.ends import Transaction  # noqa: E402
 from playing.small_device import SmallDevice  # noqa: E402
+from readings import packets as second  # noqa: E402
 
 FILE = os.path.join(os.path.dirname(os.path.abspath(__file__)), "../../../testdata/files/qemu-usb-mouse.file")
 # How many damages each takes, and with what it is found.

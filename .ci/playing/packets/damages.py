@@ -1,4 +1,4 @@
-"""Compares the calls on packets of the bus with the second reading of chapter 8, crates/examples/packets.py: all changes of up to
+"""Compares the calls on packets of the bus with the second reading of chapter 8, readings/packets.py: all changes of up to
 three bits in a data packet of eight bytes and its PID and CRC, of up to two in tokens, SOF and SPLIT, of up to four in an empty data
 packet, and each first byte; anything else; packets that are written, also of fields that don't fit; and both CRCs.
 
@@ -11,9 +11,9 @@ import os
 import random
 import sys
 
-sys.path.insert(0, os.path.join(os.path.dirname(os.path.abspath(__file__)), "../../../crates/examples"))
-import packets as second  # noqa: E402
+sys.path.insert(0, os.path.join(os.path.dirname(os.path.abspath(__file__)), "../../.."))
 from nozzlegorse import _library as c, packets  # noqa: E402
+from readings import packets as second  # noqa: E402
 
 DAMAGES = (None, "Empty", "Pid", "Reserved", "Length", "Crc5", "Crc16")
 TOKENS = ("Out", "In", "Setup", "Ping")

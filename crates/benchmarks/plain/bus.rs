@@ -12,7 +12,7 @@ pub struct Run {
 
 pub fn enumerate(description: &Description, limits: Limits, speed: Speed) -> Run {
     let mut device = Device::new(description);
-    let mut host = Host::new(limits, speed);
+    let mut host = Host::new(limits, speed, false);
     let mut transactions = 0;
     loop {
         match host.next() {

@@ -216,9 +216,20 @@ enum Due {
     Nothing,
 }
 
+/// A string that was passed over: the language list has index 0.
+#[derive(Clone, Copy, Debug, PartialEq, Eq)]
+pub struct Missing {
+    pub language: u16,
+    pub index: u8,
+    pub why: Why,
+}
+
 pub struct Host {
     limits: Limits,
     speed: Speed,
+    /// Whether a string may be missing, and those that are.
+    may_lack: bool,
+    forgiven: Vec<Missing>,
     attempts: u8,
     due: Due,
     outcome: Option<Result<(), Why>>,
@@ -244,10 +255,12 @@ fn telling(request: u8, value: u8) -> Setup {
 }
 
 impl Host {
-    pub fn new(limits: Limits, speed: Speed) -> Host {
+    pub fn new(limits: Limits, speed: Speed, may_lack: bool) -> Host {
         Host {
             limits,
             speed,
+            may_lack,
+            forgiven: Vec::new(),
             attempts: 0,
             due: Due::Reset,
             outcome: None,
@@ -261,6 +274,15 @@ impl Host {
             count: 0,
             decoder: Decoder::new(),
         }
+    }
+
+    /// The strings that are missing so far.
+    pub fn forgiven(&self) -> &[Missing] {
+        &self.forgiven
+    }
+
+    pub fn is_at_string(&self) -> bool {
+        self.step == Step::Text
     }
 
     #[inline(always)]
@@ -277,6 +299,7 @@ impl Host {
             self.attempts += 1;
             (self.due, self.outcome, self.file) = (Due::Transfer, None, None);
             self.strings = Strings { languages: Vec::new(), texts: Vec::new() };
+            self.forgiven.clear();
             self.begin(Step::First);
         }
     }
@@ -314,7 +337,28 @@ impl Host {
             Some(Why::Stalled) if self.step == Step::Qualifier => Ok(self.after_speeds()),
             Some(why) => Err(why),
         };
+        let next = match next {
+            Err(why @ (Why::Stalled | Why::Malformed)) if self.may_lack => self.forgive(why),
+            next => next,
+        };
         self.go_on(next);
+    }
+
+    /// Goes on with a stand-in for a string, if one was asked for.
+    fn forgive(&mut self, why: Why) -> Result<Option<Step>, Why> {
+        let Setup { value, index: language, .. } = self.request();
+        match self.step {
+            Step::Languages => self.take_languages(vec![0x0409]),
+            Step::Text => self.strings.texts.push(Vec::new()),
+            _ => return Err(why),
+        }
+        self.forgiven.push(Missing { language, index: value as u8, why });
+        Ok(self.after_text())
+    }
+
+    fn take_languages(&mut self, languages: Vec<u16>) {
+        self.strings.texts = Vec::with_capacity(languages.len() * self.named.len());
+        self.strings.languages = languages;
     }
 
     #[inline(always)]
@@ -452,8 +496,7 @@ impl Host {
             },
             Step::Languages => match read_units(bytes) {
                 Some(languages) if !languages.is_empty() => {
-                    self.strings.texts = Vec::with_capacity(languages.len() * self.named.len());
-                    self.strings.languages = languages;
+                    self.take_languages(languages);
                     self.after_text()
                 }
                 _ => None,

@@ -90,6 +90,7 @@ pub fn run(name: &str, input: &[u8], copies: u32, rounds: u32) -> Result<usize> 
         "enumeration-header" => again(rounds, || host_once(input, 1)),
         "enumeration-setup" => again(rounds, || host_once(input, 2)),
         "enumeration-packets" => again(rounds, || host_once(input, 3)),
+        "enumeration-strings" => again(rounds, || host_once(input, 4)),
         "enumeration-naks" => host_naks(input, rounds),
         "setup" => transfer_again(input, 0, false, rounds),
         "one-packet" => transfer_again(input, 1, false, rounds),
@@ -313,10 +314,23 @@ fn packets(host: &mut Host, bytes: &[u8], transact: fn(&mut Host, Answer) -> u64
     }
 }
 
-/// A host to which the status stage is due that ends the read of the set's header.
-fn host_at_header(set: &[u8]) -> Host {
+/// Reads the rest of the set and the language list, and stalls each string.
+fn stall_strings(host: &mut Host, set: &[u8]) {
+    for bytes in [set, &[4, 3, 9, 4]] {
+        lead(host, Answer::Ack);
+        packets(host, bytes, lead);
+        lead(host, Answer::Ack);
+    }
+    while host.is_at_string() {
+        black_box(lead(host, Answer::Ack) ^ transact_host(host, Answer::Stall));
+    }
+    black_box(host.forgiven());
+}
+
+/// A host to which the status stage is due that ends the read of the set's header, and for which strings may be missing or not.
+fn host_at_header(set: &[u8], may_lack: bool) -> Host {
     let limits = Limits { address: 1, naks: u16::MAX, attempts: 1 };
-    let mut host = Host::new(limits, Speed::Full);
+    let mut host = Host::new(limits, Speed::Full, may_lack);
     host.reset_done();
     for bytes in [&DEVICE[..8], &[], &DEVICE, &set[..9]] {
         lead(&mut host, Answer::Ack);
@@ -332,22 +346,24 @@ fn host_at_header(set: &[u8]) -> Host {
     host
 }
 
-/// Counts the status stage of a header, the SETUP of the set, or its packets.
+/// Counts the status stage of a header, the SETUP of the set, its packets, or the STALL of each string that it names.
 fn host_once(set: &[u8], counted: u8) -> usize {
-    let mut host = host_at_header(set);
+    let mut host = host_at_header(set, counted == 4);
     let by = |number| if counted == number { transact_host } else { lead };
     black_box(by(1)(&mut host, Answer::Ack));
-    if counted > 1 {
+    if counted == 4 {
+        stall_strings(&mut host, set);
+    } else if counted > 1 {
         black_box(by(2)(&mut host, Answer::Ack));
     }
-    if counted > 2 {
+    if counted == 3 {
         packets(&mut host, set, transact_host);
     }
     usize::from(matches!(host.next(), Action::Send(_))) * set.len()
 }
 
 fn host_naks(set: &[u8], rounds: u32) -> Result<usize> {
-    let mut host = host_at_header(set);
+    let mut host = host_at_header(set, false);
     lead(&mut host, Answer::Ack);
     lead(&mut host, Answer::Ack);
     again(rounds, || {

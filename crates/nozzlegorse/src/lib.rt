@@ -71,7 +71,7 @@ pub mod host {
 pub mod bus {
     pub use usb_bus::{
         Asked, Conversation, Fate, Observer, Run, Talk, converse, converse_asked, enumerate,
-        enumerate_encoded, step, step_seen,
+        enumerate_encoded, enumerate_with, step, step_seen,
     };
     pub use usb_fields::{
         Answer, Class, Recipient, Setup, Stage, Toggle, Transaction, feature, request, request_type,

@@ -9,7 +9,9 @@ use Rattle.usb_fields.specs.Setup.{setup_bytes}
 use Rattle.usb_set.specs.declared.tree.Configuration.{Configuration}
 use Rattle.usb_file_data.specs.declared.file.DescriptorFile.{DescriptorFile}
 use Rattle.usb_file_data.specs.File.{file_bytes}
-use Rattle.usb_host.specs.Terms.{all_of}
+use Rattle.usb_host.specs.Terms.{all_of, everything}
+use Rattle.usb_host.specs.declared.step.Trouble.{Trouble}
+use Rattle.usb_bus.specs.Asked.{asked_of}
 use Rattle.usb_host.specs.declared.transfer.TransferStage.{TransferStage}
 use Rattle.usb_host.specs.declared.transfer.TransferStage.TheVariants.{Setup, DataIn, DataOut, StatusOut, StatusIn, Completed, Failed}
 use Rattle.usb_host.specs.declared.reply.Reply.{Reply}
@@ -52,7 +54,7 @@ use Rattle.usb_bus.proofs.RunLemmas.{Matches, after, is_due, runs_match}
 use Rattle.usb_bus.proofs.SeriesLemmas.{series_stands}
 use Rattle.usb_bus.proofs.ServeLemmas.{serves_script}
 use Rattle.usb_bus.proofs.TableLemmas.{table_kept}
-use Rattle.usb_bus.proofs.WalkLemmas.{walks_script}
+use Rattle.usb_bus.proofs.AskedWalks.{walks_asked}
 
 -- ---- what a place asks for
 
@@ -86,7 +88,7 @@ tails x y xs ys e = cc
 module _ (set_of : List ℕ → Option Configuration) (speed : Speed) (address : ℕ) where
   -- what is refused at a place of the script is open to no owner
   refused_closed : (end place : Place) (xs : List Exchange) (came todo : List Reply) (r : Reply) (other size : ℕ) (q : SetupPacket) →
-      WalksScript set_of speed address end place xs → AreClosed xs → came ++ (r ∷ todo) ≡ replies_in xs →
+      WalksScript set_of (all_of speed) address end place xs → AreClosed xs → came ++ (r ∷ todo) ≡ replies_in xs →
       asks address (reached set_of (all_of speed) place came) ≡ Begin other size q → r ≡ replied.Refused → is_open q ≡ false
   refused_closed end place [] [] todo r other size q walks closed e begins refused = absurd (cc)
   refused_closed end place [] (y ∷ came) todo r other size q walks closed e begins refused = absurd (cc)
@@ -159,16 +161,19 @@ asks_no_either g s address (Stopped trouble) other size q e = absurd (cc)
 
 -- ---- in an enumeration of a device with accepted descriptors
 
-module _ (set_of : List ℕ → Option Configuration) (exact : ReadsSets set_of) (limits : LimitView) (speed : Speed) (stays : StaysImage set_of limits speed) (f : DescriptorFile)
+module _ (set_of : List ℕ → Option Configuration) (exact : ReadsSets set_of) (limits : LimitView) (speed : Speed) (stays : StaysImage set_of limits (all_of speed)) (f : DescriptorFile)
     (accepted : Accepted f speed) (fits : AreBytes (file_bytes f)) (range : IsInRange limits.address limits.attempts) where
   abbrev plan : List Reply → Plan
-  plan replies = plan_of set_of limits speed replies
+  plan replies = plan_of set_of limits (all_of speed) replies
 
   abbrev size : ℕ
   size = f.device.packet
 
+  abbrev g : DescriptorFile
+  g = asked_of everything f
+
   abbrev xs : List Exchange
-  xs = script limits.address size speed f
+  xs = script limits.address size (all_of speed) g
 
   abbrev last : State
   last = configured_state limits.address f
@@ -176,13 +181,13 @@ module _ (set_of : List ℕ → Option Configuration) (exact : ReadsSets set_of)
   abbrev under : List Fate → Attempt
   under used = attempt_under plan limits.naks limits.attempts no_data (answer f) size used
 
-  walks : WalksScript set_of speed limits.address (Reported f) First xs
-  walks = walks_script set_of speed limits.address f (described set_of speed f exact accepted fits)
+  walks : WalksScript set_of (all_of speed) limits.address (Reported g) First xs
+  walks = walks_asked set_of (all_of speed) limits.address f (described set_of speed f exact accepted fits)
 
   followed : Follows plan limits.naks no_data (answer f) size false (replies_in xs) last new_device.state [] (replies_in xs)
   followed =
-      follows set_of speed limits (answer f) (table_kept f) size (Reported f) refl (replies_in xs) last xs new_device.state First [] refl refl walks
-      (serves_script set_of speed limits.address f (described set_of speed f exact accepted fits) range.address_from (let small = range.address_to in omega arith))
+      follows set_of (all_of speed) limits (answer f) (table_kept f) size g (replies_in xs) last xs new_device.state First [] refl refl walks
+      (serves_script set_of (all_of speed) limits.address f (described set_of speed f exact accepted fits) range.address_from (let small = range.address_to in omega arith))
 
   abbrev IsSound : List Fate → Attempt → Type 0
   IsSound used x = Sound plan limits.naks no_data (answer f) size false (replies_in xs) last (losses used) (busies used) (acks_lost used) x.replies x.phase x.device
@@ -217,8 +222,8 @@ module _ (set_of : List ℕ → Option Configuration) (exact : ReadsSets set_of)
         (ap (λ q. is_either f d.state q) t.in_one.stand.request ∙ either) in
         let refused = refuses_by_table (answer f) size t.s t.q t.packet limits.naks l b a h.transfer token has h.transfer.stage d.stage h.transfer.awaited h.got h.transfer.kept h.transfer.strikes d.state
         is inside (left_of (is_refusing d.stage) (is_open h.transfer.request) refuses) t.in_one.stand.stages in
-        let closed = refused_closed set_of speed limits.address (Reported f) First xs replies t.todo t.r t.s.address t.packet t.q walks
-        (script_closed limits.address size speed f) t.front t.planned.begins (sym t.planned.reply ∙ refused) in
+        let closed = refused_closed set_of speed limits.address (Reported g) First xs replies t.todo t.r t.s.address t.packet t.q walks
+        (script_closed limits.address size (all_of speed) g) t.front t.planned.begins (sym t.planned.reply ∙ refused) in
         let open_ = right_of (is_refusing d.stage) (is_open h.transfer.request) refuses in
         absurd (let never = sym open_ ∙ ap is_open t.in_one.stand.request ∙ closed in cc)
 
@@ -253,7 +258,7 @@ module _ (set_of : List ℕ → Option Configuration) (exact : ReadsSets set_of)
   -- by the phase of the attempt and that of the host
   same_image : (used : List Fate) (replies : List Reply) (phase : Phase) (d : DeviceView) (place : Place) (t : TransferView) (k : Kept) (sent : Sent) (open_transfer : OpenTransfer) (came has : Answer) →
       Sound plan limits.naks no_data (answer f) size false (replies_in xs) last (losses used) (busies used) (acks_lost used) replies phase d →
-      IsImage set_of limits speed replies phase (Reading place t k) → due t ≡ Some sent →
+      IsImage set_of limits (all_of speed) replies phase (Reading place t k) → due t ≡ Some sent →
       IsAllowed (is_free f d t.request) t.request size open_transfer sent.token came has → came ≡ has
   same_image used replies (Running h) d place t k sent open_transfer came has sounds image is allowed =
       let there : h.transfer ≡ t = image.3.is_transfer in
@@ -263,12 +268,12 @@ module _ (set_of : List ℕ → Option Configuration) (exact : ReadsSets set_of)
   same_image used replies Succeeded d place t k sent open_transfer came has sounds image is allowed = absurd (image)
   same_image used replies (Broken why) d place t k sent open_transfer came has sounds image is allowed = absurd (image)
 
-  same_phase : (used : List Fate) (resets : ℕ) (phase : HostPhase) (d : DeviceView) (series : Series) (t : TransferView) (sent : Sent) (open_transfer : OpenTransfer) (came has : Answer) →
-      IsSound used series.attempt → Matches set_of limits speed resets phase d series → transfer_in phase ≡ Some t → wanted phase ≡ WantsSent sent →
+  same_phase : (used : List Fate) (resets : ℕ) (phase : HostPhase) (d : DeviceView) (forgiven : List Trouble) (series : Series) (t : TransferView) (sent : Sent) (open_transfer : OpenTransfer) (came has : Answer) →
+      IsSound used series.attempt → Matches set_of limits (all_of speed) resets phase d forgiven series → transfer_in phase ≡ Some t → wanted phase ≡ WantsSent sent →
       IsAllowed (is_free f d t.request) t.request size open_transfer sent.token came has → came ≡ has
-  same_phase used resets ResetDue d series t sent open_transfer came has sounds matches in_work is allowed = absurd (cc)
-  same_phase used resets (Ended place) d series t sent open_transfer came has sounds matches in_work is allowed = absurd (cc)
-  same_phase used resets (Reading place u k) d series t sent open_transfer came has sounds (few, attempts, image, device_is) in_work is allowed =
+  same_phase used resets ResetDue d forgiven series t sent open_transfer came has sounds matches in_work is allowed = absurd (cc)
+  same_phase used resets (Ended place) d forgiven series t sent open_transfer came has sounds matches in_work is allowed = absurd (cc)
+  same_phase used resets (Reading place u k) d forgiven series t sent open_transfer came has sounds (few, attempts, image, device_is, passed) in_work is allowed =
       let same : t ≡ u = cc in
       let x = series.attempt in
       same_image used x.replies x.phase x.device place u k sent open_transfer came has sounds image (is_due (due u) sent is)
@@ -280,9 +285,9 @@ module _ (set_of : List ℕ → Option Configuration) (exact : ReadsSets set_of)
       (t : TransferView) → transfer_in x.host.phase ≡ Some t → (sent : Sent) → wanted x.host.phase ≡ WantsSent sent → (open_transfer : OpenTransfer) (came has : Answer) →
       IsAllowed (is_free f x.device t.request) t.request size open_transfer sent.token came has → came ≡ has
   same_run fates earlier n x runs t in_work sent is open_transfer came has allowed =
-      elim (runs_match set_of limits speed stays f (answer f) range.attempts_from fates earlier n x runs) [
+      elim (runs_match set_of limits (all_of speed) stays f (answer f) range.attempts_from fates earlier n x runs) [
         | inl (wanting, heard) ↦ absurd (let ended = ap transfer_in wanting.1 in cc)
         | inr m ↦
             let (used, sounds) = sound_after (fates_used fates n) in
-            same_phase used x.host.resets x.host.phase x.device (after set_of limits speed stays f (answer f) fates n) t sent open_transfer came has sounds m.matches in_work is allowed
+            same_phase used x.host.resets x.host.phase x.device x.host.forgiven (after set_of limits (all_of speed) stays f (answer f) fates n) t sent open_transfer came has sounds m.matches in_work is allowed
       ]

@@ -3,7 +3,7 @@ use Rattle.std.proofs.Common.{◌≡◌, ℕ, suc, ◌==◌, ◌&&◌, not, Bool
 use Rattle.std.specs.Prelude.{nat_le}
 use Rattle.usb_fields.specs.Bytes.{AreBytes}
 use Rattle.usb_fields.specs.declared.setup.Setup.{Setup as SetupPacket}
-use Rattle.usb_fields.specs.declared.packet.Speed.{Speed}
+use Rattle.usb_host.specs.declared.choice.Terms.{Terms}
 use Rattle.usb_set.specs.declared.tree.SetKind.{SetKind}
 use Rattle.usb_set.specs.declared.tree.SetKind.TheVariants as kinds
 use Rattle.usb_set.specs.declared.tree.Configuration.{Configuration}
@@ -73,9 +73,9 @@ module _ (address packet : ℕ) where
   second_closed true f = other_closed f.other (named_script address packet f) (named_closed f)
   second_closed false f = named_closed f
 
-  pub script_closed : (speed : Speed) (f : DescriptorFile) → AreClosed (script address packet speed f)
-  script_closed speed f =
-      ((λ e. absurd (cc)), ((λ e. absurd (cc)), ((λ e. absurd (cc)), sets_closed kinds.Configuration 0 f.sets (second_script address packet (may_have_second speed f.device) f) (second_closed (may_have_second speed f.device) f))))
+  pub script_closed : (terms : Terms) (f : DescriptorFile) → AreClosed (script address packet terms f)
+  script_closed terms f =
+      ((λ e. absurd (cc)), ((λ e. absurd (cc)), ((λ e. absurd (cc)), sets_closed kinds.Configuration 0 f.sets _ (second_closed (terms.choice.other_speed && may_have_second terms.speed f.device) f))))
 
 -- ---- a responder's answers
 

@@ -37,11 +37,12 @@ use Rattle.usb_bus.specs.Run.{fate_at}
 use Rattle.usb_bus.specs.Bus.{is_data, acknowledged, carried}
 use Rattle.usb_host.specs.Cost.{most, BringsBytes}
 use Rattle.usb_host.specs.Gathered.{Came, no_bytes, came_in}
-use Rattle.usb_host.specs.Laws.{Asks, HostsEnd}
-use Rattle.usb_host.specs.Steps.{HostView, new_host, terms_of}
+use Rattle.usb_host.specs.declared.choice.Choice.{Choice}
+use Rattle.usb_host.specs.Laws.{Asks, ChosenHostsEnd}
+use Rattle.usb_host.specs.Steps.{HostView, chosen_host, terms_of}
 use Rattle.usb_host.proofs.ReadLemmas.{byte_at}
 use Rattle.usb_bus.specs.Beside.{HasBytes, IsBeside, IsOfBytes}
-use Rattle.usb_bus.specs.Enumerate.{Pair, new_pair, RunsAt}
+use Rattle.usb_bus.specs.Enumerate.{Pair, chosen_pair, RunsAt}
 use Rattle.usb_fields.proofs.ByteParts.{bytes_front}
 use Rattle.usb_file_data.proofs.Lists.{bytes_before, bytes_behind}
 
@@ -450,16 +451,16 @@ module _ (f : DescriptorFile) (bytes : AreBytes (file_bytes f)) (table : State �
   unfolding first_alternates
   new_fits = record { state = (lit< tt, zeros_fit 256); stage = tt }
 
-  run_asks : (limits : LimitView) (speed : Speed) (given : List Fate) (earlier : List Pair) (k : ℕ) (last : Pair) →
-      RunsAt table n given (new_pair limits speed) earlier k last →
-      (hosts : List HostView) × (came : Came) × Asks (new_host limits speed) hosts k came last.host × DeviceFits last.device
-  run_asks limits speed given [] k last (e, none) =
+  run_asks : (limits : LimitView) (speed : Speed) (choice : Choice) (given : List Fate) (earlier : List Pair) (k : ℕ) (last : Pair) →
+      RunsAt table n given (chosen_pair limits speed choice) earlier k last →
+      (hosts : List HostView) × (came : Came) × Asks (chosen_host limits speed choice) hosts k came last.host × DeviceFits last.device
+  run_asks limits speed choice given [] k last (e, none) =
       ([], no_bytes, (ap (λ y. y.host) e, none, refl), subst (λ y. DeviceFits y.device) (sym e) new_fits)
-  run_asks limits speed given (x ∷ earlier) k last (inl (r, more)) =
-      let (hosts, came, asks, fits) = run_asks limits speed given earlier k x more in
+  run_asks limits speed choice given (x ∷ earlier) k last (inl (r, more)) =
+      let (hosts, came, asks, fits) = run_asks limits speed choice given earlier k x more in
       (x.host ∷ hosts, no_bytes, inl (r.due, r.host, refl, (came, asks)), subst (λ d. DeviceFits d) (sym r.device) new_fits)
-  run_asks limits speed given (x ∷ earlier) k last (inr (m, count, t, more)) =
-      let (hosts, came, asks, fits) = run_asks limits speed given earlier m x more in
+  run_asks limits speed choice given (x ∷ earlier) k last (inr (m, count, t, more)) =
+      let (hosts, came, asks, fits) = run_asks limits speed choice given earlier m x more in
       let fate = fate_at given m in
       let reply = (carried table n x.device t.sent fate).reply in
       let carry = carries x.device t.sent fate fits in (
@@ -470,9 +471,9 @@ module _ (f : DescriptorFile) (bytes : AreBytes (file_bytes f)) (table : State �
       )
 
   -- a run has no more transactions and no more attempts than a host asks for
-  pub run_ends_soon : HostsEnd → (limits : LimitView) (speed : Speed) (given : List Fate) (earlier : List Pair) (k : ℕ) (last : Pair) → 0 < limits.attempts →
-      RunsAt table n given (new_pair limits speed) earlier k last → (last.host.resets ≤ limits.attempts) × (k ≤ most limits)
-  run_ends_soon ends limits speed given earlier k last some runs =
-      let (hosts, came, asks, fits) = run_asks limits speed given earlier k last runs in
-      let end = ends limits speed hosts k came last.host some asks in
+  pub run_ends_soon : ChosenHostsEnd → (limits : LimitView) (speed : Speed) (choice : Choice) (given : List Fate) (earlier : List Pair) (k : ℕ) (last : Pair) → 0 < limits.attempts →
+      RunsAt table n given (chosen_pair limits speed choice) earlier k last → (last.host.resets ≤ limits.attempts) × (k ≤ most limits)
+  run_ends_soon ends limits speed choice given earlier k last some runs =
+      let (hosts, came, asks, fits) = run_asks limits speed choice given earlier k last runs in
+      let end = ends limits speed choice hosts k came last.host some asks in
       (end.1, end.0)

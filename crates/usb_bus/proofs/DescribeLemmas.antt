@@ -35,7 +35,7 @@ value_fits [] fits = omega arith
 value_fits (c ∷ cs) fits =
     (let small = byte_at (whole_set c) 5 (bytes_before (whole_set c) (sets_bytes cs) fits) in let same = value_is c in omega arith)
 
-texts_read : (ts : List (List ℕ)) → list_any is_long_string ts ≡ false → TextsAreRead ts
+pub texts_read : (ts : List (List ℕ)) → list_any is_long_string ts ≡ false → TextsAreRead ts
 texts_read [] short = tt
 texts_read (t ∷ ts) short = (
   units_read t (few t ts short),

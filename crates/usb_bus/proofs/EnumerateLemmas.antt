@@ -1,5 +1,5 @@
 -- The loop of an enumeration, and its end.
-use Rattle.std.proofs.Common.{◌≡◌, ℕ, suc, ◌+◌, ◌*◌, ◌/◌, ◌<◌, ◌≤◌, true, List, ◌∷◌, Some, Result, Ok, Err, inl, inr, ap, sym, ◌∙◌, arith, subst}
+use Rattle.std.proofs.Common.{◌≡◌, ℕ, suc, ◌+◌, ◌*◌, ◌/◌, ◌<◌, ◌≤◌, true, List, [], ◌∷◌, Some, Result, Ok, Err, inl, inr, ap, sym, ◌∙◌, arith, subst}
 use Rattle.std.specs.Prelude.{IfOk, IfErr}
 use Rattle.std.proofs.lemmas.Nat.{mul-le, le-div, div_below}
 use Rattle.std.proofs.Math.Nat.{div-mul-le_self}
@@ -60,24 +60,25 @@ most_few limits few small =
     omega arith
 
 -- what an outcome says
-abbrev pub Says : DescriptorFile → LimitView → List Fate → ℕ → State → Result DescriptorFile Trouble → Type 0
-Says f limits used attempts s o = IfOk o (HasReadAll f limits.address s) × IfErr o (λ trouble. HasCause limits used attempts trouble.why)
+abbrev pub Says : DescriptorFile → LimitView → List Fate → ℕ → State → List Trouble → Result DescriptorFile Trouble → Type 0
+Says f limits used attempts s forgiven o =
+    IfOk o (HasReadAll f limits.address s) × IfErr o (λ trouble. HasCause limits used attempts trouble.why) × IfOk o (λ g. forgiven ≡ [])
 
-says_at : (f : DescriptorFile) (limits : LimitView) (used : List Fate) (attempts : ℕ) (s : State) (place : Place) (o : Result DescriptorFile Trouble) →
-    PlaceEndsWell f limits used attempts s place → outcome_at place ≡ Some o → Says f limits used attempts s o
-says_at f limits used attempts s (Reported g) (Ok h) good e = (let same : g ≡ h = cc in ((sym same ∙ good.0, good.1), tt))
-says_at f limits used attempts s (Reported g) (Err trouble) good e = absurd (cc)
-says_at f limits used attempts s (Stopped trouble) (Ok h) good e = absurd (cc)
-says_at f limits used attempts s (Stopped trouble) (Err other) good e =
-    (let same : trouble ≡ other = cc in (tt, subst (λ t. HasCause limits used attempts t.why) same good))
-says_at f limits used attempts s place o good e = absurd (good)
+says_at : (f : DescriptorFile) (limits : LimitView) (used : List Fate) (attempts : ℕ) (s : State) (forgiven : List Trouble) (place : Place) (o : Result DescriptorFile Trouble) →
+    PlaceEndsWell f limits used attempts s forgiven place → outcome_at place ≡ Some o → Says f limits used attempts s forgiven o
+says_at f limits used attempts s forgiven (Reported g) (Ok h) good e = (let same : g ≡ h = cc in ((sym same ∙ good.0.0, good.0.1), tt, good.1))
+says_at f limits used attempts s forgiven (Reported g) (Err trouble) good e = absurd (cc)
+says_at f limits used attempts s forgiven (Stopped trouble) (Ok h) good e = absurd (cc)
+says_at f limits used attempts s forgiven (Stopped trouble) (Err other) good e =
+    (let same : trouble ≡ other = cc in (tt, subst (λ t. HasCause limits used attempts t.why) same good, tt))
+says_at f limits used attempts s forgiven place o good e = absurd (good)
 
 -- where a run has an outcome
-pub says : (f : DescriptorFile) (limits : LimitView) (used : List Fate) (attempts : ℕ) (s : State) (phase : HostPhase) (o : Result DescriptorFile Trouble) →
-    GoesWell f limits used attempts s phase → outcome_of phase ≡ Some o → Says f limits used attempts s o
-says f limits used attempts s ResetDue o good e = absurd (cc)
-says f limits used attempts s (Reading place t k) o good e = absurd (cc)
-says f limits used attempts s (Ended place) o good e = says_at f limits used attempts s place o good e
+pub says : (f : DescriptorFile) (limits : LimitView) (used : List Fate) (attempts : ℕ) (s : State) (forgiven : List Trouble) (phase : HostPhase) (o : Result DescriptorFile Trouble) →
+    GoesWell f limits used attempts s forgiven phase → outcome_of phase ≡ Some o → Says f limits used attempts s forgiven o
+says f limits used attempts s forgiven ResetDue o good e = absurd (cc)
+says f limits used attempts s forgiven (Reading place t k) o good e = absurd (cc)
+says f limits used attempts s forgiven (Ended place) o good e = says_at f limits used attempts s forgiven place o good e
 
 -- *out of memory* does not blame the bus
 pub all_used : (limits : LimitView) (used : List Fate) (attempts : ℕ) (o : Result DescriptorFile Trouble) →

@@ -7,7 +7,7 @@ use Rattle.usb_fields.specs.declared.setup.Setup.{Setup as SetupPacket}
 use Rattle.usb_fields.specs.Setup.{setup_bytes}
 use Rattle.usb_set.specs.declared.fault.SetFault.{SetFault}
 use Rattle.usb_set.specs.declared.decoder.Progress.{Progress}
-use Rattle.usb_host.specs.declared.choice.NamedStrings.TheVariants.{Needed}
+use Rattle.usb_host.specs.declared.choice.NamedStrings.{NamedStrings}
 use Rattle.usb_host.specs.declared.transfer.TransferStage.{TransferStage}
 use Rattle.usb_host.specs.declared.transfer.TransferStage.TheVariants.{Setup, DataIn, DataOut, StatusOut, StatusIn, Completed, Failed}
 use Rattle.usb_host.specs.Transfer.{TransferView, Hearing, Taken, addressed, delayed, due, struck, taken, taken_at, token_due, packet_due}
@@ -27,10 +27,10 @@ neither : ⊥ ⊎ ⊥ → ⊥
 neither (inl x) = x
 neither (inr x) = x
 
-module _ (place : Place) (k : Kept) (result : Result Progress SetFault) where
+module _ (texts : NamedStrings) (place : Place) (k : Kept) (result : Result Progress SetFault) where
   -- nothing is asked of memory
   abbrev Asks : Hearing → Type 0
-  Asks heard = LacksMemory heard k result ⊎ Grows Needed heard place
+  Asks heard = LacksMemory heard k result ⊎ Grows texts heard place
 
   if_none : (b : Bool) (x y : Taken) → (Asks x.heard → ⊥) → (Asks y.heard → ⊥) → Asks (if b then x else y).heard → ⊥
   if_none true x y p q = p
@@ -85,10 +85,10 @@ module _ (place : Place) (k : Kept) (result : Result Progress SetFault) where
     unready_none Completed sent e = absurd (cc)
     unready_none (Failed why) sent e = absurd (cc)
 
-pub wanting_heard : (table : State → SetupPacket → Outcome) (packet : ℕ) (t : TransferView) (k : Kept) (place : Place) (sent : Sent) (fate : Fate) (d : DeviceView) (result : Result Progress SetFault) →
-    due t ≡ Some sent → Asks place k result (taken t (carried table packet d sent fate).reply).heard → brings fate ≡ true
-wanting_heard table packet t k place sent fates.Pass d result asks wants = refl
-wanting_heard table packet t k place sent fates.LostAck d result asks wants = refl
-wanting_heard table packet t k place sent fates.LostDown d result asks wants = absurd (silent place k result t t.stage sent asks wants)
-wanting_heard table packet t k place sent fates.LostUp d result asks wants = absurd (silent place k result t t.stage sent asks wants)
-wanting_heard table packet t k place sent fates.Busy d result asks wants = absurd (unready_none place k result table packet d t t.stage sent asks wants)
+pub wanting_heard : (texts : NamedStrings) (table : State → SetupPacket → Outcome) (packet : ℕ) (t : TransferView) (k : Kept) (place : Place) (sent : Sent) (fate : Fate) (d : DeviceView) (result : Result Progress SetFault) →
+    due t ≡ Some sent → Asks texts place k result (taken t (carried table packet d sent fate).reply).heard → brings fate ≡ true
+wanting_heard texts table packet t k place sent fates.Pass d result asks wants = refl
+wanting_heard texts table packet t k place sent fates.LostAck d result asks wants = refl
+wanting_heard texts table packet t k place sent fates.LostDown d result asks wants = absurd (silent texts place k result t t.stage sent asks wants)
+wanting_heard texts table packet t k place sent fates.LostUp d result asks wants = absurd (silent texts place k result t t.stage sent asks wants)
+wanting_heard texts table packet t k place sent fates.Busy d result asks wants = absurd (unready_none texts place k result table packet d t t.stage sent asks wants)

@@ -1,16 +1,14 @@
 -- A host that keeps a cursor and a decoder goes as one that keeps all replies and all bytes.
 use Rattle.std.proofs.Common.{◌≡◌, ℕ, ◌+◌, ◌==◌, ◌||◌, Bool, true, false, nat_lt, if◌then◌else◌, List, [], ◌∷◌, ◌++◌, length, ◌⊎◌, inl, inr, refl, ap, sym, ◌∙◌, subst, length-append}
 use Rattle.std.specs.Prelude.{Result, Option}
-use Rattle.usb_fields.specs.declared.packet.Speed.{Speed}
 use Rattle.usb_fields.specs.declared.packet.Toggle.{Toggle}
 use Rattle.usb_fields.specs.declared.packet.Toggle.TheVariants.{Data0, Data1}
 use Rattle.usb_fields.specs.declared.setup.Direction.TheVariants as directions
 use Rattle.usb_fields.specs.Packets.{is_same_toggle, Reply as Packet, AckReply, NakReply, StallReply, DataReply, NoReply}
 use Rattle.usb_set.specs.declared.fault.SetFault.{SetFault}
 use Rattle.usb_set.specs.declared.decoder.Progress.{Progress}
-use Rattle.usb_host.specs.declared.choice.NamedStrings.TheVariants.{Needed}
+use Rattle.usb_host.specs.declared.choice.Terms.{Terms}
 use Rattle.usb_host.specs.declared.step.Trouble.{Trouble}
-use Rattle.usb_host.specs.Terms.{all_of}
 use Rattle.usb_host.specs.declared.why.Why.{Why}
 use Rattle.usb_host.specs.declared.why.Why.TheVariants.{NoAnswer, Busy, Stalled, TooLong, Unexpected, Malformed, Memory}
 use Rattle.usb_host.specs.declared.transfer.TransferStage.{TransferStage}
@@ -27,13 +25,14 @@ use Rattle.usb_set.specs.declared.tree.Configuration.{Configuration}
 use Rattle.usb_host.specs.Limits.{LimitView}
 use Rattle.usb_host.specs.Place.{Place, First, Address, Device, Header, Set, Qualifier, Languages, Text, Configure, Reported, Stopped}
 use Rattle.usb_host.specs.Keeping as kept
-use Rattle.usb_host.specs.Order.{asks, next, stopped, bytes_lead, set_leads, done_leads, refused_leads}
+use Rattle.usb_host.specs.Order.{asks, forgiven_by, leads, next, spared, stopped, bytes_lead, set_leads, done_leads, refused_leads}
 use Rattle.usb_host.specs.Keeping.{Kept, nothing_kept, set_kept}
 use Rattle.usb_host.specs.Gathered.{reached}
-use Rattle.usb_host.specs.Steps.{HostPhase, Reading, Ended, Grows, KeepsHeard, LacksMemory, TakesHeard, enter, read_leads, completed_leads, goes_on}
+use Rattle.usb_host.specs.Steps.{HostPhase, Reading, Ended, Grows, KeepsHeard, LacksMemory, TakesHeard, enter, read_leads, completed_leads, goes_on, passes_over}
 use Rattle.usb_host.specs.inside.Sound.{FitsPlace}
-use Rattle.usb_bus.specs.inside.Image.{KeptFrom, IsInWork, IsRead, IsTransfer, IsImage, plan_of, ReadsSets}
-use Rattle.usb_bus.proofs.FollowLemmas.{walk_append}
+use Rattle.usb_bus.specs.inside.Image.{KeptFrom, IsInWork, IsRead, IsTransfer, IsImage, passed_over, plan_of, ReadsSets}
+use Rattle.std.proofs.lemmas.List.{append-nil}
+use Rattle.usb_bus.proofs.FollowLemmas.{passed_append, walk_append}
 use Rattle.usb_bus.proofs.KeepLemmas.{SetLaws, feeds, same_set}
 use Rattle.usb_bus.proofs.OpenLemmas.{nothing_is_open}
 use Rattle.usb_host.proofs.LowerLemmas.{fits_bytes, fits_set, fits_nothing}
@@ -116,15 +115,15 @@ counts got t StatusIn NoReply at e r = struck_counts got t e r
 counts got t Completed packet at e r = (e, r)
 counts got t (TheFailed why) packet at e r = (e, r)
 
-module _ (laws : SetLaws) (set_of : List ℕ → Option Configuration) (limits : LimitView) (speed : Speed) (exact : ReadsSets set_of) where
+module _ (laws : SetLaws) (set_of : List ℕ → Option Configuration) (limits : LimitView) (terms : Terms) (exact : ReadsSets set_of) where
   abbrev at : List Reply → Place
-  at replies = reached set_of (all_of speed) First replies
+  at replies = reached set_of terms First replies
 
   abbrev plan : List Reply → Plan
-  plan replies = plan_of set_of limits speed replies
+  plan replies = plan_of set_of limits terms replies
 
   abbrev Image : List Reply → Phase → HostPhase → Type 0
-  Image replies p phase = IsImage set_of limits speed replies p phase
+  Image replies p phase = IsImage set_of limits terms replies p phase
 
   -- the next read begins
   entered_by : (replies : List Reply) (place : Place) → at replies ≡ place → Image replies (phase_of limits.naks (asks limits.address place)) (enter limits place)
@@ -145,53 +144,91 @@ module _ (laws : SetLaws) (set_of : List ℕ → Option Configuration) (limits :
       subst (λ x. Image replies (phase_of limits.naks (asks limits.address x)) (enter limits place)) (sym e) (entered_by replies place e)
 
   -- a transfer that has completed leads to one place
-  done_same : (place : Place) → IsInWork place → next set_of (all_of speed) place replied.Done ≡ done_leads place
+  done_same : (place : Place) → IsInWork place → leads set_of terms place replied.Done ≡ done_leads place
   done_same (Reported f) h = absurd (h)
   done_same (Stopped trouble) h = absurd (h)
   done_same place h = refl
 
-  refused_same : (place : Place) → IsInWork place → next set_of (all_of speed) place replied.Refused ≡ refused_leads (all_of speed) place
+  refused_same : (place : Place) → IsInWork place → leads set_of terms place replied.Refused ≡ refused_leads terms place
   refused_same (Reported f) h = absurd (h)
   refused_same (Stopped trouble) h = absurd (h)
   refused_same place h = refl
 
-  bytes_next : (place : Place) (b b' : List ℕ) → IsInWork place → FitsPlace place (kept.Bytes b) → next set_of (all_of speed) place (replied.Bytes b') ≡ bytes_lead (all_of speed) place b'
+  bytes_next : (place : Place) (b b' : List ℕ) → IsInWork place → FitsPlace place (kept.Bytes b) → leads set_of terms place (replied.Bytes b') ≡ bytes_lead terms place b'
   bytes_next (Reported f) b b' h fits = absurd (h)
   bytes_next (Stopped trouble) b b' h fits = absurd (h)
   bytes_next (Set kind f total) b b' h fits = absurd (fits)
   bytes_next place b b' h fits = refl
 
   bytes_same : (place : Place) (e : HostEnd) (t : TransferView) (k : Kept) → IsInWork place → FitsPlace place k → IsTransfer e t k →
-      next set_of (all_of speed) place (replied.Bytes e.got) ≡ read_leads (all_of speed) place t.kept k
+      leads set_of terms place (replied.Bytes e.got) ≡ read_leads terms place t.kept k
   bytes_same place e t (kept.Bytes bytes) open_ fits is =
-      bytes_next place bytes e.got open_ fits ∙ ap (λ b. bytes_lead (all_of speed) place b) (sym is.is_kept)
+      bytes_next place bytes e.got open_ fits ∙ ap (λ b. bytes_lead terms place b) (sym is.is_kept)
   bytes_same (Set kind f total) e t (kept.Set d over) open_ fits is =
-      ap (λ o. set_leads (all_of speed) (Set kind f total) kind f total (length e.got) o) (same_set laws set_of exact e.got d over is.is_kept)
-      ∙ ap (λ n. set_leads (all_of speed) (Set kind f total) kind f total n (set_kept d over)) (sym is.is_count)
+      ap (λ o. set_leads terms (Set kind f total) kind f total (length e.got) o) (same_set laws set_of exact e.got d over is.is_kept)
+      ∙ ap (λ n. set_leads terms (Set kind f total) kind f total n (set_kept d over)) (sym is.is_count)
   bytes_same place e t (kept.Set d over) open_ fits is = absurd (fits)
 
   completed_same : (place : Place) (e : HostEnd) (t : TransferView) (k : Kept) → IsInWork place → FitsPlace place k → IsTransfer e t k →
-      next set_of (all_of speed) place (reply_from 0 e) ≡ completed_leads (all_of speed) place t k
+      leads set_of terms place (reply_from 0 e) ≡ completed_leads terms place t k
   completed_same place e t k open_ fits is =
-      ap (λ x. next set_of (all_of speed) place (if x.request.length == 0 then replied.Done else replied.Bytes e.got)) is.is_transfer
+      ap (λ x. leads set_of terms place (if x.request.length == 0 then replied.Done else replied.Bytes e.got)) is.is_transfer
       ∙ by_length (t.request.length == 0)
     where
-      by_length : (z : Bool) → next set_of (all_of speed) place (if z then replied.Done else replied.Bytes e.got)
-          ≡ (if z then done_leads place else read_leads (all_of speed) place t.kept k)
+      by_length : (z : Bool) → leads set_of terms place (if z then replied.Done else replied.Bytes e.got)
+          ≡ (if z then done_leads place else read_leads terms place t.kept k)
       by_length true = done_same place open_
       by_length false = bytes_same place e t k open_ fits is
 
+  -- a reply more
+  arrives : (replies : List Reply) (r : Reply) (place there : Place) → at replies ≡ place → leads set_of terms place r ≡ there →
+      at (replies ++ r ∷ []) ≡ spared terms.choice.strings place there
+  arrives replies r place there here to =
+      walk_append set_of terms First replies r ∙ ap (λ x. next set_of terms x r) here ∙ ap (λ x. spared terms.choice.strings place x) to
+
+  abbrev Passes : List Reply → List Trouble → Type 0
+  Passes replies troubles = troubles ≡ passed_over set_of terms First replies
+
+  passes_more : (replies : List Reply) (r : Reply) (place there : Place) (before : List Trouble) → at replies ≡ place → leads set_of terms place r ≡ there →
+      Passes replies before → Passes (replies ++ r ∷ []) (before ++ forgiven_by terms.choice.strings place there)
+  passes_more replies r place there before here to is =
+      ap (λ ts. ts ++ forgiven_by terms.choice.strings place there) is
+      ∙ ap (λ x. passed_over set_of terms First replies ++ forgiven_by terms.choice.strings place x) (sym to)
+      ∙ ap (λ c. passed_over set_of terms First replies ++ forgiven_by terms.choice.strings c (leads set_of terms c r)) (sym here)
+      ∙ sym (passed_append set_of terms First replies r)
+
+  same_passed : (replies : List Reply) (before : List Trouble) → Passes replies before → Passes replies (before ++ [])
+  same_passed replies before is = append-nil before ∙ is
+
+  -- what is passed over goes with the replies
+  passed : (replies : List Reply) (e : HostEnd) (stage : TransferStage) (d : DeviceView) (place : Place) (t : TransferView) (k : Kept) (before : List Trouble) →
+      at replies ≡ place → IsInWork place → FitsPlace place k → IsTransfer e t k → Passes replies before →
+      (let x = advance plan limits.naks no_data replies e stage d in Passes x.replies (before ++ passes_over terms place t k stage))
+  passed replies e Completed d place t k before here open_ fits is p =
+      passes_more replies (reply_from 0 e) place (completed_leads terms place t k) before here (completed_same place e t k open_ fits is) p
+  passed replies e (TheFailed Stalled) d place t k before here open_ fits is p =
+      passes_more replies replied.Refused place (refused_leads terms place) before here (refused_same place open_) p
+  passed replies e (TheFailed NoAnswer) d place t k before here open_ fits is p = same_passed replies before p
+  passed replies e (TheFailed Busy) d place t k before here open_ fits is p = same_passed replies before p
+  passed replies e (TheFailed TooLong) d place t k before here open_ fits is p = same_passed replies before p
+  passed replies e (TheFailed Unexpected) d place t k before here open_ fits is p = same_passed replies before p
+  passed replies e (TheFailed Malformed) d place t k before here open_ fits is p = same_passed replies before p
+  passed replies e (TheFailed Memory) d place t k before here open_ fits is p = same_passed replies before p
+  passed replies e Setup d place t k before here open_ fits is p = same_passed replies before p
+  passed replies e DataIn d place t k before here open_ fits is p = same_passed replies before p
+  passed replies e DataOut d place t k before here open_ fits is p = same_passed replies before p
+  passed replies e StatusOut d place t k before here open_ fits is p = same_passed replies before p
+  passed replies e StatusIn d place t k before here open_ fits is p = same_passed replies before p
+
   advanced : (replies : List Reply) (e : HostEnd) (stage : TransferStage) (d : DeviceView) (place : Place) (t : TransferView) (k : Kept) →
       at replies ≡ place → IsInWork place → FitsPlace place k → IsTransfer e t k →
-      (let x = advance plan limits.naks no_data replies e stage d in Image x.replies x.phase (goes_on limits (all_of speed) place t k stage))
+      (let x = advance plan limits.naks no_data replies e stage d in Image x.replies x.phase (goes_on limits terms place t k stage))
   advanced replies e Completed d place t k here open_ fits is =
-      entered (replies ++ reply_from 0 e ∷ []) (completed_leads (all_of speed) place t k)
-      (walk_append set_of speed First replies (reply_from 0 e)
-      ∙ ap (λ x. next set_of (all_of speed) x (reply_from 0 e)) here ∙ completed_same place e t k open_ fits is)
+      entered (replies ++ reply_from 0 e ∷ []) (spared terms.choice.strings place (completed_leads terms place t k))
+      (arrives replies (reply_from 0 e) place (completed_leads terms place t k) here (completed_same place e t k open_ fits is))
   advanced replies e (TheFailed Stalled) d place t k here open_ fits is =
-      entered (replies ++ replied.Refused ∷ []) (refused_leads (all_of speed) place)
-      (walk_append set_of speed First replies replied.Refused
-      ∙ ap (λ x. next set_of (all_of speed) x replied.Refused) here ∙ refused_same place open_)
+      entered (replies ++ replied.Refused ∷ []) (spared terms.choice.strings place (refused_leads terms place))
+      (arrives replies replied.Refused place (refused_leads terms place) here (refused_same place open_))
   advanced replies e (TheFailed NoAnswer) d place t k here open_ fits is = refl
   advanced replies e (TheFailed Busy) d place t k here open_ fits is = refl
   advanced replies e (TheFailed TooLong) d place t k here open_ fits is = refl
@@ -219,10 +256,11 @@ module _ (laws : SetLaws) (set_of : List ℕ → Option Configuration) (limits :
 
   pub stays : (replies : List Reply) (h : HostEnd) (d : DeviceView) (place : Place) (t : TransferView) (k : Kept) (packet : Packet) (new : HostPhase)
       (before after : List Trouble) → Image replies (Running h) (Reading place t k) →
-      TakesHeard limits (all_of speed) place k (taken t packet) new before after →
-      ((result : Result Progress SetFault) × (LacksMemory (taken t packet).heard k result ⊎ Grows Needed (taken t packet).heard place)
+      TakesHeard limits terms place k (taken t packet) new before after →
+      ((result : Result Progress SetFault) × (LacksMemory (taken t packet).heard k result ⊎ Grows terms.choice.strings (taken t packet).heard place)
       × (new ≡ Ended (stopped place Memory)))
-      ⊎ (let e = hears false h packet in let x = advance plan limits.naks no_data replies e e.transfer.stage d in Image x.replies x.phase new)
+      ⊎ (let e = hears false h packet in let x = advance plan limits.naks no_data replies e e.transfer.stage d in
+      Image x.replies x.phase new × (Passes replies before → Passes x.replies after))
   stays replies h d place t k packet new b a (here, open_, fits, is) (result, after, works, inl (wants, e, same)) =
       inl (result, elim wants [ inl lacks ↦ inl lacks | inr grows ↦ inr grows.0 ], e)
   stays replies h d place t k packet new b a (here, open_, fits, is) (result, after, works, inr (fine, e, adds)) =
@@ -230,9 +268,12 @@ module _ (laws : SetLaws) (set_of : List ℕ → Option Configuration) (limits :
       let end : HostEnd = host_after h.got by in
       let c = counts h.got t t.stage packet refl is.is_count is.is_read in
       let w = keeps place h.got k after by.heard result fits is.is_kept works fine in
-      let image = advanced replies end by.transfer.stage d place by.transfer after here open_ w.0
-      (record { is_transfer = refl; is_read = c.1; is_count = c.0; is_kept = w.1 }) in
+      let moved : IsTransfer end by.transfer after = record { is_transfer = refl; is_read = c.1; is_count = c.0; is_kept = w.1 } in
+      let image = advanced replies end by.transfer.stage d place by.transfer after here open_ w.0 moved in
+      let passes : Passes replies b → Passes (advance plan limits.naks no_data replies end by.transfer.stage d).replies a = λ p.
+      subst (λ ts. Passes (advance plan limits.naks no_data replies end by.transfer.stage d).replies ts) (sym adds)
+      (passed replies end by.transfer.stage d place by.transfer after b here open_ w.0 moved p) in
       let same : hears false h packet ≡ end =
       ap (λ x. host_after h.got x) (taken_plain h.transfer h.transfer.stage packet) ∙ ap (λ x. host_after h.got (taken x packet)) is.is_transfer in
-      inr (subst (λ s. (let z = hears false h packet in let x = advance plan limits.naks no_data replies z z.transfer.stage d in Image x.replies x.phase s)) (sym e)
-      (subst (λ z. (let x = advance plan limits.naks no_data replies z z.transfer.stage d in Image x.replies x.phase (goes_on limits (all_of speed) place by.transfer after by.transfer.stage))) (sym same) image))
+      inr (subst (λ z. (let x = advance plan limits.naks no_data replies z z.transfer.stage d in Image x.replies x.phase new × (Passes replies b → Passes x.replies a))) (sym same)
+      (subst (λ s. Image (advance plan limits.naks no_data replies end by.transfer.stage d).replies (advance plan limits.naks no_data replies end by.transfer.stage d).phase s) (sym e) image, passes))

@@ -12,6 +12,8 @@ mod ArrivedLemmas
 pub mod Cutting
 pub mod Attempts
 mod Talks
+pub mod AskedTexts
+pub mod AskedWalks
 mod Leading
 mod TableLemmas
 pub mod Runs

@@ -1,7 +1,6 @@
 -- A run that goes on, and its log.
 use Rattle.std.proofs.Common.{◌≡◌, ℕ, suc, ◌-◌, List, [], ◌∷◌, ◌++◌, Option, Some, None, inl, inr, ap, sym, ◌∙◌, refl, arith, subst, append_assoc}
 use Rattle.std.specs.Io.KnownBytes.{Appends, Keeps}
-use Rattle.usb_fields.specs.declared.packet.Speed.{Speed}
 use Rattle.usb_file_data.specs.declared.file.DescriptorFile.{DescriptorFile}
 use Rattle.usb_text.specs.Output.{Held}
 use Rattle.usb_text.proofs.Pages.{appends_more, appends_nothing, keeps_refl}
@@ -14,17 +13,16 @@ use Rattle.usb_host.specs.Order.{step_of}
 use Rattle.usb_host.specs.declared.why.Why.{Why}
 use Rattle.usb_device.specs.Step.{DeviceView}
 use Rattle.usb_bus.specs.Run.{fate_at, fates_used}
-use Rattle.usb_host.specs.Limits.{LimitView}
 use Rattle.usb_bus.specs.declared.fate.Fate.{Fate}
 use Rattle.usb_host.specs.Steps.{Ended, HostPhase, Reading, ResetDue, WantsReset, WantsSent, sends, step_in, transfer_in, wanted}
-use Rattle.usb_bus.specs.Enumerate.{Pair, new_pair, Moves, answered}
+use Rattle.usb_bus.specs.Enumerate.{Pair, Moves, answered}
 use Rattle.usb_bus.specs.Exchanges.{answered_in, cause_of}
 use Rattle.usb_bus.specs.Lines.{data_below, data_of, device_words, given_up_part, tally_line}
 use Rattle.usb_bus.specs.Bus.{brought, carried}
 use Rattle.usb_bus.specs.declared.fate.Fate.TheVariants as fates
 use Rattle.usb_device.specs.Requests.{answer}
 use Rattle.usb_bus.specs.inside.Seeing.{HasSeen, done_lines}
-use Rattle.usb_bus.specs.Log.{CutsOff, IsLogOf, WritesLog, WritesLogLess, answered_part, count_before, exchange_lines, lines_with, log_text, step_lines, transfer_part}
+use Rattle.usb_bus.specs.Log.{CutsOff, IsLogFrom, WritesLogFrom, WritesLogLessFrom, answered_part, count_before, exchange_lines, lines_with, log_text, step_lines, transfer_part}
 use Rattle.usb_bus.proofs.EnumerateLemmas.{runs_on}
 use Rattle.usb_bus.specs.inside.Running.{AllWork, StepWork, Breaks, Leads, Walks}
 use Rattle.usb_bus.specs.declared.enumeration.Run.{Run}
@@ -109,15 +107,15 @@ before_is f fates x y n now (inl (r, e)) = rw r.due e
 before_is f fates x y n now (inr (t, e)) = rw t.due (omega arith)
 
 -- a run that goes on, and what is done at each step
-module _ {W : Type 0} (f : DescriptorFile) (speed : Speed) (limits : LimitView) (fates : List Fate) (does : StepWork W) where
-  pub leads_none : (last : Pair) (w : W) → last ≡ new_pair limits speed → Leads f speed limits fates does 0 last w w
-  leads_none last w new = record { earlier = []; runs = (new, refl); work = refl }
+module _ {W : Type 0} (f : DescriptorFile) (new : Pair) (fates : List Fate) (does : StepWork W) where
+  pub leads_none : (last : Pair) (w : W) → last ≡ new → Leads f new fates does 0 last w w
+  leads_none last w is = record { earlier = []; runs = (is, refl); work = refl }
 
   pub leads_on : (x y : Pair) (n now : ℕ) (from mid to : W)
-      → Leads f speed limits fates does n x from mid → Moves f fates x n y now → does x y now mid to → Leads f speed limits fates does now y from to
+      → Leads f new fates does n x from mid → Moves f fates x n y now → does x y now mid to → Leads f new fates does now y from to
   leads_on x y n now from mid to l moves did = record {
     earlier = x ∷ l.earlier;
-    runs = runs_on f fates (new_pair limits speed) l.earlier x y n now l.runs moves;
+    runs = runs_on f fates new l.earlier x y n now l.runs moves;
     work = (mid, subst (λ m. AllWork does l.earlier m x from mid) (sym (before_is f fates x y n now moves)) l.work, did);
   }
 
@@ -133,7 +131,7 @@ log_written brief contents f fates (x ∷ earlier) n last from to (mid, before, 
     (log_written brief contents f fates earlier (count_before (wanted x.host.phase) n) x from mid before) step
 
 -- of a run that ended, and of one that was broken
-module _ {W : Type 0} (brief : Bool) (contents : W → Held) (f : DescriptorFile) (speed : Speed) (limits : LimitView) (fates : List Fate) (from to : W) where
+module _ {W : Type 0} (brief : Bool) (contents : W → Held) (f : DescriptorFile) (new : Pair) (fates : List Fate) (from to : W) where
   abbrev writes : StepWork W
   writes x y n a b = Appends (contents a) (contents b) (step_lines brief f fates n x y)
 
@@ -141,8 +139,8 @@ module _ {W : Type 0} (brief : Bool) (contents : W → Held) (f : DescriptorFile
   cuts fault x y n a b = CutsOff fault (contents a) (contents b) (step_lines brief f fates n x y)
 
   -- the log of a run that has ended
-  abbrev ended : (run : Run) (w : Walks f speed limits fates writes from to run)
-      → IsLogOf brief f speed limits fates run (log_text brief f fates w.leads.earlier run.transactions w.last ++ tally_line (fates_used fates run.transactions))
+  abbrev ended : (run : Run) (w : Walks f new fates writes from to run)
+      → IsLogFrom new brief f fates run (log_text brief f fates w.leads.earlier run.transactions w.last ++ tally_line (fates_used fates run.transactions))
   ended run w = record {
     earlier = w.leads.earlier;
     last = w.last;
@@ -153,16 +151,16 @@ module _ {W : Type 0} (brief : Bool) (contents : W → Held) (f : DescriptorFile
     text = refl;
   }
 
-  pub log_of : (run : Run) (holds : Held) → Walks f speed limits fates writes from to run
-      → Appends (contents to) holds (tally_line (fates_used fates run.transactions)) → WritesLog brief f speed limits fates (contents from) holds run
+  pub log_of : (run : Run) (holds : Held) → Walks f new fates writes from to run
+      → Appends (contents to) holds (tally_line (fates_used fates run.transactions)) → WritesLogFrom new brief f fates (contents from) holds run
   log_of run holds w last = record {
     log = log_text brief f fates w.leads.earlier run.transactions w.last ++ tally_line (fates_used fates run.transactions);
     of_run = ended run w;
     written = appends_more (contents from) (contents to) holds _ _ (log_written brief contents f fates w.leads.earlier run.transactions w.last from to w.leads.work) last;
   }
 
-  pub log_unended : (fault : OutFault) (run : Run) (holds : Held) → Walks f speed limits fates writes from to run
-      → CutsOff fault (contents to) holds (tally_line (fates_used fates run.transactions)) → WritesLogLess brief f speed limits fates (contents from) holds fault
+  pub log_unended : (fault : OutFault) (run : Run) (holds : Held) → Walks f new fates writes from to run
+      → CutsOff fault (contents to) holds (tally_line (fates_used fates run.transactions)) → WritesLogLessFrom new brief f fates (contents from) holds fault
   log_unended fault run holds w cut = inr (record {
     run = run;
     log = log_text brief f fates w.leads.earlier run.transactions w.last ++ tally_line (fates_used fates run.transactions);
@@ -172,7 +170,7 @@ module _ {W : Type 0} (brief : Bool) (contents : W → Held) (f : DescriptorFile
     written = cut;
   })
 
-  pub log_less : (fault : OutFault) → Breaks f speed limits fates writes (cuts fault) from to → WritesLogLess brief f speed limits fates (contents from) (contents to) fault
+  pub log_less : (fault : OutFault) → Breaks f new fates writes (cuts fault) from to → WritesLogLessFrom new brief f fates (contents from) (contents to) fault
   log_less fault b = inl (record {
     earlier = b.leads.earlier;
     before = b.before;

@@ -1,12 +1,14 @@
 -- A described device serves the script of its enumeration.
-use Rattle.std.proofs.Common.{◌≡◌, ℕ, zero, suc, ◌+◌, ◌<◌, ◌≤◌, ◌==◌, Bool, true, false, if◌then◌else◌, nat_lt, List, [], ◌∷◌, length, take, drop, slice_get, refl, ap, sym, ◌∙◌, arith, subst, length-take, lit<}
+use Rattle.std.proofs.Common.{◌≡◌, ℕ, suc, ◌+◌, ◌<◌, ◌≤◌, ◌==◌, ◌&&◌, Bool, true, false, if◌then◌else◌, nat_lt, List, [], ◌∷◌, length, take, drop, refl, ap, sym, ◌∙◌, arith, subst, length-take, lit<}
 use Rattle.std.specs.Prelude.{Option, Some, None}
 use Rattle.std.specs.Option.{option_map}
 use Rattle.std.specs.List.{list_any}
 use Rattle.std.proofs.lemmas.Bool.Decides.{nat_tests}
 use Rattle.std.proofs.lemmas.List.{take_all}
 use Rattle.std.proofs.lemmas.Nat.{div-mul-add, mod-mul-add}
-use Rattle.usb_fields.specs.declared.packet.Speed.{Speed}
+use Rattle.usb_host.specs.declared.choice.Terms.{Terms}
+use Rattle.usb_host.proofs.SpareLemmas.{left_of}
+use Rattle.usb_bus.specs.Asked.{asked_of}
 use Rattle.usb_fields.specs.Device.{device_bytes, qualifier_bytes}
 use Rattle.usb_fields.specs.Units.{units_bytes}
 use Rattle.usb_set.specs.declared.tree.SetKind.{SetKind}
@@ -16,9 +18,8 @@ use Rattle.usb_set.specs.Descriptors.{type_number}
 use Rattle.usb_file_data.specs.declared.file.DescriptorFile.{DescriptorFile}
 use Rattle.usb_file_data.specs.declared.file.Other.{Other}
 use Rattle.usb_file_data.specs.declared.file.Strings.{Strings}
-use Rattle.usb_file_data.specs.File.{whole_set, is_long_string, named_indices, other_sets, string_indices, units_at}
+use Rattle.usb_file_data.specs.File.{whole_set, is_long_string, named_indices, other_sets}
 use Rattle.usb_device.specs.Descriptors.{descriptor, set_at, string_at, qualifier_of, other_set_at}
-use Rattle.usb_device.specs.Accepted.{repeats}
 use Rattle.usb_device.specs.declared.state.State.{State}
 use Rattle.usb_device.specs.States.{zero as zero_state}
 use Rattle.usb_device.specs.Requests.{Bytes, Done, Refused, answer, answer_of, has_value}
@@ -30,25 +31,14 @@ use Rattle.usb_host.specs.Read.{get_descriptor, set_address, set_configuration, 
 use Rattle.usb_bus.specs.inside.Following.{Serves}
 use Rattle.usb_host.specs.Order.{first_value, index_due, language_due}
 use Rattle.usb_bus.specs.inside.Described.{IsDescribed}
-use Rattle.usb_bus.specs.inside.Script.{Exchange, exchange, set_script, text_script, string_script, other_script, last_script, second_script, script, addressed_state}
+use Rattle.usb_bus.specs.inside.Script.{Exchange, exchange, set_script, text_script, string_script, other_script, last_script, named_script, second_script, script, addressed_state}
 use Rattle.usb_bus.specs.Enumerate.{configured_state}
-use Rattle.usb_bus.proofs.AcceptLemmas.{AreSound, AreStrings, count_is, other_count_is, sets_sound, other_sets_sound, value_some, packet_right, at_least_8, strings_right, languages_apart}
+use Rattle.usb_bus.proofs.AcceptLemmas.{AreSound, count_is, other_count_is, sets_sound, other_sets_sound, value_some, packet_right, at_least_8, strings_right, languages_apart}
 use Rattle.usb_bus.proofs.HeadLemmas.{headed}
-use Rattle.usb_bus.proofs.TextLemmas.{named_once, index_fits, string_found}
+use Rattle.usb_bus.proofs.AskedTexts.{AreThere, among_all, at_drop, drop_next, short_there, strings_from, texts_there}
+use Rattle.usb_bus.proofs.TextLemmas.{index_fits}
 use Rattle.usb_bus.proofs.CutLemmas.{first_cut}
 use Rattle.usb_fields.proofs.UnitLemmas.{length-flat_map}
-
-at_drop : {X : Type 0} (i : ℕ) (all : List X) (c : X) (rest : List X) → drop i all ≡ c ∷ rest → slice_get all i ≡ Some c
-at_drop zero [] c rest e = cc
-at_drop zero (x ∷ xs) c rest e = (let same : x ≡ c = cc in ap Some same)
-at_drop (suc i) [] c rest e = cc
-at_drop (suc i) (x ∷ xs) c rest e = at_drop i xs c rest e
-
-drop_next : {X : Type 0} (i : ℕ) (all : List X) (c : X) (rest : List X) → drop i all ≡ c ∷ rest → drop (suc i) all ≡ rest
-drop_next zero [] c rest e = cc
-drop_next zero (x ∷ xs) c rest e = cc
-drop_next (suc i) [] c rest e = cc
-drop_next (suc i) (x ∷ xs) c rest e = drop_next i xs c rest e
 
 no_address : (kind i language wants : ℕ) → is_set_address (get_descriptor kind i language wants) ≡ true → ⊥
 no_address kind i language wants e = absurd (cc)
@@ -127,24 +117,20 @@ module _ (f : DescriptorFile) where
           reads s n 3 i language 255 (units_bytes u) (units_bytes u) more small here (lit< tt) (take_all 255 (units_bytes u) (omega arith))
           (pos, omega arith, refl) d
 
-      serves_texts : (t : Strings) → f.strings ≡ Some t → AreStrings (named_indices f) t → repeats t.languages ≡ false →
-          (k : ℕ) (ts : List (List ℕ)) (more : List Exchange) → drop k t.texts ≡ ts → k + length ts ≡ length t.texts → list_any is_long_string ts ≡ false →
-          D s more → D s (text_script s.address n t.languages (named_indices f) k ts more)
-      serves_texts t e good once k [] more at count short d = d
-      serves_texts t e good once k (u ∷ ts) more at count short d =
-          let named = named_indices f in
-          let pos_named : 0 < length named = (let some = good.some_named in grind (arith, nat_tests)) in
-          let fits = index_fits f k good.some_named in
+      serves_texts : (g : DescriptorFile) (t : Strings) → f.strings ≡ Some t → (length (named_indices g) == 0) ≡ false →
+          (k : ℕ) (ts : List (List ℕ)) (more : List Exchange) → AreThere f t (named_indices g) k ts → list_any is_long_string ts ≡ false →
+          D s more → D s (text_script s.address n t.languages (named_indices g) k ts more)
+      serves_texts g t e some k [] more there short d = d
+      serves_texts g t e some k (u ∷ ts) more there short d =
+          let named = named_indices g in
+          let fits = index_fits g k some in
           let some_index = fits.0 in
           let index : (index_due named k == 0) ≡ false = grind (arith, nat_tests) in
-          let sum = good.count in
-          let there : units_at t named (index_due named k) (language_due t.languages named k) ≡ Some u =
-          string_found t named k u once (named_once (string_indices f)) pos_named (omega arith) (at_drop k t.texts u ts at) in
           let here : descriptor f 3 (index_due named k) (language_due t.languages named k) ≡ Some (units_bytes u) =
-          ap (λ x. string_at x named (index_due named k) (language_due t.languages named k)) e ∙ rw (index, there) refl in
+          ap (λ x. string_at x (named_indices f) (index_due named k) (language_due t.languages named k)) e ∙ rw (index, there.0) refl in
           let small : length u ≤ 126 = (let z = first_short u ts short in z) in
           reads_units (index_due named k) (language_due t.languages named k) u _ fits.1 small here
-          (serves_texts t e good once (suc k) ts more (drop_next k t.texts u ts at) (omega arith) (rest_short u ts short) d)
+          (serves_texts g t e some (suc k) ts more there.1 (rest_short u ts short) d)
         where
           first_short : (u : List ℕ) (ts : List (List ℕ)) → list_any is_long_string (u ∷ ts) ≡ false → length u ≤ 126
           first_short u ts e = grind (arith, nat_tests)
@@ -152,14 +138,26 @@ module _ (f : DescriptorFile) where
           rest_short : (u : List ℕ) (ts : List (List ℕ)) → list_any is_long_string (u ∷ ts) ≡ false → list_any is_long_string ts ≡ false
           rest_short u ts e = grind (arith, nat_tests)
 
-      serves_strings : (o : Option Strings) (more : List Exchange) → f.strings ≡ o → ((t : Strings) → o ≡ Some t → AreStrings (named_indices f) t × (repeats t.languages ≡ false)) →
-          D s more → D s (string_script s.address n o (named_indices f) more)
-      serves_strings None more e h d = d
-      serves_strings (Some t) more e h d =
-          let good = h t refl in
-          let here : descriptor f 3 0 0 ≡ Some (units_bytes t.languages) = ap (λ x. string_at x (named_indices f) 0 0) e in
-          reads_units 0 0 t.languages _ (lit< tt) good.0.few here
-          (serves_texts t e good.0 good.1 0 t.texts more refl (omega arith) good.0.short d)
+      -- the strings of g are there where they are asked for
+      pub record AreServed (g : DescriptorFile) (u : Strings) : Type 0 where
+        pub strings : Strings
+        pub is : f.strings ≡ Some strings
+        pub languages : u.languages ≡ strings.languages
+        pub few : length strings.languages ≤ 126
+        pub some : (length (named_indices g) == 0) ≡ false
+        pub there : AreThere f strings (named_indices g) 0 u.texts
+        pub short : list_any is_long_string u.texts ≡ false
+
+      serves_strings : (g : DescriptorFile) (o : Option Strings) (more : List Exchange) → ((u : Strings) → o ≡ Some u → AreServed g u) →
+          D s more → D s (string_script s.address n o (named_indices g) more)
+      serves_strings g None more h d = d
+      serves_strings g (Some u) more h d =
+          let good = h u refl in
+          let t = good.strings in
+          let here : descriptor f 3 0 0 ≡ Some (units_bytes t.languages) = ap (λ x. string_at x (named_indices f) 0 0) good.is in
+          subst (λ ls. D s (string_script s.address n (Some (record { languages = ls; texts = u.texts })) (named_indices g) more)) (sym good.languages)
+          (reads_units 0 0 t.languages _ (lit< tt) good.few here
+          (serves_texts g t good.is good.some 0 u.texts more good.there good.short d))
 
       serves_other : (o : Option Other) (more : List Exchange) → f.other ≡ o → AreSound kinds.OtherSpeed (other_sets o) → length (other_sets o) < 256 → D s more →
           D s (other_script s.address n o more)
@@ -188,7 +186,10 @@ configured_done f address pos e small =
     let fits : nat_lt (first_value f.sets) 256 ≡ true = grind (arith, nat_tests) in
     rw (some, e, fits, has_first f.sets e) refl
 
-module _ (set_of : List ℕ → Option Configuration) (speed : Speed) (address : ℕ) (f : DescriptorFile) (d : IsDescribed set_of speed f) (some : 0 < address) (small : address < 128) where
+module _ (set_of : List ℕ → Option Configuration) (terms : Terms) (address : ℕ) (f : DescriptorFile) (d : IsDescribed set_of terms.speed f) (some : 0 < address) (small : address < 128) where
+  abbrev g : DescriptorFile
+  g = asked_of terms.choice f
+
   abbrev m : ℕ
   m = f.device.packet
 
@@ -198,7 +199,7 @@ module _ (set_of : List ℕ → Option Configuration) (speed : Speed) (address :
   abbrev there : State
   there = addressed_state address
 
-  serves_last : Serves (answer f) m last there (last_script address m f)
+  serves_last : Serves (answer f) m last there (last_script address m g)
   serves_last =
       let a = configured_done f address some (value_some f d.accepted.rules) d.value_fits in (
         record { address = refl; reply = ap (reply_to []) a; is_cut = λ x ex. absurd (cc); sizes = λ judge ex. absurd (cc) },
@@ -215,21 +216,43 @@ module _ (set_of : List ℕ → Option Configuration) (speed : Speed) (address :
         subst (λ x. Serves (answer f) m last x xs) (sym (ap (λ x. carried_out zero_state x) a)) s,
       )
 
-  serves_second : (may : Bool) → (0 < m) → Serves (answer f) m last there (second_script address m may f)
-  serves_second true pos =
+  -- what is asked for of the strings is there
+  asked_served : (pos : 0 < m) (u : Strings) → g.strings ≡ Some u → AreServed f last pos there g u
+  asked_served pos u e =
+      let a = d.accepted in
+      let (t, is, languages, texts, some_index) = strings_from terms.choice f u e in
+      let right = strings_right f t a.strings is in
+      let once = languages_apart f t a.strings is in
+      let all = texts_there f t is right once (named_indices g) (among_all terms.choice f) in
+      let found = subst (λ us. AreThere f t (named_indices g) 0 us) (sym texts) all in
+      record {
+        strings = t;
+        is = is;
+        languages = languages;
+        few = right.few;
+        some = some_index;
+        there = found;
+        short = short_there f t (named_indices g) 0 u.texts right.short found;
+      }
+
+  serves_named : (pos : 0 < m) → Serves (answer f) m last there (named_script address m g)
+  serves_named pos = serves_strings f last pos there g g.strings _ (asked_served pos) serves_last
+
+  serves_second : (may : Bool) → (terms.choice.other_speed && may_have_second terms.speed f.device) ≡ may → (0 < m) → Serves (answer f) m last there (second_script address m may g)
+  serves_second true e pos =
       let a = d.accepted in
       let few = d.other_few in
       let count = other_count_is f a.sets in
-      serves_other f last pos there f.other _ refl (other_sets_sound f a.sets) (omega arith)
-      (serves_strings f last pos there f.strings _ refl (λ t e. (strings_right f t a.strings e, languages_apart f t a.strings e)) serves_last)
-  serves_second false pos =
-      let a = d.accepted in
-      serves_strings f last pos there f.strings _ refl (λ t e. (strings_right f t a.strings e, languages_apart f t a.strings e)) serves_last
+      let same : f.other ≡ g.other = sym (ap (λ b. if b then f.other else None) (left_of terms.choice.other_speed (may_have_second terms.speed f.device) e)) in
+      let sound = subst (λ o. AreSound kinds.OtherSpeed (other_sets o)) same (other_sets_sound f a.sets) in
+      let fits : length (other_sets g.other) < 256 = subst (λ o. length (other_sets o) < 256) same (omega arith) in
+      serves_other f last pos there g.other _ same sound fits (serves_named pos)
+  serves_second false e pos = serves_named pos
 
-  pub serves_script : Serves (answer f) m last zero_state (script address m speed f)
+  pub serves_script : Serves (answer f) m last zero_state (script address m terms g)
   serves_script =
       let a = d.accepted in
-      let p = at_least_8 speed m (packet_right f speed a) in
+      let p = at_least_8 terms.speed m (packet_right f terms.speed a) in
       let pos : 0 < m = omega arith in
       let b = device_bytes f.device in
       let few = d.few in
@@ -237,5 +260,5 @@ module _ (set_of : List ℕ → Option Configuration) (speed : Speed) (address :
       reads f last zero_state 8 1 0 0 8 b (take 8 b) _ (lit< tt) refl (lit< tt) refl (first_cut (take 8 b) m p refl)
       (serves_more _ (λ e. absurd (cc))
       (reads f last there m 1 0 0 18 b b _ (lit< tt) refl (lit< tt) refl (pos, omega arith, refl)
-      (serves_sets f last pos there kinds.Configuration f.sets (λ i. refl) 0 f.sets (second_script address m (may_have_second speed f.device) f) refl (omega arith) (sets_sound f a.sets)
-      (serves_second (may_have_second speed f.device) pos))))
+      (serves_sets f last pos there kinds.Configuration f.sets (λ i. refl) 0 f.sets _ refl (omega arith) (sets_sound f a.sets)
+      (serves_second (terms.choice.other_speed && may_have_second terms.speed f.device) refl pos))))

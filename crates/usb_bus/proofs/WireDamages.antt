@@ -3,11 +3,9 @@ use Rattle.std.proofs.Common.{◌≡◌, ◌≤◌, ◌⊎◌, inl, inr, ◌==�
 use Rattle.usb_wire.specs.Packets.{PacketView, IsLegal, packet_bytes}
 use Rattle.usb_wire.specs.Damages.{damage_of}
 use Rattle.usb_wire.proofs.RoundTrip.{packet_taken, same_packet}
-use Rattle.usb_fields.specs.declared.packet.Speed.{Speed}
 use Rattle.usb_fields.specs.declared.setup.Setup.{Setup as SetupPacket}
 use Rattle.usb_fields.specs.Packets.{Token, SetupToken, InToken, OutToken, Sent, Reply}
 use Rattle.usb_file_data.specs.declared.file.DescriptorFile.{DescriptorFile}
-use Rattle.usb_host.specs.Limits.{LimitView}
 use Rattle.usb_device.specs.declared.state.State.{State}
 use Rattle.usb_device.specs.Requests.{Outcome, answer}
 use Rattle.usb_device.specs.Step.{DeviceView, Served, acked}
@@ -16,12 +14,12 @@ use Rattle.usb_bus.specs.declared.fate.Fate.TheVariants.{Pass, Busy, LostAck, Lo
 use Rattle.usb_bus.specs.declared.enumeration.Run.{Run}
 use Rattle.usb_bus.specs.declared.wire.change.BitChange.{BitChange}
 use Rattle.usb_bus.specs.Damaged.{HasLegalData, IsExchanged, IsLegalSent, IsTakenOf, arriving, bits_of, fits, fitting, is_ready, reply_number, with_changed}
-use Rattle.usb_bus.specs.DamagedRuns.{AreSlight, DamagedRunsAt, IsDamagedEnumeration, counts_of, event_at, is_changed, is_lossy}
-use Rattle.usb_bus.specs.Enumerate.{Pair, new_pair}
+use Rattle.usb_bus.specs.DamagedRuns.{AreSlight, DamagedRunsAt, IsDamagedRunFrom, counts_of, event_at, is_changed, is_lossy}
+use Rattle.usb_bus.specs.Enumerate.{Pair}
 use Rattle.usb_bus.specs.Exchanges.{is_lost_ack, is_lost_down, is_lost_up}
 use Rattle.usb_bus.specs.Run.{fate_at}
 use Rattle.usb_bus.specs.Wire.{Arrives, IsReceivedOf, IsWhole, OnWire, Receives, ack_packet, data_packet, heard_reply, heard_sent, is_ack, reply_packet, served_from, served_heard, token_packet}
-use Rattle.usb_bus.specs.WireRuns.{IsWireEnumeration, WireRunsAt}
+use Rattle.usb_bus.specs.WireRuns.{IsWireRunFrom, WireRunsAt}
 use Rattle.usb_bus.proofs.AddressLemmas.{legal_due, reset_within, take_within}
 use Rattle.usb_bus.proofs.WireArrivals.{none_is_not_some, received_or_lost}
 use Rattle.usb_bus.proofs.WireFates.{sent_heard}
@@ -183,11 +181,10 @@ module _ (table : State → SetupPacket → Outcome) (packet : ℕ) where
       )
 
 -- an enumeration with slight changes
-pub slightly_damaged : (f : DescriptorFile) (speed : Speed) (limits : LimitView) (fates : List Fate) (changes : List BitChange) (run : Run) → limits.address ≤ 127
-    → AreSlight changes → IsDamagedEnumeration f speed limits fates changes run → IsWireEnumeration f speed limits (counts_of fates changes run.transactions) run
-slightly_damaged f speed limits fates changes run low slight (earlier, last, runs, attempts, outcome, state) =
-    let within : AsksWithin (new_pair limits speed).host = record { limits = omega arith; phase = tt } in
-    let all = comes (answer f) f.device.packet fates changes (new_pair limits speed) earlier run.transactions last slight within runs in
+pub slightly_damaged : (f : DescriptorFile) (new : Pair) (fates : List Fate) (changes : List BitChange) (run : Run) → AsksWithin new.host
+    → AreSlight changes → IsDamagedRunFrom new f fates changes run → IsWireRunFrom new (answer f) f.device.packet (counts_of fates changes run.transactions) run
+slightly_damaged f new fates changes run within slight (earlier, last, runs, attempts, outcome, state) =
+    let all = comes (answer f) f.device.packet fates changes new earlier run.transactions last slight within runs in
     (earlier, last, all.1, count fates changes run.transactions, attempts, outcome, state)
   where
     count : (fates : List Fate) (changes : List BitChange) (n : ℕ) → (counts_of fates changes n).transactions ≡ n

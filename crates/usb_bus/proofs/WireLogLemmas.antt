@@ -10,6 +10,7 @@ use Rattle.usb_text.specs.declared.output.OutFault.{OutFault}
 use Rattle.usb_text.proofs.Pages.{appends_more, appends_nothing, keeps_refl}
 use Rattle.usb_file_data.specs.File.{file_bytes}
 use Rattle.usb_host.specs.Limits.{IsInRange, LimitView}
+use Rattle.usb_host.specs.declared.choice.Choice.{Choice}
 use Rattle.usb_fields.specs.Packets.{Reply, Sent}
 use Rattle.usb_file_data.specs.declared.file.DescriptorFile.{DescriptorFile}
 use Rattle.usb_host.specs.Steps.{Ended, HostPhase, Reading, ResetDue, WantsReset, WantsSent, sends, step_in, transfer_in, wanted}
@@ -26,13 +27,14 @@ use Rattle.usb_bus.specs.declared.enumeration.Run.{Run}
 use Rattle.usb_bus.specs.declared.fate.Fate.{Fate}
 use Rattle.usb_bus.specs.declared.wire.change.BitChange.{BitChange}
 use Rattle.usb_bus.specs.Damaged.{IsLegalSent, bits_of}
-use Rattle.usb_bus.specs.DamagedLaws.{IsSlight, SlightDamageEndsWell}
-use Rattle.usb_bus.specs.DamagedRuns.{AreSlight, DamagedMoves, DamagedRunsAt, IsDamagedAt, IsDamagedEnumeration, counts_of}
-use Rattle.usb_bus.specs.Enumerate.{IsReset, Pair, new_pair}
+use Rattle.usb_bus.specs.Asked.{asked_of}
+use Rattle.usb_bus.specs.DamagedLaws.{AnySlightDamageEndsWell, IsSlightFrom}
+use Rattle.usb_bus.specs.DamagedRuns.{AreSlight, DamagedMoves, DamagedRunsAt, IsDamagedAt, IsDamagedRunFrom, counts_of}
+use Rattle.usb_bus.specs.Enumerate.{IsReset, Pair, chosen_pair}
 use Rattle.usb_bus.specs.Exchanges.{cause_of}
 use Rattle.usb_bus.specs.Lines.{data_below, data_of, device_words, given_up_part, reset_line, tally_line}
 use Rattle.usb_bus.specs.Log.{answered_part, exchange_lines, transfer_part}
-use Rattle.usb_bus.specs.LogOnWire.{LoggedMoves, LoggedRuns, WritesWireLog, wire_lines}
+use Rattle.usb_bus.specs.LogOnWire.{LoggedMoves, LoggedRuns, WritesWireLogFrom, wire_lines}
 use Rattle.usb_bus.specs.PacketLines.{packets_below}
 use Rattle.usb_bus.specs.Run.{fate_at, fates_used}
 use Rattle.usb_bus.specs.Wire.{served_heard}
@@ -140,12 +142,12 @@ module _ (brief all : Bool) (f : DescriptorFile) (fates : List Fate) (changes : 
 
   -- ---- a run that goes on, and one that has ended
 
-  module _ (speed : Speed) (limits : LimitView) where
-    pub leads_none : (last : Pair) (held : Held) → last ≡ new_pair limits speed → LeadsLogged brief all f fates changes speed limits 0 last held held
-    leads_none last held new = record { earlier = []; log = []; runs = (new, refl, refl); written = appends_nothing held held (keeps_refl held) }
+  module _ (new : Pair) where
+    pub leads_none : (last : Pair) (held : Held) → last ≡ new → LeadsLogged brief all f fates changes new 0 last held held
+    leads_none last held is = record { earlier = []; log = []; runs = (is, refl, refl); written = appends_nothing held held (keeps_refl held) }
 
-    pub leads_on : (x : Pair) (n : ℕ) (y : Pair) (now : ℕ) (held between holds : Held) → LeadsLogged brief all f fates changes speed limits n x held between
-        → LogsStep brief all f fates changes x n y between holds now → LeadsLogged brief all f fates changes speed limits now y held holds
+    pub leads_on : (x : Pair) (n : ℕ) (y : Pair) (now : ℕ) (held between holds : Held) → LeadsLogged brief all f fates changes new n x held between
+        → LogsStep brief all f fates changes x n y between holds now → LeadsLogged brief all f fates changes new now y held holds
     leads_on x n y now held between holds l s = record {
       earlier = x ∷ l.earlier;
       log = l.log ++ s.lines;
@@ -153,24 +155,25 @@ module _ (brief all : Bool) (f : DescriptorFile) (fates : List Fate) (changes : 
       written = appends_more held between holds l.log s.lines l.written s.written;
     }
 
-    pub log_of : (run : Run) (held between holds : Held) → WalksLogged brief all f fates changes speed limits held between run
-        → Appends between holds (tally_line (fates_used fates run.transactions)) → WritesWireLog brief all f fates changes speed limits held holds run
+    pub log_of : (run : Run) (held between holds : Held) → WalksLogged brief all f fates changes new held between run
+        → Appends between holds (tally_line (fates_used fates run.transactions)) → WritesWireLogFrom brief all f fates changes new held holds run
     log_of run held between holds w tally = record {
       log = w.lines ++ tally_line (fates_used fates run.transactions);
       of_run = record { lines = w.lines; of_run = w.of_run; text = refl };
       written = appends_more held between holds w.lines (tally_line (fates_used fates run.transactions)) w.written tally;
     }
 
-    pub log_made : (r : Result Run OutFault) (held holds : Held) → IfOk r (WritesWireLog brief all f fates changes speed limits held holds)
-        → IfOk r (IsDamagedEnumeration f speed limits fates changes)
+    pub log_made : (r : Result Run OutFault) (held holds : Held) → IfOk r (WritesWireLogFrom brief all f fates changes new held holds)
+        → IfOk r (IsDamagedRunFrom new f fates changes)
     log_made (Ok run) held holds w =
         let r = w.of_run.of_run in
-        (r.earlier, r.last, runs_of (new_pair limits speed) r.earlier run.transactions r.last w.of_run.lines r.runs, r.attempts, r.outcome, r.state)
+        (r.earlier, r.last, runs_of new r.earlier run.transactions r.last w.of_run.lines r.runs, r.attempts, r.outcome, r.state)
     log_made (Err fault) held holds w = tt
 
 -- so it ends well where each change is slight
-pub log_slight : (r : Result Run OutFault) (f : DescriptorFile) (speed : Speed) (limits : LimitView) (fates : List Fate) (changes : List BitChange) → SlightDamageEndsWell
-    → Accepted f speed → AreBytes (file_bytes f) → IsInRange limits.address limits.attempts → AreSlight changes → IfOk r (IsDamagedEnumeration f speed limits fates changes)
-    → IfOk r (λ run. IsSlight f speed limits (counts_of fates changes run.transactions) run)
-log_slight (Ok run) f speed limits fates changes law accepted fits range slight made = law f speed limits fates changes run accepted fits range slight made
-log_slight (Err fault) f speed limits fates changes law accepted fits range slight made = tt
+pub log_slight : (r : Result Run OutFault) (f : DescriptorFile) (speed : Speed) (limits : LimitView) (choice : Choice) (fates : List Fate) (changes : List BitChange) → AnySlightDamageEndsWell
+    → Accepted f speed → AreBytes (file_bytes f) → IsInRange limits.address limits.attempts → AreSlight changes
+    → IfOk r (IsDamagedRunFrom (chosen_pair limits speed choice) f fates changes)
+    → IfOk r (λ run. IsSlightFrom (chosen_pair limits speed choice) f (asked_of choice f) limits (counts_of fates changes run.transactions) run)
+log_slight (Ok run) f speed limits choice fates changes law accepted fits range slight made = law f speed limits choice fates changes run accepted fits range slight made
+log_slight (Err fault) f speed limits choice fates changes law accepted fits range slight made = tt

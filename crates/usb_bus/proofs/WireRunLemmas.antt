@@ -21,8 +21,8 @@ use Rattle.usb_bus.specs.Bus.{HostEnd, busies, busy, carried, exchanged, has_dat
 use Rattle.usb_bus.specs.Enumerate.{IsTransactionAt, Pair, RunsAt, new_pair}
 use Rattle.usb_bus.specs.Run.{fate_at}
 use Rattle.usb_bus.specs.Wire.{Event, one_if}
-use Rattle.usb_bus.specs.WireRuns.{Counts, IsWireEnumerationAt, WireAttempt, WireAttemptStep, WireRunsAt}
-use Rattle.usb_bus.specs.WireLaws.{AreFates, IsAlike, IsFated}
+use Rattle.usb_bus.specs.WireRuns.{Counts, IsWireEnumerationAt, IsWireRunFrom, WireAttempt, WireAttemptStep, WireRunsAt}
+use Rattle.usb_bus.specs.WireLaws.{AreFates, IsAlike, IsFated, IsFatedFrom}
 use Rattle.usb_bus.proofs.TestedRuns.{same_alike}
 use Rattle.usb_bus.proofs.WireFates.{alike_then, carried_alike, fated, one_step}
 
@@ -216,17 +216,17 @@ module _ (table : State → Setup → Outcome) (packet : ℕ) where
         },
       )
 
-pub enumerations_fated : (table : State → Setup → Outcome) (packet : ℕ) (speed : Speed) (limits : LimitView) (n : Counts) (run : Run) →
-    IsWireEnumerationAt table packet speed limits n run → (fates : List Fate) × IsFated table packet speed limits n run fates
-enumerations_fated table packet speed limits n run (earlier, last, runs, many, resets, outcome, state) =
-    let all = run_fated table packet (new_pair limits speed) earlier n last runs in
+pub runs_from_fated : (new : Pair) (table : State → Setup → Outcome) (packet : ℕ) (n : Counts) (run : Run) →
+    IsWireRunFrom new table packet n run → (fates : List Fate) × IsFatedFrom new table packet n run fates
+runs_from_fated new table packet n run (earlier, last, runs, many, resets, outcome, state) =
+    let all = run_fated table packet new earlier n last runs in
     let is = all.3 in (
       all.0,
       record {
         runs = (
           all.1,
           all.2,
-          subst (λ k. RunsAt table packet all.0 (new_pair limits speed) all.1 k all.2) many is.runs,
+          subst (λ k. RunsAt table packet all.0 new all.1 k all.2) many is.runs,
           ap (λ h. h.resets) is.host ∙ resets,
           ap (λ h. outcome_of h.phase) is.host ∙ outcome,
           sym is.device.state ∙ state,
@@ -236,3 +236,7 @@ enumerations_fated table packet speed limits n run (earlier, last, runs, many, r
         delays = is.delays;
       },
     )
+
+pub enumerations_fated : (table : State → Setup → Outcome) (packet : ℕ) (speed : Speed) (limits : LimitView) (n : Counts) (run : Run) →
+    IsWireEnumerationAt table packet speed limits n run → (fates : List Fate) × IsFated table packet speed limits n run fates
+enumerations_fated table packet speed limits n run is = runs_from_fated (new_pair limits speed) table packet n run is

@@ -51,11 +51,15 @@ pub record IsDamagedStep (f : DescriptorFile) (fates : List Fate) (changes : Lis
   pub fewer : now + left_to_ask y.host ≤ n + left_to_ask x.host
   pub falls : measure y.host < measure x.host
 
--- An enumeration of a device with these descriptors, from a new host and a new device on, comes to this.
-abbrev pub IsDamagedEnumeration : DescriptorFile → Speed → LimitView → List Fate → List BitChange → Run → Type 0
-IsDamagedEnumeration f speed limits fates changes run =
-    (earlier : List Pair) × (last : Pair) × DamagedRunsAt (answer f) f.device.packet fates changes (new_pair limits speed) earlier run.transactions last
+-- An enumeration of a device with these descriptors, from a new pair on, comes to this.
+abbrev pub IsDamagedRunFrom : Pair → DescriptorFile → List Fate → List BitChange → Run → Type 0
+IsDamagedRunFrom new f fates changes run =
+    (earlier : List Pair) × (last : Pair) × DamagedRunsAt (answer f) f.device.packet fates changes new earlier run.transactions last
     × (last.host.resets ≡ run.attempts) × (outcome_of last.host.phase ≡ Some run.outcome) × (last.device.state ≡ run.state)
+
+-- of a host that asks for all of a file
+abbrev pub IsDamagedEnumeration : DescriptorFile → Speed → LimitView → List Fate → List BitChange → Run → Type 0
+IsDamagedEnumeration f speed limits fates changes run = IsDamagedRunFrom (new_pair limits speed) f fates changes run
 
 -- The changes are slight: whichever packet has them arrives as it was sent or slightly damaged.
 abbrev pub AreSlight : List BitChange → Type 0

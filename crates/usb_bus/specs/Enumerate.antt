@@ -11,7 +11,9 @@ use Rattle.usb_device.specs.Step.{DeviceView, new_device}
 use Rattle.usb_bus.specs.declared.fate.Fate.{Fate}
 use Rattle.usb_bus.specs.Bus.{carried, readiness, losses, busies}
 use Rattle.usb_bus.specs.Run.{fate_at, fates_used}
-use Rattle.usb_host.specs.Steps.{HostView, new_host, WantsReset, WantsSent, wanted, reset, Takes, outcome_of, blames_bus}
+use Rattle.usb_host.specs.declared.choice.Choice.{Choice}
+use Rattle.usb_host.specs.Terms.{everything}
+use Rattle.usb_host.specs.Steps.{HostView, chosen_host, WantsReset, WantsSent, wanted, reset, Takes, outcome_of, blames_bus}
 use Rattle.usb_device.specs.View.{served_by}
 use Rattle.usb_host.specs.Cost.{left_to_ask, most}
 use Rattle.usb_host.specs.declared.why.Why.{Why}
@@ -28,9 +30,13 @@ pub record Pair : Type 0 where
   pub host : HostView
   pub device : DeviceView
 
--- a new host, and a new device
+-- a new host that asks for so much, and a new device
+abbrev pub chosen_pair : LimitView → Speed → Choice → Pair
+chosen_pair limits speed choice = record { host = chosen_host limits speed choice; device = new_device }
+
+-- a new host that asks for all of a file, and a new device
 abbrev pub new_pair : LimitView → Speed → Pair
-new_pair limits speed = record { host = new_host limits speed; device = new_device }
+new_pair limits speed = chosen_pair limits speed everything
 
 -- a bus reset, where the host wants one: it reaches both ends (USB 2.0, 9.1.1.3)
 pub record IsReset (x y : Pair) : Type 0 where
@@ -106,14 +112,23 @@ pub record NoneIsLeft (x y : Pair) : Type 0 where
 -- The enumeration is a run of both ends, from a new host and a new device on. Each step is a reset, where one is due, or a
 -- transaction, where the host asks for one, under the fates in their order. The run has so many transactions and resets, and
 -- its last pair has this outcome and this state.
-abbrev pub IsEnumerationAt : (State → SetupPacket → Outcome) → ℕ → Speed → LimitView → List Fate → Run → Type 0
-IsEnumerationAt table packet speed limits fates run =
-    (earlier : List Pair) × (last : Pair) × RunsAt table packet fates (new_pair limits speed) earlier run.transactions last
+abbrev pub IsRunFrom : Pair → (State → SetupPacket → Outcome) → ℕ → List Fate → Run → Type 0
+IsRunFrom new table packet fates run =
+    (earlier : List Pair) × (last : Pair) × RunsAt table packet fates new earlier run.transactions last
     × (last.host.resets ≡ run.attempts) × (outcome_of last.host.phase ≡ Some run.outcome) × (last.device.state ≡ run.state)
+
+-- a host that asks for all of a file
+abbrev pub IsEnumerationAt : (State → SetupPacket → Outcome) → ℕ → Speed → LimitView → List Fate → Run → Type 0
+IsEnumerationAt table packet speed limits fates run = IsRunFrom (new_pair limits speed) table packet fates run
 
 -- the same of a device with these descriptors
 abbrev pub IsEnumeration : DescriptorFile → Speed → LimitView → List Fate → Run → Type 0
 IsEnumeration f speed limits fates run = IsEnumerationAt (answer f) f.device.packet speed limits fates run
+
+-- a host that asks for so much: with a report it has passed over nothing
+abbrev pub IsChosenEnumeration : DescriptorFile → Speed → LimitView → Choice → List Fate → Run → Type 0
+IsChosenEnumeration f speed limits choice fates run =
+    (is : IsRunFrom (chosen_pair limits speed choice) (answer f) f.device.packet fates run) × IfOk run.outcome (λ g. is.1.host.forgiven ≡ [])
 
 -- the device once it is configured by its first set's value, and nothing else has changed (9.1.1.5)
 abbrev pub configured_state : ℕ → DescriptorFile → State

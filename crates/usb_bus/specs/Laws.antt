@@ -1,5 +1,5 @@
 -- The laws of two ends over a bus, under every list of fates: how both ends stand together, and what comes of an enumeration.
-use Rattle.std.specs.Prelude.{◌≡◌, ℕ, ◌<◌, Bool, List, [], ◌∷◌, ◌≤◌, map}
+use Rattle.std.specs.Prelude.{◌≡◌, ℕ, ◌<◌, Bool, List, [], ◌∷◌, ◌≤◌, map, IfOk}
 use Rattle.usb_fields.specs.declared.setup.Setup.{Setup as SetupPacket, Setup}
 use Rattle.usb_fields.specs.Packets.{Sent}
 use Rattle.usb_file_data.specs.declared.file.DescriptorFile.{DescriptorFile}
@@ -21,11 +21,13 @@ use Rattle.usb_fields.specs.Bytes.{AreBytes}
 use Rattle.usb_fields.specs.declared.packet.Speed.{Speed}
 use Rattle.usb_file_data.specs.File.{file_bytes}
 use Rattle.usb_host.specs.Limits.{LimitView, IsInRange}
+use Rattle.usb_host.specs.declared.choice.Choice.{Choice}
 use Rattle.usb_device.specs.Accepted.{Accepted}
 use Rattle.usb_bus.specs.Run.{fates_used}
 use Rattle.usb_bus.specs.UnderTest.{IsTest, Tested, bus_fate, known_fates}
 use Rattle.usb_bus.specs.declared.enumeration.Run.{Run}
-use Rattle.usb_bus.specs.Enumerate.{EndsWell, IsEnumeration, IsEnumerationAt}
+use Rattle.usb_bus.specs.Asked.{asked_of}
+use Rattle.usb_bus.specs.Enumerate.{EndsWell, IsEnumeration, IsEnumerationAt, IsRunFrom, chosen_pair}
 
 -- The laws of two ends over a bus, under every list of fates: how both ends stand together, and what comes of transfers that
 -- have ended.
@@ -131,6 +133,22 @@ OwnersChangeNothing =
     (f : DescriptorFile) (table : State → Setup → Outcome) (speed : Speed) (limits : LimitView) (fates : List Fate) (run : Run) →
     IsBeside (answer f) table → Accepted f speed → AreBytes (file_bytes f) → IsInRange limits.address limits.attempts →
     IsEnumerationAt table f.device.packet speed limits fates run → EndsWell f limits fates run
+
+-- Whatever the host asks for: a success has read what was asked for of the descriptors, and the host has passed over nothing.
+
+abbrev pub AnyChoiceEndsWell : Type 0
+AnyChoiceEndsWell =
+    (f : DescriptorFile) (speed : Speed) (limits : LimitView) (choice : Choice) (fates : List Fate) (run : Run) →
+    Accepted f speed → AreBytes (file_bytes f) → IsInRange limits.address limits.attempts →
+    (is : IsRunFrom (chosen_pair limits speed choice) (answer f) f.device.packet fates run) →
+    EndsWell (asked_of choice f) limits fates run × IfOk run.outcome (λ g. is.1.host.forgiven ≡ [])
+
+abbrev pub OwnersChangeNoChoice : Type 0
+OwnersChangeNoChoice =
+    (f : DescriptorFile) (table : State → Setup → Outcome) (speed : Speed) (limits : LimitView) (choice : Choice) (fates : List Fate) (run : Run) →
+    IsBeside (answer f) table → Accepted f speed → AreBytes (file_bytes f) → IsInRange limits.address limits.attempts →
+    (is : IsRunFrom (chosen_pair limits speed choice) table f.device.packet fates run) →
+    EndsWell (asked_of choice f) limits fates run × IfOk run.outcome (λ g. is.1.host.forgiven ≡ [])
 
 -- Whatever bytes a responder gives, the device's table with it is such a table.
 abbrev pub RespondersAreBeside : Type 0

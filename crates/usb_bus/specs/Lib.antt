@@ -8,6 +8,7 @@ pub mod Arrivals
 pub mod Series
 pub mod Laws
 pub mod Enumerate
+pub mod Asked
 pub mod Lines
 pub mod Exchanges
 pub mod Log

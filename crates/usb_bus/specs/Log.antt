@@ -72,20 +72,20 @@ log_text brief f fates [] n last = []
 log_text brief f fates (x ∷ earlier) n last =
     log_text brief f fates earlier (count_before (wanted x.host.phase) n) x ++ step_lines brief f fates n x last
 
--- this run has ended, with what `run` says, and this is its log
-pub record IsLogOf (brief : Bool) (f : DescriptorFile) (speed : Speed) (limits : LimitView) (fates : List Fate) (run : Run) (log : List ℕ) : Type 0 where
+-- this run from a new pair on has ended, with what `run` says, and this is its log
+pub record IsLogFrom (new : Pair) (brief : Bool) (f : DescriptorFile) (fates : List Fate) (run : Run) (log : List ℕ) : Type 0 where
   pub earlier : List Pair
   pub last : Pair
-  pub runs : Runs f fates (new_pair limits speed) earlier run.transactions last
+  pub runs : Runs f fates new earlier run.transactions last
   pub attempts : last.host.resets ≡ run.attempts
   pub outcome : outcome_of last.host.phase ≡ Some run.outcome
   pub state : last.device.state ≡ run.state
   pub text : log ≡ log_text brief f fates earlier run.transactions last ++ tally_line (fates_used fates run.transactions)
 
 -- the log of that run was written
-pub record WritesLog (brief : Bool) (f : DescriptorFile) (speed : Speed) (limits : LimitView) (fates : List Fate) (held holds : Held) (run : Run) : Type 0 where
+pub record WritesLogFrom (new : Pair) (brief : Bool) (f : DescriptorFile) (fates : List Fate) (held holds : Held) (run : Run) : Type 0 where
   pub log : List ℕ
-  pub of_run : IsLogOf brief f speed limits fates run log
+  pub of_run : IsLogFrom new brief f fates run log
   pub written : Appends held holds log
 
 -- what was written of lines: they are cut off before their last byte, and if an allocation failed, nothing
@@ -94,11 +94,11 @@ CutsOff outs.Write held holds lines = AppendsLess held holds lines
 CutsOff outs.Memory held holds lines = Keeps held holds
 
 -- The log of a run so far was written. Then a step was made, which leads from `before` to `last`, and its lines were cut off.
-pub record WritesStepsLess (brief : Bool) (f : DescriptorFile) (speed : Speed) (limits : LimitView) (fates : List Fate) (held holds : Held) (fault : OutFault) : Type 0 where
+pub record WritesStepsLess (new : Pair) (brief : Bool) (f : DescriptorFile) (fates : List Fate) (held holds : Held) (fault : OutFault) : Type 0 where
   pub earlier : List Pair
   pub before : Pair
   pub transactions : ℕ
-  pub runs : Runs f fates (new_pair limits speed) earlier transactions before
+  pub runs : Runs f fates new earlier transactions before
   pub last : Pair
   pub now : ℕ
   pub moves : Moves f fates before transactions last now
@@ -107,15 +107,26 @@ pub record WritesStepsLess (brief : Bool) (f : DescriptorFile) (speed : Speed) (
   pub written : CutsOff fault between holds (step_lines brief f fates now before last)
 
 -- The log of a run that has ended was written, but for its last line, which was cut off.
-pub record WritesTallyLess (brief : Bool) (f : DescriptorFile) (speed : Speed) (limits : LimitView) (fates : List Fate) (held holds : Held) (fault : OutFault) : Type 0 where
+pub record WritesTallyLess (new : Pair) (brief : Bool) (f : DescriptorFile) (fates : List Fate) (held holds : Held) (fault : OutFault) : Type 0 where
   pub run : Run
   pub log : List ℕ
-  pub of_run : IsLogOf brief f speed limits fates run log
+  pub of_run : IsLogFrom new brief f fates run log
   pub between : Held
   pub logged : Appends held between (log_text brief f fates of_run.earlier run.transactions of_run.last)
   pub written : CutsOff fault between holds (tally_line (fates_used fates run.transactions))
 
 -- a log was cut off, in the lines of a step or in its last line
+abbrev pub WritesLogLessFrom : Pair → Bool → DescriptorFile → List Fate → Held → Held → OutFault → Type 0
+WritesLogLessFrom new brief f fates held holds fault =
+    WritesStepsLess new brief f fates held holds fault ⊎ WritesTallyLess new brief f fates held holds fault
+
+-- The same of a host that asks for all of a file.
+
+abbrev pub IsLogOf : Bool → DescriptorFile → Speed → LimitView → List Fate → Run → List ℕ → Type 0
+IsLogOf brief f speed limits fates run log = IsLogFrom (new_pair limits speed) brief f fates run log
+
+abbrev pub WritesLog : Bool → DescriptorFile → Speed → LimitView → List Fate → Held → Held → Run → Type 0
+WritesLog brief f speed limits fates held holds run = WritesLogFrom (new_pair limits speed) brief f fates held holds run
+
 abbrev pub WritesLogLess : Bool → DescriptorFile → Speed → LimitView → List Fate → Held → Held → OutFault → Type 0
-WritesLogLess brief f speed limits fates held holds fault =
-    WritesStepsLess brief f speed limits fates held holds fault ⊎ WritesTallyLess brief f speed limits fates held holds fault
+WritesLogLess brief f speed limits fates held holds fault = WritesLogLessFrom (new_pair limits speed) brief f fates held holds fault

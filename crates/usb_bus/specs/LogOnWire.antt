@@ -51,27 +51,27 @@ module _ (brief all : Bool) (f : DescriptorFile) (fates : List Fate) (changes : 
   LoggedRuns new (x ∷ earlier) n last log =
       (m : ℕ) × (before : List ℕ) × (lines : List ℕ) × LoggedMoves x m last n lines × LoggedRuns new earlier m x before × (log ≡ before ++ lines)
 
-  -- of a host with these limits and a device of this speed, which are new
-  module _ (speed : Speed) (limits : LimitView) where
+  -- from a new pair on
+  module _ (new : Pair) where
     -- A run has come to `run`, and these are the lines of its steps.
     pub record IsLoggedRun (run : Run) (lines : List ℕ) : Type 0 where
       pub earlier : List Pair
       pub last : Pair
-      pub runs : LoggedRuns (new_pair limits speed) earlier run.transactions last lines
+      pub runs : LoggedRuns new earlier run.transactions last lines
       pub attempts : last.host.resets ≡ run.attempts
       pub outcome : outcome_of last.host.phase ≡ Some run.outcome
       pub state : last.device.state ≡ run.state
 
     -- its log
-    pub record IsWireLogOf (run : Run) (log : List ℕ) : Type 0 where
+    pub record IsWireLogFrom (run : Run) (log : List ℕ) : Type 0 where
       pub lines : List ℕ
       pub of_run : IsLoggedRun run lines
       pub text : log ≡ lines ++ tally_line (fates_used fates run.transactions)
 
     -- the log of that run was written
-    pub record WritesWireLog (held holds : Held) (run : Run) : Type 0 where
+    pub record WritesWireLogFrom (held holds : Held) (run : Run) : Type 0 where
       pub log : List ℕ
-      pub of_run : IsWireLogOf run log
+      pub of_run : IsWireLogFrom run log
       pub written : Appends held holds log
 
     -- The log of a run so far was written. Then a step was made, and its lines were cut off.
@@ -80,7 +80,7 @@ module _ (brief all : Bool) (f : DescriptorFile) (fates : List Fate) (changes : 
       pub before : Pair
       pub transactions : ℕ
       pub log : List ℕ
-      pub runs : LoggedRuns (new_pair limits speed) earlier transactions before log
+      pub runs : LoggedRuns new earlier transactions before log
       pub last : Pair
       pub now : ℕ
       pub lines : List ℕ
@@ -99,5 +99,16 @@ module _ (brief all : Bool) (f : DescriptorFile) (fates : List Fate) (changes : 
       pub written : CutsOff fault between holds (tally_line (fates_used fates run.transactions))
 
     -- a log was cut off, in the lines of a step or in its last line
-    abbrev pub WritesWireLogLess : Held → Held → OutFault → Type 0
-    WritesWireLogLess held holds fault = WritesWireStepsLess held holds fault ⊎ WritesWireTallyLess held holds fault
+    abbrev pub WritesWireLogLessFrom : Held → Held → OutFault → Type 0
+    WritesWireLogLessFrom held holds fault = WritesWireStepsLess held holds fault ⊎ WritesWireTallyLess held holds fault
+
+  -- The same of a host that asks for all of a file.
+
+  abbrev pub IsWireLogOf : Speed → LimitView → Run → List ℕ → Type 0
+  IsWireLogOf speed limits run log = IsWireLogFrom (new_pair limits speed) run log
+
+  abbrev pub WritesWireLog : Speed → LimitView → Held → Held → Run → Type 0
+  WritesWireLog speed limits held holds run = WritesWireLogFrom (new_pair limits speed) held holds run
+
+  abbrev pub WritesWireLogLess : Speed → LimitView → Held → Held → OutFault → Type 0
+  WritesWireLogLess speed limits held holds fault = WritesWireLogLessFrom (new_pair limits speed) held holds fault

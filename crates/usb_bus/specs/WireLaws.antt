@@ -18,11 +18,11 @@ use Rattle.usb_bus.specs.Attempt.{Attempt, AttemptEnds, attempt_run}
 use Rattle.usb_bus.specs.Beside.{IsBeside, IsTable}
 use Rattle.usb_bus.specs.Bus.{Ends, busies, busy, carried, losses, lost, run_of}
 use Rattle.usb_bus.specs.Converse.{AskedView, ends_with_address, first_place, replies_to, state_after, talk_data, talk_plan, talk_start}
-use Rattle.usb_bus.specs.Enumerate.{EndsWell, IsEnumerationAt}
+use Rattle.usb_bus.specs.Enumerate.{EndsWell, IsRunFrom, Pair, new_pair}
 use Rattle.usb_bus.specs.declared.enumeration.Run.{Run}
 use Rattle.usb_bus.specs.declared.fate.Fate.{Fate}
 use Rattle.usb_bus.specs.Wire.{Event, IsReceived, OnWire, damages, delays, one_if}
-use Rattle.usb_bus.specs.WireRuns.{Counts, IsWireEnumerationAt, WireAttempt, WireRun}
+use Rattle.usb_bus.specs.WireRuns.{Counts, IsWireEnumerationAt, IsWireRunFrom, WireAttempt, WireRun}
 
 -- two devices in one state and one stage, of which one may wait for an ACK that the other does not; no later transaction
 -- tells them apart
@@ -79,11 +79,20 @@ TalksOnTheWireHaveCauses =
 
 -- An enumeration over the bus is one under fates: with the same outcome, and the device in the same state. The fates lose no
 -- more often than a packet didn't arrive as it was sent, and are no more often busy than the device wasn't ready.
-pub record IsFated (table : State → SetupPacket → Outcome) (packet : ℕ) (speed : Speed) (limits : LimitView) (n : Counts) (run : Run) (fates : List Fate) : Type 0 where
-  pub runs : IsEnumerationAt table packet speed limits fates run
+pub record IsFatedFrom (new : Pair) (table : State → SetupPacket → Outcome) (packet : ℕ) (n : Counts) (run : Run) (fates : List Fate) : Type 0 where
+  pub runs : IsRunFrom new table packet fates run
   pub count : length fates ≡ n.transactions
   pub loses : losses fates ≤ n.damaged
   pub delays : busies fates ≤ n.unready
+
+abbrev pub RunsFromHaveFates : Type 0
+RunsFromHaveFates =
+    (new : Pair) (table : State → SetupPacket → Outcome) (packet : ℕ) (n : Counts) (run : Run) →
+    IsWireRunFrom new table packet n run → (fates : List Fate) × IsFatedFrom new table packet n run fates
+
+-- of a host that asks for all of a file
+abbrev pub IsFated : (State → SetupPacket → Outcome) → ℕ → Speed → LimitView → Counts → Run → List Fate → Type 0
+IsFated table packet speed limits n run fates = IsFatedFrom (new_pair limits speed) table packet n run fates
 
 abbrev pub EnumerationsHaveFates : Type 0
 EnumerationsHaveFates =

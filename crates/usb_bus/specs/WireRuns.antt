@@ -76,11 +76,15 @@ module _ (table : State → SetupPacket → Outcome) (packet : ℕ) where
       (IsReset x last × WireRunsAt new earlier n x)
       ⊎ ((v : Event) × (m : Counts) × (n ≡ with_one v m) × IsWireTransaction table packet v x last × WireRunsAt new earlier m x)
 
--- An enumeration over the bus of bytes, from a new host and a new device on, comes to this.
-abbrev pub IsWireEnumerationAt : (State → SetupPacket → Outcome) → ℕ → Speed → LimitView → Counts → Run → Type 0
-IsWireEnumerationAt table packet speed limits n run =
-    (earlier : List Pair) × (last : Pair) × WireRunsAt table packet (new_pair limits speed) earlier n last
+-- An enumeration over the bus of bytes, from a new pair on, comes to this.
+abbrev pub IsWireRunFrom : Pair → (State → SetupPacket → Outcome) → ℕ → Counts → Run → Type 0
+IsWireRunFrom new table packet n run =
+    (earlier : List Pair) × (last : Pair) × WireRunsAt table packet new earlier n last
     × (n.transactions ≡ run.transactions) × (last.host.resets ≡ run.attempts) × (outcome_of last.host.phase ≡ Some run.outcome) × (last.device.state ≡ run.state)
+
+-- of a host that asks for all of a file
+abbrev pub IsWireEnumerationAt : (State → SetupPacket → Outcome) → ℕ → Speed → LimitView → Counts → Run → Type 0
+IsWireEnumerationAt table packet speed limits n run = IsWireRunFrom (new_pair limits speed) table packet n run
 
 -- the same of a device with these descriptors
 abbrev pub IsWireEnumeration : DescriptorFile → Speed → LimitView → Counts → Run → Type 0

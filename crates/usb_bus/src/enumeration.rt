@@ -6,15 +6,17 @@ ghost use Rattle.usb_bus.specs.Bus.{carried};
 ghost use Rattle.usb_bus.specs.Run.{fate_at};
 ghost use Rattle.usb_host.specs.Cost.{left_to_ask};
 ghost use Rattle.usb_host.specs.Steps.{WantsSent, wanted};
-ghost use Rattle.usb_bus.specs.Enumerate.{EndsWell, IsEnumeration, IsStep, NoneIsLeft, answered, both};
+ghost use Rattle.usb_bus.specs.Asked.{asked_of};
+ghost use Rattle.usb_bus.specs.Enumerate.{EndsWell, IsChosenEnumeration, IsEnumeration, IsStep, NoneIsLeft, answered, both};
 
 use crate::exchange::exchange;
 use crate::fate::Fate;
+use crate::lemmas::all_is_asked;
 use crate::steps::{Nobody, Observer, run_with};
 use std::alloc::Global;
 use usb_device::{Description, Device, Encoded, State};
 use usb_file_data::DescriptorFile;
-use usb_host::{Action, Host, Limits, Trouble};
+use usb_host::{Action, Choice, Host, Limits, Trouble};
 
 /// What came of an enumeration.
 #[derive(Clone, Debug, Drop, PartialEq, Eq, Hash)]
@@ -125,7 +127,30 @@ pub fn enumerate_encoded(alloc: Global, d: &Encoded, limits: Limits, fates: &[Fa
     ensures run { IsEnumeration d.now.file d.now.speed limits fates.now result }
     ensures ends_well { EndsWell d.now.file limits fates.now result }
 {
-    match run_with(alloc, d, limits, fates, &mut Nobody, &mut ()) {
+    all_is_asked(d);
+    enumerate_with(alloc, d, limits, Choice::everything(), fates)
+}
+
+/// The same by a host that asks for so much: a report is of the description what was asked for, each string by its index and its
+/// language, and the host has passed over nothing.
+///
+/// ```rust
+/// let choice = Choice { strings: NamedStrings::Skipped, other_speed: false };
+/// let run = enumerate_with(alloc, description.encoded(), limits, choice, &[]);
+/// let asked = DescriptorFile { other: None, strings: None, ..file };
+/// assert_eq!(rt; run.outcome, Ok(asked));
+/// ```
+pub fn enumerate_with(
+    alloc: Global,
+    d: &Encoded,
+    limits: Limits,
+    choice: Choice,
+    fates: &[Fate],
+) -> Run
+    ensures run { IsChosenEnumeration d.now.file d.now.speed limits choice fates.now result }
+    ensures ends_well { EndsWell (asked_of choice d.now.file) limits fates.now result }
+{
+    match run_with(alloc, d, limits, choice, fates, &mut Nobody, &mut ()) {
         Ok(run) => run,
         Err(never) => match never {},
     }

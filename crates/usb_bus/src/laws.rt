@@ -6,9 +6,11 @@ ghost use Rattle.usb_device.specs.Requests.{answer};
 ghost use Rattle.usb_file_data.specs.declared.file.DescriptorFile.{DescriptorFile};
 ghost use Rattle.usb_bus.specs.Beside.{IsTable};
 ghost use Rattle.usb_bus.specs.Arrivals.{WritesComeOnce};
-ghost use Rattle.usb_bus.specs.Laws.{EnumerationsEndWell, OwnersChangeNothing, RespondersAreBeside, UsesFates, AttemptsHaveCauses, AttemptsStayTogether, ResetsBringTogether, RespondersAreOneDevice, RespondersKeepTables, TalksAreDetermined, TalksHaveCauses, TestsEndAsKnown, TransfersHaveCauses, TransfersReadOneAnswer, TransfersStayTogether};
+ghost use Rattle.usb_bus.specs.Laws.{AnyChoiceEndsWell, EnumerationsEndWell, OwnersChangeNoChoice, OwnersChangeNothing, RespondersAreBeside, UsesFates, AttemptsHaveCauses, AttemptsStayTogether, ResetsBringTogether, RespondersAreOneDevice, RespondersKeepTables, TalksAreDetermined, TalksHaveCauses, TestsEndAsKnown, TransfersHaveCauses, TransfersReadOneAnswer, TransfersStayTogether};
 
-use crate::lemmas::{a_host_keeps_the_image, a_run_ends_well, descriptions_are_read};
+use crate::lemmas::{
+    a_host_keeps_the_image, a_run_ends_well, all_that_is_there_is_asked, descriptions_are_read,
+};
 
 /// A transfer begun at the device's address. The host still waits for its SETUP's ACK, or both ends are in this transfer: the
 /// host has kept as many packets as the device counts acknowledged, or one more; of a write the device has kept as many as
@@ -96,9 +98,11 @@ pub fn a_transfer_reads_one_answer()
 {}
 
 /// Over every bus, an enumeration of a device with a description ends with a report of that description and the device
-/// configured, or with a cause, and with no attempt and no transaction too many.
+/// configured, or with a cause, and with no attempt and no transaction too many. A host that asks for less reports what it asks
+/// for of that description, and passes over no string.
 pub fn an_enumeration_ends_well()
-    ensures { EnumerationsEndWell }
+    ensures everything { EnumerationsEndWell }
+    ensures any_choice { AnyChoiceEndsWell }
 {
     no_owner_changes_an_enumeration();
     a_device_keeps_its_table();
@@ -107,9 +111,11 @@ pub fn an_enumeration_ends_well()
 /// The same holds where the device's owner answers what the device refuses, as far as that is open to him: what an
 /// enumeration reads, and how it ends, is not his.
 pub fn no_owner_changes_an_enumeration()
-    ensures { OwnersChangeNothing }
+    ensures everything { OwnersChangeNothing }
+    ensures any_choice { OwnersChangeNoChoice }
 {
     a_run_ends_well();
+    all_that_is_there_is_asked();
 }
 
 /// An owner who answers with bytes is such an owner, whatever he answers.

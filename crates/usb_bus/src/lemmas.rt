@@ -1,8 +1,12 @@
 //! What holds of attempts and of runs, for the proof of the law alone.
 //!
 //! The functions do nothing: their contracts are the laws.
-ghost use Rattle.usb_bus.specs.inside.Laws.{EnumerationsHaveCauses, ReadsTheDescription, KeepsTheImage, RunsEndWell, RunsKeepLimits, SeriesHaveCauses, SetsAreRead};
+ghost use Rattle.std.specs.Prelude.{◌≡◌};
+ghost use Rattle.usb_host.specs.Terms.{everything};
+ghost use Rattle.usb_bus.specs.Asked.{asked_of};
+ghost use Rattle.usb_bus.specs.inside.Laws.{AllIsAsked, EnumerationsHaveCauses, ReadsTheDescription, KeepsTheImage, RunsEndWell, RunsKeepLimits, SeriesHaveCauses, SetsAreRead};
 
+use usb_device::Encoded;
 use usb_host::laws::a_host_ends;
 use usb_set::laws::{more_bytes, one_judgement, one_layout};
 
@@ -12,7 +16,21 @@ pub(crate) fn attempts_have_causes()
     ensures { SeriesHaveCauses }
 {}
 
-/// An enumeration of a device: a success has read the description, and configured the device.
+/// Where all is asked for, that is the description.
+#[tactic(auto, using(crate::proofs::AskedTexts::all_asked))]
+pub(crate) fn all_that_is_there_is_asked()
+    ensures { AllIsAsked }
+{}
+
+/// So it is of this one.
+pub(crate) fn all_is_asked(d: &Encoded)
+    ensures { asked_of everything d.now.file ≡ d.now.file }
+{
+    d.known();
+    all_that_is_there_is_asked();
+}
+
+/// An enumeration of a device: a success has read what was asked for of the description, and configured the device.
 pub(crate) fn an_enumeration_reads_the_description()
     ensures causes { EnumerationsHaveCauses }
     ensures reads { ReadsTheDescription }
@@ -37,8 +55,8 @@ pub(crate) fn descriptions_are_read()
     one_judgement();
 }
 
-/// Over every bus, a host and a device with a description end with a report of that description, or with a cause, and the
-/// host keeps its limits.
+/// Over every bus, a host and a device with a description end with a report of what was asked for of that description, or with
+/// a cause, and the host keeps its limits.
 pub(crate) fn a_run_ends_well()
     ensures ends { RunsEndWell }
     ensures limits { RunsKeepLimits }

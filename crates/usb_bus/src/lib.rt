@@ -52,13 +52,13 @@ pub mod wire;
 
 pub use asked::Asked;
 pub use conversation::{Conversation, Talk, converse, converse_asked};
-pub use enumeration::{Run, enumerate, enumerate_encoded, step, step_seen};
+pub use enumeration::{Run, enumerate, enumerate_encoded, enumerate_with, step, step_seen};
 pub use fate::Fate;
-pub use log::{enumerate_encoded_logged, enumerate_logged};
+pub use log::{enumerate_encoded_logged, enumerate_logged, enumerate_logged_with};
 pub use steps::Observer;
 pub use usb_file_data::NoMemory;
 pub use usb_host::Reply;
 pub use wire::{
     BitChange, Logging, enumerate_encoded_on_the_wire, enumerate_encoded_on_the_wire_logged,
-    enumerate_on_the_wire,
+    enumerate_on_the_wire, enumerate_on_the_wire_logged_with, enumerate_on_the_wire_with,
 };

@@ -1,13 +1,15 @@
 //! An enumeration that is logged.
 ghost use Rattle.std.specs.Prelude.{◌≡◌, [], IfErr, IfOk, OnOk};
 ghost use Rattle.usb_fields.specs.Packets.{reply_of};
-ghost use Rattle.usb_bus.specs.Enumerate.{EndsWell};
-ghost use Rattle.usb_bus.specs.Log.{WritesLog, WritesLogLess};
+ghost use Rattle.usb_bus.specs.Asked.{asked_of};
+ghost use Rattle.usb_bus.specs.Enumerate.{EndsWell, chosen_pair};
+ghost use Rattle.usb_bus.specs.Log.{WritesLog, WritesLogFrom, WritesLogLess, WritesLogLessFrom};
 ghost use Rattle.usb_bus.specs.inside.Seeing.{HasSeen, done_lines};
 
 use crate::data::{data_of, put_below};
 use crate::enumeration::{Run, step_seen};
 use crate::fate::Fate;
+use crate::lemmas::all_is_asked;
 use crate::step_lines::{Before, Turn, put_answered, put_done, put_reset};
 use crate::steps::{Observer, Steps, run_with};
 use crate::tally::write_tally;
@@ -15,7 +17,7 @@ use std::alloc::{AllocError, Global};
 use std::io::Write;
 use usb_device::{Description, Device, Encoded};
 use usb_fields::Answer;
-use usb_host::{Host, Limits, Why};
+use usb_host::{Choice, Host, Limits, Why};
 use usb_text::{OutFault, Text, write_all};
 
 /// The lines of a step, while they are put; `BRIEF` leaves those of data out.
@@ -221,9 +223,31 @@ pub fn enumerate_encoded_logged<W: Write>(
     ensures err { IfErr result (WritesLogLess brief d.now.file d.now.speed limits fates.now (W.contents w.old) (W.contents w.new)) }
     ensures ends_well { IfOk result (EndsWell d.now.file limits fates.now) }
 {
+    all_is_asked(d);
+    enumerate_logged_with(alloc, d, limits, Choice::everything(), fates, brief, w)
+}
+
+/// The same by a host that asks for so much, as [`enumerate_with`](crate::enumerate_with) does.
+///
+/// # Errors
+///
+/// Those of [`enumerate_logged`].
+pub fn enumerate_logged_with<W: Write>(
+    alloc: Global,
+    d: &Encoded,
+    limits: Limits,
+    choice: Choice,
+    fates: &[Fate],
+    brief: bool,
+    w: &mut W,
+) -> Result<Run, OutFault>
+    ensures log { IfOk result (WritesLogFrom (chosen_pair limits d.now.speed choice) brief d.now.file fates.now (W.contents w.old) (W.contents w.new)) }
+    ensures err { IfErr result (WritesLogLessFrom (chosen_pair limits d.now.speed choice) brief d.now.file fates.now (W.contents w.old) (W.contents w.new)) }
+    ensures ends_well { IfOk result (EndsWell (asked_of choice d.now.file) limits fates.now) }
+{
     match brief {
-        true => write_log::<true, W>(alloc, d, limits, fates, w),
-        false => write_log::<false, W>(alloc, d, limits, fates, w),
+        true => write_log::<true, W>(alloc, d, limits, choice, fates, w),
+        false => write_log::<false, W>(alloc, d, limits, choice, fates, w),
     }
 }
 
@@ -231,15 +255,16 @@ fn write_log<const BRIEF: bool, W: Write>(
     alloc: Global,
     d: &Encoded,
     limits: Limits,
+    choice: Choice,
     fates: &[Fate],
     w: &mut W,
 ) -> Result<Run, OutFault>
-    ensures log { IfOk result (WritesLog BRIEF d.now.file d.now.speed limits fates.now (W.contents w.old) (W.contents w.new)) }
-    ensures err { IfErr result (WritesLogLess BRIEF d.now.file d.now.speed limits fates.now (W.contents w.old) (W.contents w.new)) }
-    ensures ends_well { IfOk result (EndsWell d.now.file limits fates.now) }
+    ensures log { IfOk result (WritesLogFrom (chosen_pair limits d.now.speed choice) BRIEF d.now.file fates.now (W.contents w.old) (W.contents w.new)) }
+    ensures err { IfErr result (WritesLogLessFrom (chosen_pair limits d.now.speed choice) BRIEF d.now.file fates.now (W.contents w.old) (W.contents w.new)) }
+    ensures ends_well { IfOk result (EndsWell (asked_of choice d.now.file) limits fates.now) }
 {
     let mut log = Log::<BRIEF>::new(alloc);
-    let run = run_with(alloc, d, limits, fates, &mut log, w)?;
+    let run = run_with(alloc, d, limits, choice, fates, &mut log, w)?;
     write_tally(alloc, fates, run.transactions, w)?;
     Ok(run)
 }

@@ -1,6 +1,7 @@
 //! The loop of an enumeration, and who sees what a device answers on the way.
 ghost use Rattle.std.specs.Prelude.{IfErr, IfOk};
-ghost use Rattle.usb_bus.specs.Enumerate.{EndsWell};
+ghost use Rattle.usb_bus.specs.Asked.{asked_of};
+ghost use Rattle.usb_bus.specs.Enumerate.{EndsWell, IsChosenEnumeration, chosen_pair};
 ghost use Rattle.usb_bus.specs.inside.Running.{Breaks, Walks};
 
 use crate::enumeration::{Run, step};
@@ -10,7 +11,7 @@ use std::alloc::Global;
 use std::convert::Infallible;
 use usb_device::{Device, Encoded};
 use usb_fields::Answer;
-use usb_host::{Host, Limits};
+use usb_host::{Choice, Host, Limits};
 
 /// Sees what passes over the bus in an enumeration.
 pub trait Observer {
@@ -93,25 +94,27 @@ impl Steps<()> for Nobody {
     }
 }
 
-/// Enumerates a device with this description by these steps, both ends being new.
+/// Enumerates a device with this description by these steps, both ends being new, by a host that asks for so much.
 #[inline(always)]
 pub(crate) fn run_with<W, S: Steps<W>>(
     alloc: Global,
     d: &Encoded,
     limits: Limits,
+    choice: Choice,
     fates: &[Fate],
     steps: &mut S,
     w: &mut W,
 ) -> Result<Run, S::Fault>
-    ensures walks { IfOk result (Walks d.now.file d.now.speed limits fates.now (S.does d.now.file fates.now) w.old w.new) }
-    ensures ends_well { IfOk result (EndsWell d.now.file limits fates.now) }
-    ensures breaks { IfErr result (λ fault. Breaks d.now.file d.now.speed limits fates.now (S.does d.now.file fates.now) (λ x y n from to. S.breaks d.now.file fates.now x y n from to fault) w.old w.new) }
+    ensures walks { IfOk result (Walks d.now.file (chosen_pair limits d.now.speed choice) fates.now (S.does d.now.file fates.now) w.old w.new) }
+    ensures ends_well { IfOk result (EndsWell (asked_of choice d.now.file) limits fates.now) }
+    ensures run { IfOk result (IsChosenEnumeration d.now.file d.now.speed limits choice fates.now) }
+    ensures breaks { IfErr result (λ fault. Breaks d.now.file (chosen_pair limits d.now.speed choice) fates.now (S.does d.now.file fates.now) (λ x y n from to. S.breaks d.now.file fates.now x y n from to fault) w.old w.new) }
 {
     // For the proof alone: what holds of a description, of limits and of every run.
     d.known();
     limits.known();
     an_enumeration_ends_well();
-    let mut host = Host::new(alloc, limits, d.speed());
+    let mut host = Host::with_choice(alloc, limits, d.speed(), choice);
     let mut device = Device::of(d);
     let mut transactions = 0u64;
     while let Some(now) = steps.step(&mut host, &mut device, fates, transactions, w)? {

@@ -3,8 +3,8 @@
 //! Slightly damaged is a packet in which one bit of the PID is changed, or after it one or two bits of a token, up to three bits
 //! of a data packet or any that lie among 16 in a row. A handshake has a PID alone: two changed bits make an ACK of a NAK,
 //! and no law can help there.
-ghost use Rattle.usb_bus.specs.DamagedLaws.{SingleChangesAreSlight, SlightDamageEndsWell};
-ghost use Rattle.usb_bus.specs.WireLaws.{AttemptsHaveFates, DamagedPacketsAreLost, EnumerationsHaveFates, EnumerationsOnTheWireEndWell, RunsHaveFates, TalksOnTheWireHaveCauses, TransactionsHaveFates};
+ghost use Rattle.usb_bus.specs.DamagedLaws.{AnySlightDamageEndsWell, SingleChangesAreSlight, SlightDamageEndsWell};
+ghost use Rattle.usb_bus.specs.WireLaws.{AttemptsHaveFates, DamagedPacketsAreLost, EnumerationsHaveFates, EnumerationsOnTheWireEndWell, RunsFromHaveFates, RunsHaveFates, TalksOnTheWireHaveCauses, TransactionsHaveFates};
 
 mod change;
 mod enumeration;
@@ -14,9 +14,12 @@ mod packet_lines;
 mod receive;
 
 use crate::laws::{a_talk_has_causes, an_enumeration_ends_well, no_owner_changes_an_enumeration};
+use crate::lemmas::all_that_is_there_is_asked;
 pub use change::BitChange;
-pub use enumeration::{enumerate_encoded_on_the_wire, enumerate_on_the_wire};
-pub use log::{Logging, enumerate_encoded_on_the_wire_logged};
+pub use enumeration::{
+    enumerate_encoded_on_the_wire, enumerate_on_the_wire, enumerate_on_the_wire_with,
+};
+pub use log::{Logging, enumerate_encoded_on_the_wire_logged, enumerate_on_the_wire_logged_with};
 
 /// A packet that arrives as it was sent, or slightly damaged, or not at all, is received as it was sent, or not at all.
 pub fn a_damaged_packet_is_a_lost_one()
@@ -51,9 +54,10 @@ pub fn a_talk_on_the_wire_has_causes()
 }
 
 /// An enumeration over such a bus is one under fates, with the same outcome and the same state.
-#[tactic(auto, using(crate::proofs::WireRunLemmas::enumerations_fated))]
+#[tactic(auto, using(crate::proofs::WireRunLemmas::enumerations_fated, crate::proofs::WireRunLemmas::runs_from_fated))]
 pub fn an_enumeration_on_the_wire_has_fates()
-    ensures { EnumerationsHaveFates }
+    ensures everything { EnumerationsHaveFates }
+    ensures any_choice { RunsFromHaveFates }
 {}
 
 /// The main theorem over such a bus: an enumeration of a device with accepted descriptors has read just these and configured
@@ -68,9 +72,11 @@ pub fn an_enumeration_on_the_wire_ends_well()
 /// So does one on which given bits change, each packet's slightly.
 pub fn slight_damage_ends_well()
     ensures ends_well { SlightDamageEndsWell }
+    ensures any_choice { AnySlightDamageEndsWell }
     // At most one changed bit in each packet is slight.
     ensures single { SingleChangesAreSlight }
 {
     an_enumeration_on_the_wire_has_fates();
     an_enumeration_ends_well();
+    all_that_is_there_is_asked();
 }

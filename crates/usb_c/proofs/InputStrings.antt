@@ -17,45 +17,25 @@ use Rattle.usb_file_data.specs.Findings.{found_in_order, part_of_kind}
 use Rattle.usb_file_data.specs.Inputs.{IsInput}
 use Rattle.usb_file_data.specs.Places.{at_each}
 use Rattle.usb_file_data.proofs.Counts.{AllStrings, all_strings}
-use Rattle.usb_remarks.specs.OutlineLaws.{as_in_tree}
-use Rattle.usb_remarks.specs.Numbered.{FactsByPosition, Numbered, facts_by_position, facts_of, numbered}
+use Rattle.usb_remarks.specs.Numbered.{Numbered, by_position}
+use Rattle.usb_remarks.specs.Outline.{entries}
 use Rattle.usb_walk.specs.Owners.{of_set as owner_of_set}
-use Rattle.usb_remarks.specs.Outline.{Described, outline}
-use Rattle.usb_walk.specs.Positions.{first_position}
-use Rattle.usb_walk.specs.Roles.{next_role}
 use Rattle.usb_set.specs.Layout.{set_length}
 use Rattle.usb_walk.specs.Trees.{TreeDescriptor, other_descriptors, set_descriptors, string_descriptors, text_descriptor, tree_descriptors}
-use Rattle.usb_remarks.proofs.NumberedLemmas.{numbers_are_outline}
-use Rattle.usb_remarks.proofs.rest.Inputs.{whole_shows}
 use Rattle.usb_c.specs.Descriptors.{indices_in, list_at, nothing, string_among, with_index}
 use Rattle.usb_c.specs.Strings.{WalkHasStrings, indexed, indexed_strings, strings_among, strings_of, string_places}
 use Rattle.usb_c.proofs.NamedIndices.{indices_named}
 use Rattle.usb_c.proofs.StringItems.{Item, item_of, strings_from, strings_same}
 use Rattle.usb_c.proofs.StringTexts.{among_is, count_places, places_are, texts_by}
 use Rattle.usb_c.proofs.StringTrees.{Names, file_names, file_names_same, of_both_parts, of_set, of_sets, set_names, tree_item}
-use Rattle.usb_c.proofs.Walking.{walk_is_numbered}
+use Rattle.usb_c.proofs.TreeWalks.{by_tree, numbered_tree}
+use Rattle.usb_c.proofs.Walking.{walk_is_outline}
 
 -- ---- the descriptors of a walk are those of the tree
 
-item_of_facts : FactsByPosition → Item
-item_of_facts f = record { role = f.role; bytes = f.bytes }
-
-of_numbered : (ns : List Numbered) → map item_of ns ≡ map item_of_facts (map facts_by_position ns)
-unfolding item_of_facts
-of_numbered [] = refl
-of_numbered (n ∷ ns) = ap (λ l. item_of n ∷ l) (of_numbered ns)
-
-of_described : (ds : List Described) → map item_of_facts (map facts_of ds) ≡ map tree_item (map as_in_tree ds)
-unfolding item_of_facts
-of_described [] = refl
-of_described (d ∷ ds) = ap (λ l. tree_item (as_in_tree d) ∷ l) (of_described ds)
-
-items_are : (input : Input) (b : List ℕ) → IsInput input b → map item_of (numbered b) ≡ map tree_item (tree_descriptors input)
-items_are input b is =
-    of_numbered (numbered b)
-    ∙ ap (λ l. map item_of_facts l) (numbers_are_outline None (found_in_order input) b)
-    ∙ of_described (outline None (found_in_order input) b)
-    ∙ ap (λ l. map tree_item l) (whole_shows None input b is)
+items_in_tree : (ns : List Numbered) → map item_of ns ≡ map tree_item (map by_tree ns)
+items_in_tree [] = refl
+items_in_tree (n ∷ ns) = ap (λ l. item_of n ∷ l) (items_in_tree ns)
 
 -- ---- the strings of a file
 
@@ -107,7 +87,8 @@ in_input (inputs.Dump f) b list is =
 
 pub walk_has_strings : WalkHasStrings
 walk_has_strings input b is =
-    ap (strings_among b) (walk_is_numbered b)
-    ∙ strings_same (length b) b nothing (next_role first_position b) refl
-    ∙ ap (strings_from nothing.named (list_at b 0) 0) (items_are input b is)
+    let found = found_in_order input in
+    ap (strings_among b) (walk_is_outline None found b)
+    ∙ strings_same b None found
+    ∙ ap (strings_from nothing.named (list_at b 0) 0) (items_in_tree (map by_position (entries None found b)) ∙ ap (λ l. map tree_item l) (numbered_tree input b is))
     ∙ in_input input b (list_at b 0) is

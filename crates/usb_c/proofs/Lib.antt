@@ -14,14 +14,14 @@ mod Placed
 mod Reasons
 pub mod Named
 mod Taking
+mod Unread
 mod Worded
 mod TreeWalks
 pub mod Walking
+mod WalkSteps
 mod InputStrings
 mod NamedIndices
 mod StringItems
 mod StringTexts
 mod StringTrees
 mod StringsShown
-mod Seeking
-mod Standing

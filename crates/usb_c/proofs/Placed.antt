@@ -5,6 +5,7 @@ use Rattle.std.proofs.lemmas.List.{length-map, map_more, set_split}
 use Rattle.std.proofs.lemmas.Slice.{drop-append-drop}
 use Rattle.std.proofs.Math.ListN.{set}
 use Rattle.std.proofs.Math.Seq.{take-append_seam}
+use Rattle.usb_file_data.specs.declared.cause.Found.{Found}
 use Rattle.usb_remarks.specs.Outline.{Described}
 use Rattle.usb_c.specs.Facts.{placed, placed_at}
 
@@ -17,6 +18,14 @@ placed_count (d ∷ ds) =
     let other = length-append d.findings (flat_map (λ d. d.findings) ds) in
     let same = length-map d.findings (placed d) in
     omega (arith, more, one, other, same)
+
+-- where nothing is found, nothing is put
+pub none_placed : (ds : List Described) (found : List Found) → flat_map (λ d. d.findings) ds ≡ found → length found ≡ 0 → flat_map placed_at ds ≡ []
+none_placed ds found is none = length-nil (flat_map placed_at ds) (placed_count ds ∙ ap length is ∙ none)
+  where
+    length-nil : {A : Type 0} (l : List A) → length l ≡ 0 → l ≡ []
+    length-nil [] e = refl
+    length-nil (x ∷ l) e = absurd (omega (arith, e))
 
 -- What f makes of each of xs is put after `filled` items, of which the first i are there: with one more written.
 pub put_one_more : {X A : Type 0} (f : X → A) (xs : List X) (old now : List A) (filled i : ℕ) (x : X) (y : A) → filled + length (map f xs) ≤ length old → i < length xs

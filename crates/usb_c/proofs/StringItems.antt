@@ -1,21 +1,19 @@
 -- The strings of a walk, by what each of its descriptors is and by its bytes.
-use Rattle.std.proofs.Common.{◌≡◌, ◌≤◌, ℕ, ◌+◌, List, [], ◌∷◌, ◌++◌, Bool, true, false, length, map, take, drop, slice_index, Option, Some, None, refl, sym, ap, subst, ◌∙◌, arith, zero, suc}
+use Rattle.std.proofs.Common.{◌≡◌, ◌≤◌, ℕ, ◌+◌, List, [], ◌∷◌, ◌++◌, Bool, true, false, length, map, take, drop, slice_index, Option, refl, ap, ◌∙◌, arith, zero, suc}
 use Rattle.std.specs.Prelude.{fold}
-use Rattle.std.proofs.lemmas.List.{drop-drop, length-take-le}
 use Rattle.usb_walk.specs.declared.position.Position.{Position}
 use Rattle.usb_walk.specs.declared.role.Role.{Role}
 use Rattle.usb_walk.specs.declared.role.Role.TheVariants as roles
-use Rattle.usb_remarks.specs.Numbered.{Numbered, first_numbered, numbered_next, next_position}
+use Rattle.usb_remarks.specs.Numbered.{Numbered, by_position, next_position}
+use Rattle.usb_remarks.specs.Outline.{entries}
+use Rattle.usb_remarks.specs.declared.speed.SetSpeed.{SetSpeed}
+use Rattle.usb_file_data.specs.declared.cause.Found.{Found}
 use Rattle.usb_walk.specs.Positions.{noted, position_at, with_set}
-use Rattle.usb_walk.specs.Roles.{next_role}
-use Rattle.usb_remarks.proofs.NumberedLemmas.{numbered_none, numbered_some}
-use Rattle.usb_remarks.proofs.Outlines.{next_bounds}
-use Rattle.usb_remarks.proofs.Spans.{next_first}
-use Rattle.usb_walk.proofs.Positions.{noted_at, same_at}
 use Rattle.usb_c.specs.declared.descriptor.NzgDescriptor.{NzgDescriptor}
 use Rattle.usb_c.specs.declared.string_place.StringPlace.{StringPlace}
-use Rattle.usb_c.specs.Descriptors.{all_as_numbers, as_numbers, indices_in, indices_of_role, list_at, string_among, with_index}
+use Rattle.usb_c.specs.Descriptors.{all_as_numbers, as_numbers, indices_in, indices_of_role, list_at, nothing, string_among, with_index}
 use Rattle.usb_c.specs.Strings.{IndexedString, strings_among}
+use Rattle.usb_c.proofs.WalkSteps.{Behind, Continues, by_steps, numbered_at}
 
 -- what a descriptor is, and its bytes
 pub record Item : Type 0 where
@@ -120,60 +118,39 @@ named_is : (b : List ℕ) (was : NzgDescriptor) (n : Numbered) → (as_numbers b
 unfolding as_numbers
 named_is b was n = refl
 
-behind_is : (b : List ℕ) (was : NzgDescriptor) (n : Numbered) → (as_numbers b was n).position ≡ next_position n
-unfolding as_numbers
-behind_is b was n = refl
-
 -- ---- all of them
-
-strings_zero : (b : List ℕ) (was : NzgDescriptor) (p : Position) (ahead : List ℕ) (words list : List ℕ) (number : ℕ)
-    → strings_among b (all_as_numbers b was (first_numbered zero p ahead)) ≡ strings_from words list number (map item_of (first_numbered zero p ahead))
-unfolding first_numbered
-strings_zero b was p ahead words list number = refl
 
 -- the strings behind a descriptor
 abbrev strings_behind : List ℕ → NzgDescriptor → List Numbered → List IndexedString
 strings_behind b was ns = strings_from was.named (list_at b was.languages_place) was.position.strings (map item_of ns)
 
-pub strings_same : (n : ℕ) (b : List ℕ) (was : NzgDescriptor) (o : Option (Role × ℕ)) → next_role was.position (drop was.position.at b) ≡ o
-    → let ns = first_numbered n was.position (drop was.position.at b) in strings_among b (all_as_numbers b was ns) ≡ strings_behind b was ns
-strings_same zero b was o is = strings_zero b was was.position (drop was.position.at b) was.named (list_at b was.languages_place) was.position.strings
-strings_same (suc n) b was None is =
-    let none = numbered_none (suc n) was.position (drop was.position.at b) is in
-    ap (λ ns. strings_among b (all_as_numbers b was ns)) none ∙ ap (strings_behind b was) (sym none)
-strings_same (suc n) b was (Some next) is =
+-- the strings of a walk are those of its descriptors by their positions
+abbrev StringsSame : List ℕ → Behind
+StringsSame b n was ns = strings_among b (all_as_numbers b was ns) ≡ strings_behind b was ns
+
+one_more : (b : List ℕ) → Continues b (StringsSame b)
+one_more b n was next ns step later =
     let p = was.position in
     let ahead = drop p.at b in
-    let m = numbered_next p ahead next in
+    let m = numbered_at b p next in
     let d = as_numbers b was m in
-    let q = next_position m in
-    let ns = first_numbered n q (drop next.1 ahead) in
-    let bounds = next_bounds p ahead next is in
-    let taken : length m.bytes ≡ next.1 = length-take-le next.1 ahead bounds.1 in
-    let first : slice_index m.bytes 0 ≡ next.1 = next_first p ahead next is in
-    let place : m.position.at ≡ p.at = same_at next.0 ahead p in
-    let at : q.at ≡ p.at + next.1 = omega (arith, noted_at next.0 m.bytes m.position, place, taken) in
-    let same : d.position ≡ q = behind_is b was m in
-    let after : drop d.position.at b ≡ drop next.1 ahead = ap (λ (q : Position). drop q.at b) same ∙ ap (λ k. drop k b) at ∙ sym (drop-drop next.1 p.at b) in
-    let later : first_numbered n d.position (drop d.position.at b) ≡ ns =
-    ap (λ l. first_numbered n d.position l) after ∙ ap (λ (q : Position). first_numbered n q (drop next.1 ahead)) same in
-    let bytes : take (slice_index m.bytes 0) (drop m.position.at b) ≡ m.bytes = ap (λ k. take k (drop m.position.at b)) first ∙ ap (λ k. take next.1 (drop k b)) place in
-    let head : slice_index ahead 0 ≡ slice_index m.bytes 0 = head_same next.1 ahead bounds.0 in
-    let list : list_at b m.position.at ≡ m.bytes = ap (λ k. list_at b k) place ∙ ap (λ k. take k ahead) (head ∙ first) in
+    let items = map item_of ns in
+    let words = fold with_index was.named (indices_of_role next.0 m.bytes) in
+    let bytes : take (slice_index m.bytes 0) (drop m.position.at b) ≡ m.bytes = ap (λ k. take k (drop m.position.at b)) step.first ∙ ap (λ k. take next.1 (drop k b)) step.place in
+    let list : list_at b m.position.at ≡ m.bytes = ap (λ k. list_at b k) step.place ∙ ap (λ k. take k ahead) (head_same next.1 ahead step.least ∙ step.first) in
     let number : d.position.strings ≡ number_after next.0 p.strings = number_is b was m ∙ ap (number_after next.0) (same_strings next.0 ahead p) in
-    let rest : strings_among b (all_as_numbers b d ns) ≡ strings_behind b d ns =
-    subst (λ ns. strings_among b (all_as_numbers b d ns) ≡ strings_behind b d ns) later (strings_same n b d (next_role d.position (drop d.position.at b)) refl) in
-    let one = numbered_some n p ahead next is in
-    ap (λ ns. strings_among b (all_as_numbers b was ns)) one
-    ∙ here_is next.0 b was m.position m.bytes (all_as_numbers b d ns) bytes
+    here_is next.0 b was m.position m.bytes (all_as_numbers b d ns) bytes
     ∙ ap (λ l. string_here next.0 was.named (list_at b was.languages_place) p.strings m.bytes ++ l)
-    (rest
-    ∙ ap (λ words. strings_from words (list_at b d.languages_place) d.position.strings (map item_of ns)) (named_is b was m)
-    ∙ ap (λ list. strings_from (fold with_index was.named (indices_of_role next.0 m.bytes)) list d.position.strings (map item_of ns)) (list_is next.0 b was m.position m.bytes list)
-    ∙ ap (λ number. strings_from (fold with_index was.named (indices_of_role next.0 m.bytes)) (list_after next.0 m.bytes (list_at b was.languages_place)) number (map item_of ns)) number)
-    ∙ ap (strings_behind b was) (sym one)
+    (later
+    ∙ ap (λ words. strings_from words (list_at b d.languages_place) d.position.strings items) (named_is b was m)
+    ∙ ap (λ list. strings_from words list d.position.strings items) (list_is next.0 b was m.position m.bytes list)
+    ∙ ap (λ number. strings_from words (list_after next.0 m.bytes (list_at b was.languages_place)) number items) number)
   where
     head_same : (n : ℕ) (l : List ℕ) → 2 ≤ n → slice_index l 0 ≡ slice_index (take n l) 0
     head_same zero l some = absurd (omega (arith, some))
     head_same (suc n) [] some = refl
     head_same (suc n) (x ∷ l) some = refl
+
+pub strings_same : (b : List ℕ) (running : Option SetSpeed) (found : List Found)
+    → let ns = map by_position (entries running found b) in strings_among b (all_as_numbers b nothing ns) ≡ strings_behind b nothing ns
+strings_same b running found = by_steps b (StringsSame b) (λ n was none. refl) (one_more b) running found

@@ -20,38 +20,20 @@ use Rattle.usb_walk.specs.declared.position.Position.{Position}
 use Rattle.usb_walk.specs.declared.role.Role.{Role}
 use Rattle.usb_walk.specs.declared.role.Role.TheVariants as roles
 use Rattle.usb_walk.specs.Surroundings.{depth_of}
-use Rattle.usb_remarks.specs.OutlineLaws.{as_in_tree}
-use Rattle.usb_remarks.specs.Numbered.{FactsByPosition, Numbered, facts_by_position, facts_of, first_numbered, next_position, numbered, numbered_next}
-use Rattle.usb_remarks.specs.Outline.{Described, outline}
+use Rattle.usb_remarks.specs.Findings.{part_number}
+use Rattle.usb_remarks.specs.Numbered.{Numbered, by_position, next_position}
+use Rattle.usb_remarks.specs.Outline.{Entry, entries}
 use Rattle.usb_walk.specs.Owners.{of_endpoint, of_interface, of_set, owner_of}
-use Rattle.usb_walk.specs.Positions.{first_position, noted, position_at, with_set}
-use Rattle.usb_walk.specs.Roles.{next_role}
+use Rattle.usb_walk.specs.Positions.{noted, position_at, with_set}
 use Rattle.usb_walk.specs.Trees.{TreeDescriptor, endpoint_descriptors, extra_descriptors, other_descriptors, set_descriptors, setting_descriptors, string_descriptors, text_descriptor, tree_descriptor, tree_descriptors}
-use Rattle.usb_remarks.proofs.NumberedLemmas.{numbered_none, numbered_some, numbers_are_outline}
+use Rattle.usb_remarks.proofs.Outlines.{entry_in_tree, tree_same}
 use Rattle.usb_remarks.proofs.rest.Inputs.{whole_shows}
 use Rattle.usb_remarks.proofs.rest.Steps.{four_parts}
 use Rattle.usb_c.specs.declared.descriptor.NzgDescriptor.{NzgDescriptor}
-use Rattle.usb_c.specs.Descriptors.{all_as_numbers, as_numbers, holder_of_role, nothing, part_of_role, role_number, set_part}
-use Rattle.usb_c.specs.WalkedTrees.{TreeNumbers, WalkIsTree, endpoint_numbers, extra_numbers, numbers_of, other_numbers, part_number, plain_numbers, set_numbers, setting_numbers, string_numbers, tree_numbers}
-use Rattle.usb_c.proofs.Walking.{walk_is_numbered}
-
--- ---- by positions
-
-abbrev by_position : Numbered → TreeNumbers
-by_position n = record {
-  role = role_number n.role;
-  owner = holder_of_role n.role (next_position n);
-  depth = depth_of n.position n.role;
-  part = part_of_role n.role (next_position n).is_other;
-}
-
-numbers_same : (b : List ℕ) (was : NzgDescriptor) (n : Numbered) → numbers_of (as_numbers b was n) ≡ by_position n
-unfolding as_numbers
-numbers_same b was n = refl
-
-all_same : (b : List ℕ) (was : NzgDescriptor) (ns : List Numbered) → map numbers_of (all_as_numbers b was ns) ≡ map by_position ns
-all_same b was [] = refl
-all_same b was (n ∷ ns) = ap₂ ◌∷◌ (numbers_same b was n) (all_same b (as_numbers b was n) ns)
+use Rattle.usb_c.specs.Descriptors.{all_as_numbers, as_numbers, holder_of_role, nothing, part_of_role, role_number}
+use Rattle.usb_c.specs.WalkedTrees.{TreeNumbers, WalkIsTree, endpoint_numbers, extra_numbers, numbers_of, other_numbers, plain_numbers, set_numbers, setting_numbers, string_numbers, tree_numbers}
+use Rattle.usb_c.proofs.WalkSteps.{Behind, Continues, by_steps, numbered_at}
+use Rattle.usb_c.proofs.Walking.{walk_is_outline}
 
 -- ---- along the descriptors of a tree
 
@@ -87,10 +69,6 @@ along k (d ∷ ds) = numbers_at k d ∷ along (behind d.role k) ds
 abbrev pub by_tree : Numbered → TreeDescriptor
 by_tree n = tree_descriptor n.role (depth_of n.position n.role) (owner_of n.position n.role n.bytes) n.bytes
 
-same_part : (other : Bool) → set_part other ≡ part_number (if other then parts.Other else parts.Main)
-same_part true = refl
-same_part false = refl
-
 still_other : (other : Bool) (p : Position) → (with_set other p).is_other ≡ p.is_other
 still_other true p = refl
 still_other false p = refl
@@ -104,16 +82,16 @@ abbrev at_role : Role → List ℕ → List ℕ → Position → Numbered
 at_role role bytes ahead p = record { position = position_at role ahead p; role = role; bytes = bytes }
 
 part_same : (role : Role) (bytes ahead : List ℕ) (p : Position)
-    → (let n = at_role role bytes ahead p in part_of_role role (next_position n).is_other ≡ part_by role (owner_of n.position role bytes))
+    → (let n = at_role role bytes ahead p in part_of_role role (next_position n) ≡ part_by role (owner_of n.position role bytes))
 unfolding noted owner_of
 part_same roles.Device bytes ahead p = refl
 part_same roles.Qualifier bytes ahead p = refl
 part_same roles.Configuration bytes ahead p =
-    let q = position_at roles.Configuration ahead p in ap set_part (still_other q.is_other q) ∙ same_part q.is_other
-part_same roles.Association bytes ahead p = same_part p.is_other
-part_same roles.Interface bytes ahead p = same_part p.is_other
-part_same roles.Endpoint bytes ahead p = same_part p.is_other
-part_same roles.Raw bytes ahead p = same_part p.is_other
+    let q = position_at roles.Configuration ahead p in ap (λ other. part_number (if other then parts.Other else parts.Main)) (still_other q.is_other q)
+part_same roles.Association bytes ahead p = refl
+part_same roles.Interface bytes ahead p = refl
+part_same roles.Endpoint bytes ahead p = refl
+part_same roles.Raw bytes ahead p = refl
 part_same roles.Languages bytes ahead p = refl
 part_same roles.Text bytes ahead p = refl
 
@@ -141,47 +119,32 @@ below_after roles.Raw bytes ahead p = refl
 below_after roles.Languages bytes ahead p = refl
 below_after roles.Text bytes ahead p = refl
 
-one_same : (role : Role) (bytes ahead : List ℕ) (p : Position) → by_position (at_role role bytes ahead p) ≡ numbers_at p.below (by_tree (at_role role bytes ahead p))
-one_same role bytes ahead p =
-    let n = at_role role bytes ahead p in
-    ap (λ k. record { role = role_number role; owner = k; depth = depth_of n.position role; part = part_of_role role (next_position n).is_other }) (owner_same role bytes ahead p)
-    ∙ ap (λ k. record { role = role_number role; owner = owner_by role p.below; depth = depth_of n.position role; part = k }) (part_same role bytes ahead p)
+-- the numbers of a walk are those along the descriptors of a tree
+abbrev NumbersAlong : List ℕ → Behind
+NumbersAlong b n was ns = map numbers_of (all_as_numbers b was ns) ≡ along was.position.below (map by_tree ns)
 
-zero_same : (p : Position) (ahead : List ℕ) → map by_position (first_numbered zero p ahead) ≡ along p.below (map by_tree (first_numbered zero p ahead))
-unfolding first_numbered
-zero_same p ahead = refl
-
-numbered_along : (n : ℕ) (p : Position) (ahead : List ℕ) (o : Option (Role × ℕ)) → next_role p ahead ≡ o
-    → map by_position (first_numbered n p ahead) ≡ along p.below (map by_tree (first_numbered n p ahead))
-numbered_along zero p ahead o e = zero_same p ahead
-numbered_along (suc n) p ahead None e =
-    ap (λ l. map by_position l) (numbered_none (suc n) p ahead e) ∙ sym (ap (λ l. along p.below (map by_tree l)) (numbered_none (suc n) p ahead e))
-numbered_along (suc n) p ahead (Some next) e =
-    let m = numbered_next p ahead next in
+one_more : (b : List ℕ) → Continues b (NumbersAlong b)
+unfolding as_numbers
+one_more b n was next ns step later =
+    let p = was.position in
+    let role = next.0 in
+    let m = numbered_at b p next in
     let q = next_position m in
-    let rest = drop next.1 ahead in
-    let later = map by_tree (first_numbered n q rest) in
-    ap (λ l. map by_position l) (numbered_some n p ahead next e)
-    ∙ ap₂ ◌∷◌ (one_same next.0 m.bytes ahead p) (numbered_along n q rest (next_role q rest) refl ∙ ap (λ k. along k later) (below_after next.0 m.bytes ahead p))
-    ∙ sym (ap (λ l. along p.below (map by_tree l)) (numbered_some n p ahead next e))
+    let depth = depth_of m.position role in
+    let one : numbers_of (as_numbers b was m) ≡ numbers_at p.below (by_tree m) =
+    ap (λ k. record { role = role_number role; owner = k; depth = depth; part = part_of_role role q }) (owner_same role m.bytes (drop p.at b) p)
+    ∙ ap (λ k. record { role = role_number role; owner = owner_by role p.below; depth = depth; part = k }) (part_same role m.bytes (drop p.at b) p) in
+    ap₂ ◌∷◌ one (later ∙ ap (λ k. along k (map by_tree ns)) (below_after role m.bytes (drop p.at b) p))
 
 -- ---- those of an input
 
-abbrev by_facts : FactsByPosition → TreeDescriptor
-by_facts f = tree_descriptor f.role f.depth f.owner f.bytes
+entries_in_tree : (es : List Entry) → map by_tree (map by_position es) ≡ map entry_in_tree es
+entries_in_tree [] = refl
+entries_in_tree (e ∷ es) = ap (λ l. entry_in_tree e ∷ l) (entries_in_tree es)
 
-facts_by_tree : (ns : List Numbered) → map by_tree ns ≡ map by_facts (map facts_by_position ns)
-facts_by_tree [] = refl
-facts_by_tree (n ∷ ns) = ap (λ l. by_tree n ∷ l) (facts_by_tree ns)
-
-facts_in_tree : (ds : List Described) → map by_facts (map facts_of ds) ≡ map as_in_tree ds
-facts_in_tree [] = refl
-facts_in_tree (d ∷ ds) = ap (λ l. as_in_tree d ∷ l) (facts_in_tree ds)
-
-pub numbered_tree : (input : Input) (b : List ℕ) → IsInput input b → map by_tree (numbered b) ≡ tree_descriptors input
+pub numbered_tree : (input : Input) (b : List ℕ) → IsInput input b → map by_tree (map by_position (entries None (found_in_order input) b)) ≡ tree_descriptors input
 numbered_tree input b is =
-    let found = found_in_order input in
-    facts_by_tree (numbered b) ∙ ap (λ l. map by_facts l) (numbers_are_outline None found b) ∙ facts_in_tree (outline None found b) ∙ whole_shows None input b is
+    let es = entries None (found_in_order input) b in entries_in_tree es ∙ sym (tree_same None es) ∙ whole_shows None input b is
 
 -- ---- the numbers of a tree
 
@@ -292,5 +255,6 @@ tree_along (inputs.Dump f) = ap (λ l. plain_numbers roles.Device 0 0 ∷ l) (se
 
 pub walk_is_tree : WalkIsTree
 walk_is_tree input b is =
-    ap (λ l. map numbers_of l) (walk_is_numbered b) ∙ all_same b nothing (numbered b)
-    ∙ numbered_along (length b) first_position b (next_role first_position b) refl ∙ ap (along 0) (numbered_tree input b is) ∙ tree_along input
+    let found = found_in_order input in
+    ap (λ l. map numbers_of l) (walk_is_outline None found b) ∙ by_steps b (NumbersAlong b) (λ n was none. refl) (one_more b) None found
+    ∙ ap (along 0) (numbered_tree input b is) ∙ tree_along input

@@ -1,15 +1,21 @@
 -- Descriptors as numbers, and the walk from one to the next.
-use Rattle.std.specs.Prelude.{◌≡◌, ◌≤◌, ℕ, zero, suc, ◌+◌, ◌-◌, ◌*◌, ◌/◌, ◌%◌, ◌^◌, ◌==◌, ◌&&◌, nat_le, nat_lt, List, [], ◌∷◌, length, fold, filter, take, drop, slice_index, slice_set, Bool, Option, Some, None, unwrap_or, if◌then◌else◌}
+use Rattle.std.specs.Prelude.{◌≡◌, ◌≤◌, ℕ, zero, suc, ◌+◌, ◌-◌, ◌*◌, ◌/◌, ◌%◌, ◌^◌, ◌==◌, ◌&&◌, nat_le, nat_lt, List, [], ◌∷◌, length, fold, filter, map, take, drop, slice_index, slice_set, Bool, Option, Some, None, unwrap_or, if◌then◌else◌}
 use Rattle.std.specs.Int.RustNames.{bit_or}
 use Rattle.std.specs.List.{range_with_len}
 use Rattle.std.specs.Option.{option_map}
 use Rattle.usb_fields.specs.Bytes.{little_endian_at}
+use Rattle.usb_file_data.specs.declared.cause.Found.{Found}
 use Rattle.usb_fields.specs.Marks.{is_marked}
+use Rattle.usb_set.specs.Descriptors.{packet_size_of, transactions_of}
 use Rattle.usb_walk.specs.declared.position.Position.{Position}
 use Rattle.usb_walk.specs.declared.role.Role.{Role}
 use Rattle.usb_walk.specs.declared.role.Role.TheVariants as roles
+use Rattle.usb_walk.specs.Owners.{part_in}
 use Rattle.usb_walk.specs.Surroundings.{depth_of}
-use Rattle.usb_remarks.specs.Numbered.{Numbered, numbered, numbered_next, next_position}
+use Rattle.usb_remarks.specs.Findings.{part_number}
+use Rattle.usb_remarks.specs.Numbered.{Numbered, by_position, next_position, numbered_next}
+use Rattle.usb_remarks.specs.Outline.{entries}
+use Rattle.usb_remarks.specs.declared.speed.SetSpeed.{SetSpeed}
 use Rattle.usb_walk.specs.Positions.{first_position}
 use Rattle.usb_walk.specs.Roles.{next_role}
 use Rattle.usb_c.specs.declared.descriptor.NzgDescriptor.{NzgDescriptor}
@@ -29,17 +35,13 @@ role_number roles.Qualifier = 7
 role_number roles.Languages = 8
 role_number roles.Text = 9
 
--- the part of a set: 1 those of the device, 2 those of the other speed
-abbrev pub set_part : Bool → ℕ
-set_part is_other = if is_other then 2 else 1
-
 -- the part of a descriptor of this role: the qualifier's is that of the sets after it, and of what is in no set 0
-abbrev pub part_of_role : Role → Bool → ℕ
-part_of_role roles.Device is_other = 0
-part_of_role roles.Qualifier is_other = 2
-part_of_role roles.Languages is_other = 0
-part_of_role roles.Text is_other = 0
-part_of_role role is_other = set_part is_other
+abbrev pub part_of_role : Role → Position → ℕ
+part_of_role roles.Device p = 0
+part_of_role roles.Qualifier p = 2
+part_of_role roles.Languages p = 0
+part_of_role roles.Text p = 0
+part_of_role role p = part_number (part_in p)
 
 -- the role of what an association and a raw descriptor belong to, which is the depth below it: 2 a configuration, 3 an
 -- interface, 4 an endpoint; others are no extras
@@ -96,11 +98,27 @@ abbrev pub languages_at : Role → ℕ → ℕ → ℕ
 languages_at roles.Languages at was = at
 languages_at role at was = was
 
--- what belongs to a descriptor of this role alone, where the position is after it
+-- a number of an endpoint, and 0 of any other descriptor
+abbrev pub of_endpoint : Role → ℕ → ℕ
+of_endpoint roles.Endpoint n = n
+of_endpoint role n = 0
+
+-- with what an endpoint says of itself; 0 transactions where bits 12 and 11 of wMaxPacketSize are reserved (USB 2.0, 9.6.6)
+abbrev pub with_endpoint : Role → List ℕ → NzgDescriptor → NzgDescriptor
+with_endpoint role d it =
+    let max_packet = little_endian_at d 4 in
+    record it {
+      attributes = of_endpoint role (slice_index d 3);
+      packet = of_endpoint role (packet_size_of max_packet);
+      transactions = of_endpoint role (unwrap_or (transactions_of max_packet) 0);
+      interval = of_endpoint role (slice_index d 6);
+    }
+
+-- with what belongs to a descriptor of this role alone, where the position is after it
 abbrev pub with_role : Role → List ℕ → NzgDescriptor → NzgDescriptor
 with_role role d it = record it {
   owner = holder_of_role role it.position;
-  part = part_of_role role it.position.is_other;
+  part = part_of_role role it.position;
   named = fold with_index it.named (indices_of_role role d);
   languages_place = languages_at role it.place it.languages_place;
 }
@@ -108,24 +126,19 @@ with_role role d it = record it {
 -- a descriptor of these bytes at its position, after another one
 unfoldable pub as_numbers : List ℕ → NzgDescriptor → Numbered → NzgDescriptor
 as_numbers b was n =
-    let p = n.position in
     let q = next_position n in
     let string = string_of_role n.role b was in
-    record {
-      place = p.at;
-      languages_place = languages_at n.role p.at was.languages_place;
+    with_role n.role n.bytes (with_endpoint n.role n.bytes (record was {
+      place = n.position.at;
       endpoint_number = q.endpoints - 1;
-      named = fold with_index was.named (indices_of_role n.role n.bytes);
       language = string.language;
       length = slice_index n.bytes 0;
       kind = slice_index n.bytes 1;
       role = role_number n.role;
-      owner = holder_of_role n.role q;
-      depth = depth_of p n.role;
-      part = part_of_role n.role q.is_other;
+      depth = depth_of n.position n.role;
       index = string.index;
       position = q;
-    }
+    }))
 
 -- The walk.
 
@@ -164,6 +177,7 @@ nothing = record {
   endpoint_number = 0;
   named = 0 ∷ 0 ∷ 0 ∷ 0 ∷ [];
   language = 0;
+  packet = 0;
   length = 0;
   kind = 0;
   role = 0;
@@ -171,6 +185,9 @@ nothing = record {
   depth = 0;
   part = 0;
   index = 0;
+  attributes = 0;
+  transactions = 0;
+  interval = 0;
   position = first_position;
 }
 
@@ -188,6 +205,8 @@ abbrev pub all_as_numbers : List ℕ → NzgDescriptor → List Numbered → Lis
 all_as_numbers b was [] = []
 all_as_numbers b was (n ∷ ns) = as_numbers b was n ∷ all_as_numbers b (as_numbers b was n) ns
 
--- the walk from the first descriptor on is that over the positions of the bytes, which is their outline
-abbrev pub WalkIsNumbered : Type 0
-WalkIsNumbered = (b : List ℕ) → walked b ≡ all_as_numbers b nothing (numbered b)
+-- the walk from the first descriptor on has the descriptors of the outline, whatever is known of the bytes beside: each as the
+-- numbers of its position
+abbrev pub WalkIsOutline : Type 0
+WalkIsOutline =
+    (running : Option SetSpeed) (found : List Found) (b : List ℕ) → walked b ≡ all_as_numbers b nothing (map by_position (entries running found b))

@@ -1,9 +1,14 @@
 -- What calls do to a host that C holds, or to none, and its outcome.
-use Rattle.std.specs.Prelude.{◌≡◌, ℕ, ◌⊎◌, List, Option, Some, None, Result, Ok, Err, Bool, true, false}
+use Rattle.std.specs.Prelude.{◌≡◌, ℕ, ◌⊎◌, ◌==◌, if◌then◌else◌, List, Option, Some, None, Result, Ok, Err, Bool, true, false, slice_get}
+use Rattle.std.specs.Option.{option_map}
 use Rattle.usb_file_data.specs.File.{File, write_refusal}
 use Rattle.usb_file_data.specs.declared.refusal.WriteFault.{WriteFault}
+use Rattle.usb_file_data.specs.declared.refusal.WriteFault.TheVariants as writes
 use Rattle.usb_file_data.specs.declared.file.DescriptorFile.{DescriptorFile}
 use Rattle.usb_host.specs.Why.{why_number}
+use Rattle.usb_host.specs.declared.choice.Choice.{Choice}
+use Rattle.usb_host.specs.declared.choice.NamedStrings.{NamedStrings}
+use Rattle.usb_host.specs.declared.choice.NamedStrings.TheVariants as texts
 use Rattle.usb_host.specs.declared.step.Step.{Step}
 use Rattle.usb_host.specs.declared.step.Step.TheVariants as steps
 use Rattle.usb_host.specs.declared.step.Trouble.{Trouble}
@@ -19,7 +24,8 @@ use Rattle.usb_host.specs.Limits.{limit_fault, limit_fault_number}
 use Rattle.usb_host.specs.declared.limits.LimitFault.{LimitFault}
 use Rattle.usb_fields.specs.Setup.{setup_bytes}
 use Rattle.usb_host.specs.Order.{step_of}
-use Rattle.usb_host.specs.Steps.{HostPhase, HostView, ResetDue, Reading, Ended, Takes, Wanted, WantsNothing, WantsReset, WantsSent, new_host, outcome_of}
+use Rattle.usb_host.specs.Steps.{HostPhase, HostView, ResetDue, Reading, Ended, Takes, Wanted, WantsNothing, WantsReset, WantsSent, chosen_host, outcome_of}
+use Rattle.usb_host.specs.Terms.{IsUnread, everything}
 use Rattle.usb_host.specs.Transfer.{TransferView}
 use Rattle.usb_device.specs.declared.transaction.NzgTransaction.{NzgTransaction}
 use Rattle.usb_device.specs.Transactions.{transaction_of}
@@ -53,12 +59,20 @@ pub record PutsFile (f : DescriptorFile) (old new : List ℕ) (verdict : Verdict
   pub file : File f bytes
   pub fills : Fills verdicts.Done bytes old new verdict
 
--- or the file has none, and this is why; or out of memory
+-- or those of what was read without the strings that it names, which were not asked for
+pub record PutsUnread (f : DescriptorFile) (old new : List ℕ) (verdict : Verdict) : Type 0 where
+  pub bytes : List ℕ
+  pub names : write_refusal f ≡ Some writes.Texts
+  pub unread : IsUnread f bytes
+  pub fills : Fills verdicts.Done bytes old new verdict
+
+-- or there are none, and this is why; or out of memory
 abbrev pub TellsFile : DescriptorFile → List ℕ → List ℕ → Verdict → Type 0
 TellsFile f old new verdict =
     PutsFile f old new verdict
+    ⊎ (PutsUnread f old new verdict
     ⊎ (((why : WriteFault) × (verdict ≡ verdicts.Unwritten why) × (write_refusal f ≡ Some why) × (new ≡ old))
-    ⊎ ((verdict ≡ verdicts.NoMemory) × (new ≡ old)))
+    ⊎ ((verdict ≡ verdicts.NoMemory) × (new ≡ old))))
 
 -- the outcome: none yet, or the file, or the trouble. What isn't reported stays.
 abbrev pub EndsWith : Option (Result DescriptorFile Trouble) → NzgTrouble → NzgTrouble → List ℕ → List ℕ → Verdict → Type 0
@@ -69,19 +83,34 @@ EndsWith (Some (Err trouble)) told now old new verdict =
 
 -- What calls do to a host that C holds, or to none.
 
--- limits that are refused, or a new host with these limits, or out of memory
-abbrev pub HostOpensAt : ℕ → ℕ → ℕ → Speed → Option HostView → Verdict → Type 0
-HostOpensAt address naks attempts speed new (verdicts.Done length) =
-    (length ≡ 0) × (limit_fault address attempts ≡ None)
-    × (new ≡ Some (new_host (record { address = address; naks = naks; attempts = attempts }) speed))
-HostOpensAt address naks attempts speed new (verdicts.BadArgument number) =
-    ((fault : LimitFault) × (limit_fault address attempts ≡ Some fault) × (number ≡ limit_fault_number fault)) × (new ≡ None)
-HostOpensAt address naks attempts speed new verdicts.NoMemory = new ≡ None
-HostOpensAt address naks attempts speed new verdict = ⊥
+-- what becomes of the strings that are named, by its number
+abbrev pub strings_told : ℕ → Option NamedStrings
+strings_told number =
+    if number == 0 then Some texts.Needed else if number == 1 then Some texts.Wanted else if number == 2 then Some texts.Skipped else None
 
+-- what is asked for
+abbrev pub choice_told : ℕ → Bool → Option Choice
+choice_told number other_speed = option_map (λ strings. record { strings = strings; other_speed = other_speed }) (strings_told number)
+
+-- limits that are refused, or a new host with these limits that asks for so much, or out of memory
+abbrev pub HostOpensAt : ℕ → ℕ → ℕ → Speed → Choice → Option HostView → Verdict → Type 0
+HostOpensAt address naks attempts speed choice new (verdicts.Done length) =
+    (length ≡ 0) × (limit_fault address attempts ≡ None)
+    × (new ≡ Some (chosen_host (record { address = address; naks = naks; attempts = attempts }) speed choice))
+HostOpensAt address naks attempts speed choice new (verdicts.BadArgument number) =
+    ((fault : LimitFault) × (limit_fault address attempts ≡ Some fault) × (number ≡ limit_fault_number fault)) × (new ≡ None)
+HostOpensAt address naks attempts speed choice new verdicts.NoMemory = new ≡ None
+HostOpensAt address naks attempts speed choice new verdict = ⊥
+
+-- a number of the speed, and then one of the strings, that has no meaning is refused first
+abbrev pub HostOpensFor : ℕ → ℕ → ℕ → Option Speed → Option Choice → Option HostView → Verdict → Type 0
+HostOpensFor address naks attempts None choice new verdict = (verdict ≡ verdicts.BadArgument 3) × (new ≡ None)
+HostOpensFor address naks attempts (Some speed) None new verdict = (verdict ≡ verdicts.BadArgument 14) × (new ≡ None)
+HostOpensFor address naks attempts (Some speed) (Some choice) new verdict = HostOpensAt address naks attempts speed choice new verdict
+
+-- the same of a host that asks for all of a file
 abbrev pub HostOpens : ℕ → ℕ → ℕ → Option Speed → Option HostView → Verdict → Type 0
-HostOpens address naks attempts None new verdict = (verdict ≡ verdicts.BadArgument 3) × (new ≡ None)
-HostOpens address naks attempts (Some speed) new verdict = HostOpensAt address naks attempts speed new verdict
+HostOpens address naks attempts speed new verdict = HostOpensFor address naks attempts speed (Some everything) new verdict
 
 -- what is wanted, as a number
 abbrev pub action_number : Option Wanted → ℕ
@@ -121,6 +150,11 @@ abbrev pub asked_in : HostPhase → Option NzgStep
 asked_in ResetDue = None
 asked_in (Reading place t kept) = Some (asked_numbers (step_of place) t)
 asked_in (Ended place) = None
+
+-- the trouble of this number that was passed over since the last bus reset
+abbrev pub forgiven_in : Option HostView → ℕ → Option Trouble
+forgiven_in None number = None
+forgiven_in (Some v) number = slice_get v.forgiven number
 
 -- the bus resets so far
 abbrev pub resets_of : Option HostView → ℕ

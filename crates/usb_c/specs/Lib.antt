@@ -9,7 +9,6 @@ pub mod Enumerations
 pub mod Explaining
 pub mod Facts
 pub mod FieldLists
-pub mod Found
 pub mod FromText
 pub mod Hosts
 pub mod Remarks

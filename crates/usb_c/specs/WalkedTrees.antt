@@ -9,13 +9,12 @@ use Rattle.usb_file_data.specs.declared.file.Input.{Input}
 use Rattle.usb_file_data.specs.declared.file.Input.TheVariants as inputs
 use Rattle.usb_file_data.specs.declared.file.Other.{Other}
 use Rattle.usb_file_data.specs.declared.file.Strings.{Strings}
-use Rattle.usb_file_data.specs.declared.finding.Part.{Part}
-use Rattle.usb_file_data.specs.declared.finding.Part.TheVariants as parts
 use Rattle.usb_file_data.specs.Findings.{part_of_kind}
 use Rattle.usb_file_data.specs.Inputs.{IsInput}
 use Rattle.usb_walk.specs.declared.role.Role.{Role}
 use Rattle.usb_walk.specs.declared.role.Role.TheVariants as roles
 use Rattle.usb_walk.specs.Trees.{extra_depth, extra_role}
+use Rattle.usb_remarks.specs.Findings.{part_number}
 use Rattle.usb_c.specs.declared.descriptor.NzgDescriptor.{NzgDescriptor}
 use Rattle.usb_c.specs.Descriptors.{role_number, walked}
 
@@ -35,12 +34,6 @@ abbrev pub plain_numbers : Role → ℕ → ℕ → TreeNumbers
 plain_numbers role depth part = record { role = role_number role; owner = 0; depth = depth; part = part }
 
 -- The numbers of a tree.
-
--- the part of a set: 1 those of the device, 2 those of the other speed
-abbrev pub part_number : Part → ℕ
-part_number parts.Device = 0
-part_number parts.Main = 1
-part_number parts.Other = 2
 
 -- an extra of an owner of this role, whose number is the depth below it too
 abbrev pub extra_numbers : ℕ → Role → Extra → TreeNumbers

@@ -1,4 +1,3 @@
 pub mod Refusals
 pub mod Taking
 pub mod Owning
-pub mod Seeking

@@ -55,7 +55,7 @@ pub enum Verdict {
     Closed,
     /// A number has no meaning: 1 the address, 2 the attempts, 3 the speed, 4 a fate, 5 a rule, 6 no string, 7 a packet size,
     /// 8 a reply, 9 a request without data to the device, 10 data that are not wLength bytes, 11 numbers that are none of a
-    /// transfer, 12 no packet, 13 no finding, remark, fault or trouble that there is.
+    /// transfer, 12 no packet, 13 no finding, remark, fault or trouble that there is, 14 what becomes of strings.
     BadArgument(u8),
     /// The enumeration ended without success.
     Trouble(Trouble),

@@ -16,6 +16,8 @@ pub struct NzgDescriptor {
     pub named: [u64; 4],
     /// The language of a string.
     pub language: u16,
+    /// Of an endpoint bits 10 to 0 of wMaxPacketSize: the most bytes of data in a packet (USB 2.0, 9.6.6).
+    pub packet: u16,
     /// bLength.
     pub length: u8,
     /// bDescriptorType.
@@ -30,6 +32,12 @@ pub struct NzgDescriptor {
     pub part: u8,
     /// The index of a string.
     pub index: u8,
+    /// Of an endpoint bmAttributes.
+    pub attributes: u8,
+    /// Of an endpoint its transactions in a microframe by bits 12 and 11 of wMaxPacketSize: 1 to 3, and 0 where those are reserved.
+    pub transactions: u8,
+    /// Of an endpoint bInterval.
+    pub interval: u8,
     /// The position after it, with its set and its setting.
     pub position: Position,
 }

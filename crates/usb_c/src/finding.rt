@@ -67,11 +67,14 @@ fn find_in(alloc: Global, input: &Input, bytes: &[u8], out: &mut [NzgFinding]) -
 }
 
 /// Puts the findings that stand at the descriptors, which are all of these.
-#[tactic(auto, using(crate::proofs::Placed::placed_count))]
+#[tactic(auto, using(crate::proofs::Placed::placed_count, crate::proofs::Placed::none_placed))]
 fn put_found(bytes: &[u8], found: &[Found], out: &mut [NzgFinding]) -> Verdict
     requires { flat_map (λ d. d.findings) (outline None found.now bytes.now) ≡ found.now }
     ensures { Fills verdicts.Done (flat_map placed_at (outline None found.now bytes.now)) out.old out.new result }
 {
+    if found.is_empty() {
+        return Verdict::Done(0);
+    }
     if out.len() < found.len() {
         return Verdict::NoRoom(found.len());
     }

@@ -4,20 +4,20 @@ ghost use Rattle.std.specs.Option.{option_and_then, option_map};
 ghost use Rattle.usb_fields.specs.Packets.{Sent};
 ghost use Rattle.usb_host.specs.Steps.{WantsSent, reset, wanted};
 ghost use Rattle.usb_c.specs.Answers.{AnswersOn};
-ghost use Rattle.usb_c.specs.Hosts.{Ends, HostOpens, HostOpensAt, TakesOne, action_number, asked_in, resets_of, transaction_due};
+ghost use Rattle.usb_c.specs.Hosts.{Ends, HostOpens, TakesOne, action_number, asked_in, resets_of, transaction_due};
 ghost use Rattle.usb_device.specs.Transactions.{reply_told, sent_told, speed_told};
 
 use crate::answer::{Answer, Verdict};
 use crate::host_handle::NzgHost;
+use crate::host_opening::open;
 use crate::outcome::{NzgTrouble, tell_outcome};
 use crate::step::{NzgStep, tell_step};
 use std::alloc::Global;
 use std::mem::replace;
 use usb_device::{NzgTransaction, answer_of, speed_of, told};
-use usb_fields::Speed;
-use usb_host::{Action, Host, Limits};
+use usb_host::{Action, Choice};
 
-/// Opens a host that has done nothing. One that is held already is freed.
+/// Opens a host that has done nothing, and asks for all that a descriptor file has. One that is held already is freed.
 #[unsafe(no_mangle)]
 pub extern "C" fn nzg_host_open(
     alloc: Global,
@@ -29,35 +29,8 @@ pub extern "C" fn nzg_host_open(
 ) -> Answer
     ensures { AnswersOn (HostOpens address naks attempts (speed_told speed) host.new.held) result }
 {
-    *host = NzgHost::empty(alloc);
-    match speed_of(speed) {
-        Some(speed) => open_at(alloc, host, address, naks, attempts, speed).answer(),
-        None => Verdict::BadArgument(3).answer(),
-    }
-}
-
-fn open_at(
-    alloc: Global,
-    host: &mut NzgHost,
-    address: u8,
-    naks: u16,
-    attempts: u8,
-    speed: Speed,
-) -> Verdict
-    requires { host.old.held ≡ None }
-    ensures { HostOpensAt address naks attempts speed host.new.held result }
-{
-    let limits = match Limits::new(address, naks, attempts) {
-        Ok(limits) => limits,
-        Err(fault) => return Verdict::BadArgument(fault.number()),
-    };
-    match Box::new(alloc, Host::new(alloc, limits, speed)) {
-        Ok(held) => {
-            *host = NzgHost::of(held);
-            Verdict::Done(0)
-        }
-        Err(_) => Verdict::NoMemory,
-    }
+    let (speed, choice) = (speed_of(speed), Some(Choice::everything()));
+    open(alloc, host, address, naks, attempts, speed, choice).answer()
 }
 
 /// What is due: 0 a bus reset, 1 the transaction, 2 nothing, since there is an outcome; 3 where none is held. An OUT has no

@@ -1,5 +1,5 @@
 //! What holds of descriptors and troubles as numbers. The functions of these laws do nothing: their contracts are the laws.
-ghost use Rattle.usb_c.specs.Descriptors.{AllGoOn, WalkIsNumbered};
+ghost use Rattle.usb_c.specs.Descriptors.{AllGoOn, WalkIsOutline};
 ghost use Rattle.usb_c.specs.FieldLists.{AllByNumber};
 ghost use Rattle.usb_c.specs.Strings.{WalkHasStrings, WalkIsAsExplained};
 ghost use Rattle.usb_c.specs.WalkedEndpoints.{WalkHasEndpoints};
@@ -10,7 +10,7 @@ ghost use Rattle.usb_c.specs.Words.{TroublesAreTold};
 /// `usb_remarks::laws` that is each byte once and in order, of a set, a file or a dump to its end, of other bytes up to their
 /// fault, with the roles, depths and owners of the tree.
 pub fn a_walk_is_the_outline()
-    ensures { WalkIsNumbered }
+    ensures { WalkIsOutline }
 {}
 
 /// Of a set, a file or a dump `nzg_next` gives, from `{0}` on, the descriptors of its tree in their order: each with its role, its

@@ -9,7 +9,7 @@
 //! memory: `specs/Descriptors.antt`, `specs/DescriptorFields.antt`. [`laws`] says which descriptors those are. So are a transfer and a
 //! write: `specs/Transfers.antt`, `specs/Writes.antt`.
 //!
-//! `nzg_find` is what stands first among any bytes, whole sets and device descriptors: `specs/Found.antt`.
+//! `nzg_find` is what stands first among any bytes, whole sets and device descriptors, and `nzg_find_all` all of it: `usb_find`.
 //!
 //! `nzg_packet_parse` and `nzg_packet_write` are packets of the bus from PID to CRC: `specs/BusPackets.antt`.
 //!
@@ -37,7 +37,9 @@ mod finding;
 mod finding_text;
 mod from_text;
 mod host;
+mod host_forgiven;
 mod host_handle;
+mod host_opening;
 mod judging;
 pub mod laws;
 mod loose;
@@ -74,7 +76,7 @@ pub use enumeration::NzgOutcome;
 pub use enumeration_log::nzg_enumerate_log;
 pub use fault_text::nzg_fault_text;
 pub use fields::{nzg_field_named, nzg_fields};
-pub use find::{NzgFound, nzg_find};
+pub use find::{nzg_find, nzg_find_all};
 pub use finding::{NzgFinding, nzg_findings, nzg_rule};
 pub use finding_text::nzg_finding_text;
 pub use from_text::nzg_from_text;
@@ -82,7 +84,9 @@ pub use host::{
     nzg_host_attempts, nzg_host_close, nzg_host_next, nzg_host_open, nzg_host_outcome,
     nzg_host_reset_done, nzg_host_step, nzg_host_take,
 };
+pub use host_forgiven::nzg_host_forgiven;
 pub use host_handle::NzgHost;
+pub use host_opening::nzg_host_open_with;
 pub use judging::nzg_judge;
 pub use outcome::NzgTrouble;
 pub use packet::{NzgPacketFields, nzg_crc5, nzg_crc16, nzg_packet_parse, nzg_packet_write};

@@ -1,12 +1,14 @@
 //! The outcome of a host.
-ghost use Rattle.std.specs.Prelude.{◌≡◌};
+ghost use Rattle.std.specs.Prelude.{◌≡◌, None, Some};
+ghost use Rattle.usb_file_data.specs.File.{write_refusal};
+ghost use Rattle.usb_file_data.specs.declared.refusal.WriteFault.TheVariants as writes;
 ghost use Rattle.usb_host.specs.Steps.{outcome_of};
 ghost use Rattle.usb_c.specs.Hosts.{EndsWith, TellsFile, numbered, step_numbers, trouble_numbers};
 
 use crate::answer::Verdict;
 use crate::buffer::fill_done;
 use std::alloc::Global;
-use usb_file::{DescriptorFile, WriteFault, write_file};
+use usb_file::{DescriptorFile, WriteFault, write_file, write_without_strings};
 use usb_host::{Host, Step, Trouble};
 
 /// Why an enumeration ended without success.
@@ -42,11 +44,27 @@ pub(crate) fn tell_outcome(
     }
 }
 
+/// Reports the bytes of a file that was read, or of one whose strings were not asked for.
 #[tactic(auto, using(crate::proofs::Reasons::written_reason))]
 fn tell_file(alloc: Global, file: &DescriptorFile, out: &mut [u8]) -> Verdict
     ensures { TellsFile file.now out.old out.new result }
 {
     match write_file(alloc, file) {
+        Ok(bytes) => fill_done(bytes.as_slice(), out),
+        Err(WriteFault::Memory) => Verdict::NoMemory,
+        Err(WriteFault::Texts) if file.strings.is_none() => tell_unread(alloc, file, out),
+        Err(why) => Verdict::Unwritten(why),
+    }
+}
+
+/// Reports the bytes of a file without the strings that it names.
+#[tactic(auto, using(crate::proofs::Reasons::unread_reason))]
+fn tell_unread(alloc: Global, file: &DescriptorFile, out: &mut [u8]) -> Verdict
+    requires none { file.now.strings ≡ None }
+    requires named { write_refusal file.now ≡ Some writes.Texts }
+    ensures { TellsFile file.now out.old out.new result }
+{
+    match write_without_strings(alloc, file) {
         Ok(bytes) => fill_done(bytes.as_slice(), out),
         Err(WriteFault::Memory) => Verdict::NoMemory,
         Err(why) => Verdict::Unwritten(why),
@@ -93,7 +111,8 @@ pub(crate) fn step_numbers(step: Step) -> StepNumbers
     }
 }
 
-fn trouble_numbers(trouble: Trouble) -> NzgTrouble
+/// A trouble as numbers.
+pub(crate) fn trouble_numbers(trouble: Trouble) -> NzgTrouble
     ensures { result ≡ trouble_numbers trouble }
 {
     let at = step_numbers(trouble.step);

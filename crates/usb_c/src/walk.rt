@@ -2,11 +2,12 @@
 ghost use Rattle.std.specs.Prelude.{◌≡◌, ◌≤◌, ◌+◌, ◌<◌, ◌^◌, is_some, length, unwrap_or};
 ghost use Rattle.usb_remarks.specs.Numbered.{numbered_next};
 ghost use Rattle.usb_walk.specs.Positions.{Counted};
-ghost use Rattle.usb_c.specs.Descriptors.{is_counted, next_of, role_number, set_part, string_of_role, as_numbers, next_as_numbers, with_role};
+ghost use Rattle.usb_c.specs.Descriptors.{is_counted, next_of, role_number, string_of_role, as_numbers, next_as_numbers, with_endpoint, with_role};
 
 use crate::descriptor::NzgDescriptor;
+use crate::finding::part_number;
 use crate::string_place::{NO_STRING, StringPlace, name_string, string_among};
-use usb_fields::{after, byte_at, prefix};
+use usb_fields::{after, byte_at, prefix, word_at};
 use usb_walk::{Position, Role};
 
 /// The first descriptor after `{0}`, or the one after another one. False where none can stand there: nothing changes then.
@@ -73,6 +74,7 @@ impl NzgDescriptor {
         self.kind = byte_at(d, 1);
         self.role = role_number(role);
         self.index = string.index;
+        self.note_endpoint(role, d);
         self.note(role, d);
     }
 
@@ -81,7 +83,7 @@ impl NzgDescriptor {
         ensures { self.new ≡ with_role role d.now self.old }
     {
         self.owner = 0;
-        self.part = set_part(self.position.is_other);
+        self.part = part_number(self.position.part());
         match role {
             Role::Device => {
                 self.part = 0;
@@ -103,6 +105,32 @@ impl NzgDescriptor {
                 self.languages_place = self.place;
             }
             Role::Text => self.part = 0,
+        }
+    }
+
+    /// Notes what an endpoint says of itself (USB 2.0, 9.6.6); 0 of any other descriptor.
+    fn note_endpoint(&mut self, role: Role, d: &[u8])
+        ensures { self.new ≡ with_endpoint role d.now self.old }
+    {
+        match role {
+            Role::Endpoint => {
+                let max_packet = word_at(d, 4);
+                self.attributes = byte_at(d, 3);
+                self.packet = max_packet % 2048;
+                self.transactions = match max_packet / 2048 % 4 {
+                    0 => 1,
+                    1 => 2,
+                    2 => 3,
+                    _ => 0,
+                };
+                self.interval = byte_at(d, 6);
+            }
+            _ => {
+                self.attributes = 0;
+                self.packet = 0;
+                self.transactions = 0;
+                self.interval = 0;
+            }
         }
     }
 }
@@ -131,10 +159,4 @@ fn string_of_role(role: Role, bytes: &[u8], was: &NzgDescriptor) -> StringPlace
         Role::Text => string_among(&was.named, bytes, was.languages_place, was.position.strings),
         _ => NO_STRING,
     }
-}
-
-fn set_part(is_other: bool) -> u8
-    ensures { result ≡ set_part is_other }
-{
-    if is_other { 2 } else { 1 }
 }

@@ -1,4 +1,6 @@
+pub mod Clocks
+pub mod Held
 pub mod Numbers
 pub mod Parts
-pub mod Ends
 pub mod Unique
+pub mod Whole

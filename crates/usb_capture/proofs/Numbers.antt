@@ -5,7 +5,7 @@ use Rattle.std.proofs.lemmas.Bool.Decides.{nat_tests}
 use Rattle.std.proofs.Math.Seq.{take-append-add}
 use Rattle.usb_capture.specs.declared.order.ByteOrder.{ByteOrder}
 use Rattle.usb_capture.specs.declared.order.ByteOrder.TheVariants.{Little, Big}
-use Rattle.usb_capture.specs.Numbers.{number_at}
+use Rattle.usb_capture.specs.Numbers.{number_at, short_at}
 
 -- one of two numbers is the greater
 pub le_or : (m n : ℕ) → (m ≤ n) ⊎ (n < m)
@@ -15,29 +15,39 @@ le_or m n = by_test (nat_lt n m) refl
     by_test true e = inr (grind (arith, nat_tests))
     by_test false e = inl (grind (arith, nat_tests))
 
--- bytes that are the same at four places have the same number there
-same_number : (order : ByteOrder) (b c : List ℕ) (at : ℕ) → ((i : ℕ) → i < at + 4 → get_or b i 0 ≡ get_or c i 0) → number_at order b at ≡ number_at order c at
+-- the same bytes at the first n places
+abbrev pub Agree : ℕ → List ℕ → List ℕ → Type 0
+Agree n b c = (i : ℕ) → i < n → get_or b i 0 ≡ get_or c i 0
+
+pub fewer : (m n : ℕ) (b c : List ℕ) → m ≤ n → Agree n b c → Agree m b c
+fewer m n b c h same = λ i j. same i (omega (arith, h, j))
+
+-- the first m bytes have the numbers that lie in them
+pub front : (n m : ℕ) (b : List ℕ) → n ≤ m → Agree n (take m b) b
+front n m b h = λ i j. get_or-take m b i 0 (omega (arith, h, j))
+
+-- numbers stay as more bytes come
+pub more : (n : ℕ) (b x : List ℕ) → n ≤ length b → Agree n (b ++ x) b
+more n b x h = λ i j. get_or_append_left b x 0 i (omega (arith, h, j))
+
+pub same_number : (n : ℕ) (order : ByteOrder) (b c : List ℕ) (at : ℕ) → at + 4 ≤ n → Agree n b c → number_at order b at ≡ number_at order c at
 unfolding number_at
-same_number Little b c at same =
-    let a0 = same at (omega arith) in
-    let a1 = same (at + 1) (omega arith) in
-    let a2 = same (at + 2) (omega arith) in
-    let a3 = same (at + 3) (omega arith) in
+same_number n Little b c at h same =
+    let a0 = same at (omega (arith, h)) in
+    let a1 = same (at + 1) (omega (arith, h)) in
+    let a2 = same (at + 2) (omega (arith, h)) in
+    let a3 = same (at + 3) (omega (arith, h)) in
     omega (arith, a0, a1, a2, a3)
-same_number Big b c at same =
-    let a0 = same at (omega arith) in
-    let a1 = same (at + 1) (omega arith) in
-    let a2 = same (at + 2) (omega arith) in
-    let a3 = same (at + 3) (omega arith) in
+same_number n Big b c at h same =
+    let a0 = same at (omega (arith, h)) in
+    let a1 = same (at + 1) (omega (arith, h)) in
+    let a2 = same (at + 2) (omega (arith, h)) in
+    let a3 = same (at + 3) (omega (arith, h)) in
     omega (arith, a0, a1, a2, a3)
 
--- the first n bytes have the numbers that lie in them
-pub number_front : (order : ByteOrder) (b : List ℕ) (n at : ℕ) → at + 4 ≤ n → number_at order (take n b) at ≡ number_at order b at
-number_front order b n at h = same_number order (take n b) b at (λ i j. get_or-take n b i 0 (omega (arith, h, j)))
-
--- a number stays as more bytes come
-pub number_more : (order : ByteOrder) (b x : List ℕ) (at : ℕ) → at + 4 ≤ length b → number_at order (b ++ x) at ≡ number_at order b at
-number_more order b x at h = same_number order (b ++ x) b at (λ i j. get_or_append_left b x 0 i (omega (arith, h, j)))
+pub same_short : (n : ℕ) (order : ByteOrder) (b c : List ℕ) (at : ℕ) → at + 2 ≤ n → Agree n b c → short_at order b at ≡ short_at order c at
+same_short n Little b c at h same = (let a0 = same at (omega (arith, h)) in let a1 = same (at + 1) (omega (arith, h)) in omega (arith, a0, a1))
+same_short n Big b c at h same = (let a0 = same at (omega (arith, h)) in let a1 = same (at + 1) (omega (arith, h)) in omega (arith, a0, a1))
 
 -- of n bytes the first m
 take_both : (m n : ℕ) (xs : List ℕ) → n ≤ length xs → take (min n m) xs ≡ take m (take n xs)

@@ -1,101 +1,177 @@
--- A part of a file that goes on.
-use Rattle.std.proofs.Common.{◌≡◌, ℕ, ◌+◌, ◌*◌, ◌-◌, ◌<◌, ◌≤◌, List, [], ◌∷◌, ◌++◌, length, take, drop, min, Bool, true, false, nat_lt, if◌then◌else◌, refl, sym, ◌∙◌, ap, subst, arith, length-append, append_assoc}
-use Rattle.std.proofs.lemmas.List.{take-append-le, length-take-le}
-use Rattle.std.proofs.lemmas.Bool.Decides.{nat_tests}
-use Rattle.std.specs.List.{flat_map}
+-- Whole parts, and one more.
+use Rattle.std.proofs.Common.{◌≡◌, ℕ, ◌+◌, ◌-◌, ◌^◌, ◌<◌, ◌≤◌, List, [], ◌∷◌, ◌++◌, length, take, drop, min, rules, ◌⊎◌, inl, inr, refl, sym, ◌∙◌, ap, subst, arith, length-append, append_assoc}
+use Rattle.std.proofs.lemmas.List.{append-nil, drop-append-le, drop-drop, length-take-le, take-append-drop}
+use Rattle.std.specs.Prelude.{Result, Ok, Err, IsOk}
+use Rattle.usb_capture.specs.declared.content.Content.{Content}
+use Rattle.usb_capture.specs.declared.fault.CaptureFault.{CaptureFault}
+use Rattle.usb_capture.specs.declared.fault.CaptureFault.TheVariants.{Memory}
 use Rattle.usb_capture.specs.declared.frame.Frame.{Frame}
-use Rattle.usb_capture.specs.declared.reader.PcapReader.{PcapReader}
-use Rattle.usb_capture.specs.declared.reader.Stage.{Stage}
-use Rattle.usb_capture.specs.declared.reader.Stage.TheVariants.{Magic, Header, Records, Failed}
-use Rattle.usb_capture.specs.Numbers.{number_at}
-use Rattle.usb_capture.specs.Pcap.{IsOther, magic, record_length}
-use Rattle.usb_capture.specs.Reading.{AreHeader, AreRecords, Has, IsKept, IsPart, IsRead, limit, whole}
-use Rattle.usb_capture.proofs.Numbers.{held_more, number_front, number_more}
+use Rattle.usb_capture.specs.declared.reader.CaptureReader.{CaptureReader}
+use Rattle.usb_capture.specs.declared.stage.Stage.{Stage}
+use Rattle.usb_capture.specs.Files.{AreParts, IsPart, IsRefused, State, after_content, bytes_of, content, content_of, frame_list, frames_of, frames_with, last_four, next, start, state_after, whole}
+use Rattle.usb_capture.specs.Reading.{Has, IsKept, IsRead, state_of}
+use Rattle.usb_capture.proofs.Held.{content_held, frames_held}
+use Rattle.usb_capture.proofs.Numbers.{held_more}
+use Rattle.usb_capture.proofs.Whole.{some_bytes, whole_grows, whole_held}
 
--- more bytes are more of the part that is being read
-part_more : (stage : Stage) (all : List ℕ) (frames : List Frame) (part x : List ℕ) → IsPart stage all frames part → IsPart stage (all ++ x) frames (part ++ x)
-part_more Magic all frames part x h = record { bytes = ap (λ b. b ++ x) h.bytes; read = h.read }
-part_more (Header writer) all frames part x h = (
-  record { bytes = ap (λ b. b ++ x) h.0.bytes; read = h.0.read },
-  (let sum = length-append part x in omega (arith, sum, h.1)),
-  take-append-le 4 part x h.1 ∙ h.2,
-)
-part_more (Records form) all frames part x h = record {
-  header = h.header;
-  records = h.records;
-  bytes = ap (λ b. b ++ x) h.bytes ∙ append_assoc (h.header ++ flat_map (λ r. r) h.records) part x;
-  begins = h.begins;
-  each = h.each;
-  read = h.read;
-}
-part_more (Failed fault) all frames part x h = absurd h
+-- one part more
+parts_push : (s : State) (parts : List (List ℕ)) (part : List ℕ) → AreParts s parts → IsPart (state_after s parts) part → AreParts s (parts ++ part ∷ [])
+parts_push s [] part each last = (last, tt)
+parts_push s (p ∷ parts) part each last = (each.0, parts_push (after_content s (content_of s p)) parts part each.1 last)
 
--- what is held tells as much of the part's length
-pub whole_held : (stage : Stage) (part : List ℕ) → whole stage (take 65615 part) ≡ whole stage part
-whole_held Magic part = refl
-whole_held (Header writer) part = refl
-whole_held (Records form) part = ap (λ n. 16 + n) (number_front form.writer.order part 65615 8 (omega arith))
-whole_held (Failed fault) part = refl
+state_push : (s : State) (parts : List (List ℕ)) (part : List ℕ) → state_after s (parts ++ part ∷ []) ≡ after_content (state_after s parts) (content_of (state_after s parts) part)
+state_push s [] part = refl
+state_push s (p ∷ parts) part = state_push (after_content s (content_of s p)) parts part
 
--- up to the limit a part gets no longer than it tells
-up_to : (stage : Stage) (part x : List ℕ) → length part < whole stage part → length x ≤ limit stage (length part) (take 65615 part) - length part → length part + length x ≤ whole stage (part ++ x)
-up_to Magic part x h few = omega (arith, h, few)
-up_to (Header writer) part x h few = omega (arith, h, few)
-up_to (Records form) part x h few = by_test (nat_lt (length part) 16) refl few
-  where
-    by_test : (t : Bool) → nat_lt (length part) 16 ≡ t → length x ≤ (if t then 16 else record_length form.writer.order (take 65615 part)) - length part → length part + length x ≤ record_length form.writer.order (part ++ x)
-    by_test true e few = (let short : length part < 16 = grind (arith, nat_tests) in omega (arith, short, few))
-    by_test false e few =
-        (let long : 16 ≤ length part = grind (arith, nat_tests) in
-        let held = number_front form.writer.order part 65615 8 (omega arith) in
-        let stays = number_more form.writer.order part x 8 (omega (arith, long)) in
-        omega (arith, h, few, held, stays))
-up_to (Failed fault) part x h few = omega (arith, h)
+frames_push : (s : State) (parts : List (List ℕ)) (part : List ℕ) → frames_of s (parts ++ part ∷ []) ≡ frames_of s parts ++ frames_with (content_of (state_after s parts) part) part
+frames_push s [] part = append-nil (frames_with (content_of s part) part)
+frames_push s (p ∷ parts) part =
+    let first = frames_with (content_of s p) p in
+    let later = after_content s (content_of s p) in
+    ap (λ f. first ++ f) (frames_push later parts part) ∙ sym (append_assoc first (frames_of later parts) (frames_with (content_of (state_after later parts) part) part))
 
--- the limit is past what has come of a part that isn't whole
-pub limit_past : (stage : Stage) (part : List ℕ) → length part < whole stage part → length part < limit stage (length part) (take 65615 part)
-limit_past Magic part h = h
-limit_past (Header writer) part h = h
-limit_past (Records form) part h = by_test (nat_lt (length part) 16) refl
-  where
-    by_test : (t : Bool) → nat_lt (length part) 16 ≡ t → length part < (if t then 16 else record_length form.writer.order (take 65615 part))
-    by_test true e = grind (arith, nat_tests)
-    by_test false e = (let held = number_front form.writer.order part 65615 8 (omega arith) in omega (arith, h, held))
-limit_past (Failed fault) part h = omega (arith, h)
+bytes_push : (parts : List (List ℕ)) (part : List ℕ) → bytes_of (parts ++ part ∷ []) ≡ bytes_of parts ++ part
+bytes_push [] part = append-nil part
+bytes_push (p ∷ parts) part = ap (λ b. p ++ b) (bytes_push parts part) ∙ sym (append_assoc p (bytes_of parts) part)
 
--- bytes are taken where something is left to take
-pub takes_some : (all : List ℕ) (frames : List Frame) (old : PcapReader) (used n : ℕ) → used ≡ min n (limit old.stage old.count old.held.items - old.count) → IsRead all frames old → 0 < n → 0 < used
-takes_some all frames old used n is read some =
-    let part = read.0 in
-    let has = read.1 in
-    let past = limit_past old.stage part read.2 in
-    let same : limit old.stage old.count old.held.items ≡ limit old.stage (length part) (take 65615 part) = ap (λ k. limit old.stage k old.held.items) has.count ∙ ap (limit old.stage (length part)) has.held in
-    omega (arith, is, same, past, some, has.count)
+-- the last four bytes as more come
+last_more : (part x : List ℕ) → drop (length x) (last_four part ++ x) ≡ last_four (part ++ x)
+last_more part x =
+    let all = 0 ∷ 0 ∷ 0 ∷ 0 ∷ part in
+    let joined : drop (length part) (all ++ x) ≡ last_four part ++ x = drop-append-le (length part) all x (omega arith) in
+    ap (drop (length x)) (sym joined) ∙ drop-drop (length x) (length part) (all ++ x) ∙ ap (λ n. drop n (all ++ x)) (sym (length-append part x))
 
 -- a reader that has taken bytes of a piece has them
-pub kept : (old new : PcapReader) (piece : List ℕ) (used : ℕ) → used ≡ min (length piece) (limit old.stage old.count old.held.items - old.count) → new.held.items ≡ old.held.items ++ take (min used (65615 - length old.held.items)) piece → new.count ≡ old.count + used → new.stage ≡ old.stage → (all : List ℕ) (frames : List Frame) → IsRead all frames old → IsKept (all ++ take used piece) frames new
-kept old new piece used is held count stage all frames read =
-    let part = read.0 in
-    let has = read.1 in
+pub kept : (old new : CaptureReader) (piece : List ℕ) (used : ℕ) → used ≡ min (length piece) (whole old.stage old.held.items - old.count) → new.held.items ≡ old.held.items ++ take (min used (65627 - length old.held.items)) piece → new.last ≡ drop used (old.last ++ take used piece) → new.count ≡ old.count + used → state_of new ≡ state_of old → new.place ≡ old.place → (all : List ℕ) (frames : List Frame) → IsRead all frames old → IsKept (all ++ take used piece) frames new
+kept old new piece used is held last count state place all frames read =
+    let parts = read.0 in
+    let part = read.1 in
+    let has = read.2 in
     let x = take used piece in
-    let same : limit old.stage old.count old.held.items ≡ limit old.stage (length part) (take 65615 part) = ap (λ k. limit old.stage k old.held.items) has.count ∙ ap (limit old.stage (length part)) has.held in
+    let same : whole old.stage old.held.items ≡ whole old.stage part = ap (whole old.stage) has.held ∙ whole_held old.stage part in
     let long : length x ≡ used = length-take-le used piece (omega (arith, is)) in
     let sum = length-append part x in
-    let few = up_to old.stage part x read.2 (omega (arith, is, same, long, has.count)) in
-    let grown : new.held.items ≡ take 65615 (part ++ x) =
-    held ∙ ap (λ h. h ++ take (min used (65615 - length h)) piece) has.held ∙ held_more 65615 used part piece (omega (arith, is)) in (
+    let grows = whole_grows old.stage part x in
+    let few : length (part ++ x) ≤ whole old.stage (part ++ x) = omega (arith, is, same, long, sum, grows, has.count, read.3) in
+    let grown : new.held.items ≡ take 65627 (part ++ x) =
+    held ∙ ap (λ h. h ++ take (min used (65627 - length h)) piece) has.held ∙ held_more 65627 used part piece (omega (arith, is)) in
+    let ends : new.last ≡ last_four (part ++ x) =
+    last ∙ ap (λ l. drop used (l ++ x)) has.last ∙ ap (λ n. drop n (last_four part ++ x)) (sym long) ∙ last_more part x in
+    let stage : new.stage ≡ old.stage = ap (λ s. s.stage) state in (
+      parts,
       part ++ x,
       record {
-        so_far = subst (λ s. IsPart s (all ++ x) frames (part ++ x)) (sym stage) (part_more old.stage all frames part x has.so_far);
+        bytes = ap (λ b. b ++ x) has.bytes ∙ append_assoc (bytes_of parts) part x;
+        each = has.each;
+        read = has.read;
+        state = state ∙ has.state;
         held = grown;
+        last = ends;
         count = omega (arith, count, has.count, long, sum);
+        place = place ∙ has.place;
       },
-      subst (λ s. length (part ++ x) ≤ whole s (part ++ x)) (sym stage) (omega (arith, few, sum)),
+      subst (λ s. length (part ++ x) ≤ whole s (part ++ x)) (sym stage) few,
     )
 
--- what is no capture file stays none
-pub other_more : (all x : List ℕ) → IsOther all → IsOther (all ++ x)
-other_more all x h = record {
-  long = (let sum = length-append all x in omega (arith, sum, h.long));
-  begins = λ writer is. h.begins writer (sym (take-append-le 4 all x h.long) ∙ is);
+-- bytes are taken where something is left to take
+pub takes_some : (all : List ℕ) (frames : List Frame) (old : CaptureReader) (used n : ℕ) → used ≡ min n (whole old.stage old.held.items - old.count) → IsRead all frames old → 0 < n → 0 < used
+takes_some all frames old used n is read some =
+    let has = read.2 in
+    let same : whole old.stage old.held.items ≡ whole old.stage read.1 = ap (whole old.stage) has.held ∙ whole_held old.stage read.1 in
+    omega (arith, is, same, some, has.count, read.3)
+
+-- a part that isn't whole is read on
+pub still_open : (old : CaptureReader) → old.count < whole old.stage old.held.items → (all : List ℕ) (frames : List Frame) → IsKept all frames old → IsRead all (frames ++ []) old
+still_open old few all frames kept =
+    let has = kept.2 in
+    let same = ap (whole old.stage) has.held ∙ whole_held old.stage kept.1 in
+    subst (λ f. IsRead all f old) (sym (append-nil frames)) (kept.0, kept.1, has, omega (arith, few, same, has.count))
+
+-- what is held of a whole part says what it says
+said : (old : CaptureReader) (all : List ℕ) (frames : List Frame) (kept : IsKept all frames old) → content old.stage old.interfaces.items old.held.items old.count old.last ≡ content_of (state_after start kept.0) kept.1
+said old all frames kept =
+    let part = kept.1 in
+    let has = kept.2 in
+    let of : State → List ℕ → ℕ → List ℕ → Result Content CaptureFault = λ s b n last. content s.stage s.interfaces b n last in
+    ap (λ h. of (state_of old) h old.count old.last) has.held
+    ∙ ap (λ n. of (state_of old) (take 65627 part) n old.last) has.count
+    ∙ ap (of (state_of old) (take 65627 part) (length part)) has.last
+    ∙ content_held old.stage old.interfaces.items part (last_four part)
+    ∙ ap (λ s. content_of s part) has.state
+
+exact : (old : CaptureReader) → whole old.stage old.held.items ≤ old.count → (all : List ℕ) (frames : List Frame) (kept : IsKept all frames old) → length kept.1 ≡ whole (state_after start kept.0).stage kept.1
+exact old enough all frames kept =
+    let has = kept.2 in
+    let same = ap (whole old.stage) has.held ∙ whole_held old.stage kept.1 in
+    let stage : old.stage ≡ (state_after start kept.0).stage = ap (λ s. s.stage) has.state in
+    subst (λ s. length kept.1 ≡ whole s kept.1) stage (omega (arith, same, enough, has.count, kept.3))
+
+-- a part is whole and has no fault
+pub ended : (old new : CaptureReader) (what : Content) (added : List Frame) → whole old.stage old.held.items ≤ old.count → Ok what ≡ content old.stage old.interfaces.items old.held.items old.count old.last → added ≡ frame_list what old.held.items → state_of new ≡ next (state_of old) what → new.held.items ≡ [] → new.last ≡ last_four [] → new.count ≡ 0 → new.place ≡ min (old.place + old.count) (2 ^ 64 - 1) → (all : List ℕ) (frames : List Frame) → IsKept all frames old → IsRead all (frames ++ added) new
+ended old new what added enough says is state held last count place all frames has_kept =
+    let parts = has_kept.0 in
+    let part = has_kept.1 in
+    let has = has_kept.2 in
+    let s = state_after start parts in
+    let right : content_of s part ≡ Ok what = sym (says ∙ said old all frames has_kept) in
+    let one : IsPart s part = record { long = exact old enough all frames has_kept; right = subst IsOk (sym right) (search rules) } in
+    let frames_are : added ≡ frames_with (content_of s part) part =
+    is ∙ ap (frame_list what) has.held ∙ frames_held what part ∙ ap (λ r. frames_with r part) (sym right) in
+    let state_is : state_of new ≡ state_after start (parts ++ part ∷ []) =
+    state ∙ ap (λ t. next t what) has.state ∙ ap (after_content s) (sym right) ∙ sym (state_push start parts part) in
+    let bytes = bytes_push parts part in
+    let sum = length-append (bytes_of parts) part in
+    let total = ap length bytes in (
+      parts ++ part ∷ [],
+      [],
+      record {
+        bytes = has.bytes ∙ sym bytes ∙ sym (append-nil (bytes_of (parts ++ part ∷ [])));
+        each = parts_push start parts part has.each one;
+        read = ap (λ f. f ++ added) has.read ∙ ap (λ f. frames_of start parts ++ f) frames_are ∙ sym (frames_push start parts part);
+        state = state_is;
+        held = held;
+        last = last;
+        count = count;
+        place = omega (arith, place, has.place, has.count, sum, total);
+      },
+      some_bytes new.stage [],
+    )
+
+-- a part is whole and has a fault
+pub refused : (old : CaptureReader) (fault : CaptureFault) → whole old.stage old.held.items ≤ old.count → Err fault ≡ content old.stage old.interfaces.items old.held.items old.count old.last → (all : List ℕ) (frames : List Frame) → IsKept all frames old → (place : ℕ) × IsRefused all fault place × (old.place ≡ min place (2 ^ 64 - 1))
+refused old fault enough says all frames kept = (
+  length (bytes_of kept.0),
+  record {
+    parts = kept.0;
+    bad = kept.1;
+    rest = [];
+    bytes_are = kept.2.bytes ∙ ap (λ b. bytes_of kept.0 ++ b) (sym (append-nil kept.1));
+    before = kept.2.each;
+    long = exact old enough all frames kept;
+    wrong = sym (says ∙ said old all frames kept);
+    place_is = refl;
+  },
+  kept.2.place,
+)
+
+-- what follows changes no refusal
+pub refused_more : (bytes x : List ℕ) (fault : CaptureFault) (place : ℕ) → IsRefused bytes fault place → IsRefused (bytes ++ x) fault place
+refused_more bytes x fault place h = record {
+  parts = h.parts;
+  bad = h.bad;
+  rest = h.rest ++ x;
+  bytes_are = ap (λ b. b ++ x) h.bytes_are ∙ append_assoc (bytes_of h.parts) (h.bad ++ h.rest) x ∙ ap (λ b. bytes_of h.parts ++ b) (append_assoc h.bad h.rest x);
+  before = h.before;
+  long = h.long;
+  wrong = h.wrong;
+  place_is = h.place_is;
 }
+
+pub refused_piece : (all piece : List ℕ) (used : ℕ) (fault : CaptureFault) (Is : ℕ → Type 0) → (fault ≡ Memory) ⊎ ((place : ℕ) × IsRefused (all ++ take used piece) fault place × Is place) → (fault ≡ Memory) ⊎ ((place : ℕ) × IsRefused (all ++ piece) fault place × Is place)
+refused_piece all piece used fault Is (inl memory) = inl memory
+refused_piece all piece used fault Is (inr h) = inr (
+  h.0,
+  subst (λ b. IsRefused b fault h.0) (append_assoc all (take used piece) (drop used piece) ∙ ap (λ b. all ++ b) (take-append-drop used piece))
+      (refused_more (all ++ take used piece) (drop used piece) fault h.0 h.1),
+  h.2,
+)

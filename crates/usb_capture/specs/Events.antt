@@ -11,17 +11,8 @@ use Rattle.usb_capture.specs.declared.event.EventKind.TheVariants.{Submission, C
 use Rattle.usb_capture.specs.declared.event.EventFault.{EventFault}
 use Rattle.usb_capture.specs.declared.event.EventFault.TheVariants.{Link, Short, Kind, Transfer}
 use Rattle.usb_capture.specs.declared.order.ByteOrder.{ByteOrder}
-use Rattle.usb_capture.specs.declared.order.ByteOrder.TheVariants.{Little, Big}
-use Rattle.usb_capture.specs.Numbers.{number_at}
-
--- the numbers of 16 and of 64 bits at this place
-abbrev pub short_at : ByteOrder → List ℕ → ℕ → ℕ
-short_at Little b at = slice_index b at + 256 * slice_index b (at + 1)
-short_at Big b at = slice_index b (at + 1) + 256 * slice_index b at
-
-abbrev pub long_at : ByteOrder → List ℕ → ℕ → ℕ
-long_at Little b at = number_at Little b at + 4294967296 * number_at Little b (at + 4)
-long_at Big b at = number_at Big b (at + 4) + 4294967296 * number_at Big b at
+use Rattle.usb_capture.specs.declared.order.ByteOrder.TheVariants.{Little}
+use Rattle.usb_capture.specs.Numbers.{long_at, number_at, short_at}
 
 -- the setup packet whose eight bytes stand at this place (USB 2.0, 9.3); a byte that isn't there is 0
 abbrev pub setup_at : List ℕ → ℕ → Setup

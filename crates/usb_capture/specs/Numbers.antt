@@ -7,3 +7,12 @@ use Rattle.usb_capture.specs.declared.order.ByteOrder.TheVariants.{Little, Big}
 unfoldable pub number_at : ByteOrder → List ℕ → ℕ → ℕ
 number_at Little b at = slice_index b at + 256 * slice_index b (at + 1) + 65536 * slice_index b (at + 2) + 16777216 * slice_index b (at + 3)
 number_at Big b at = slice_index b (at + 3) + 256 * slice_index b (at + 2) + 65536 * slice_index b (at + 1) + 16777216 * slice_index b at
+
+-- the numbers of 16 and of 64 bits at this place
+abbrev pub short_at : ByteOrder → List ℕ → ℕ → ℕ
+short_at Little b at = slice_index b at + 256 * slice_index b (at + 1)
+short_at Big b at = slice_index b (at + 1) + 256 * slice_index b at
+
+abbrev pub long_at : ByteOrder → List ℕ → ℕ → ℕ
+long_at Little b at = number_at Little b at + 4294967296 * number_at Little b (at + 4)
+long_at Big b at = number_at Big b (at + 4) + 4294967296 * number_at Big b at

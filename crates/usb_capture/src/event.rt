@@ -1,11 +1,10 @@
 //! What a frame says of a transfer.
-ghost use Rattle.std.specs.Prelude.{◌≡◌, ◌+◌, ◌<◌, Some, IfOk, IfErr};
-ghost use Rattle.usb_capture.specs.Events.{event_fault, long_at, short_at, transfer_of, IsEvent};
+ghost use Rattle.std.specs.Prelude.{◌≡◌, Some, IfOk, IfErr};
+ghost use Rattle.usb_capture.specs.Events.{event_fault, transfer_of, IsEvent};
 
 use crate::frame::Frame;
-use crate::order::ByteOrder;
 use crate::{usbmon, usbpcap};
-use usb_fields::{Setup, byte_at};
+use usb_fields::Setup;
 use usb_set::TransferType;
 
 /// What befell a transfer of a host.
@@ -87,30 +86,5 @@ pub(crate) fn transfer_of(number: u8) -> Option<TransferType>
         2 => Some(TransferType::Control),
         3 => Some(TransferType::Bulk),
         _ => None,
-    }
-}
-
-/// The number of 16 bits at this place.
-pub(crate) fn short_at(order: ByteOrder, b: &[u8], at: u8) -> u16
-    ensures { result ≡ short_at order b.now at }
-{
-    let first = byte_at(b, usize::from(at));
-    let second = byte_at(b, usize::from(at) + 1);
-    match order {
-        ByteOrder::Little => u16::from(first) + 256 * u16::from(second),
-        ByteOrder::Big => u16::from(second) + 256 * u16::from(first),
-    }
-}
-
-/// The number of 64 bits at this place.
-pub(crate) fn long_at(order: ByteOrder, b: &[u8], at: u8) -> u64
-    requires { at + 4 < 256 }
-    ensures { result ≡ long_at order b.now at }
-{
-    let first = u64::from(order.number_at(b, at));
-    let second = u64::from(order.number_at(b, at + 4));
-    match order {
-        ByteOrder::Little => first + 4_294_967_296 * second,
-        ByteOrder::Big => second + 4_294_967_296 * first,
     }
 }

@@ -1,19 +1,39 @@
 //! What holds of every capture file. The functions of these laws do nothing: their contracts are the laws.
-ghost use Rattle.std.specs.Prelude.{◌≡◌, ◌++◌, ℕ, List, length, map};
-ghost use Rattle.std.specs.List.{AllByRecursion, flat_map};
+ghost use Rattle.std.specs.Prelude.{◌≡◌, ◌++◌, ◌<◌, ℕ, List, length, map};
+ghost use Rattle.std.specs.List.{AllByRecursion};
+ghost use Rattle.usb_capture.specs.declared.fault.CaptureFault.{CaptureFault};
 ghost use Rattle.usb_capture.specs.declared.frame.Frame.{Frame};
 ghost use Rattle.usb_capture.specs.declared.pcap.Form.{Form};
-ghost use Rattle.usb_capture.specs.declared.reader.PcapReader.{PcapReader};
+ghost use Rattle.usb_capture.specs.declared.reader.CaptureReader.{CaptureReader};
+ghost use Rattle.usb_capture.specs.Files.{AreParts, IsRefused, bytes_of, frames_of, start, state_after, whole};
 ghost use Rattle.usb_capture.specs.Pcap.{IsHeader, IsPartial, IsRecord, frame_of};
 ghost use Rattle.usb_capture.specs.Reading.{IsRead};
 
-/// Whoever has read a file header, whole records and less than another record has had the frames of these records, and
-/// has that rest, however the bytes were cut into pieces.
+/// Whoever has read whole parts, as blocks of pcapng, and less than another has had the frames in these, and has that
+/// rest, however the bytes were cut into pieces.
+pub fn each_part_is_read()
+    ensures frames { (parts : List (List ℕ)) (rest : List ℕ) (frames : List Frame) (reader : CaptureReader)
+        → AreParts start parts → length rest < whole (state_after start parts).stage rest → IsRead (bytes_of parts ++ rest) frames reader
+        → (frames ≡ frames_of start parts) × (reader.count ≡ length rest) }
+{}
+
+/// Bytes have one list of frames, or one fault at one place.
+pub fn a_file_is_read_or_refused()
+    ensures read { (all : List ℕ) (first second : List Frame) (one other : CaptureReader) → IsRead all first one → IsRead all second other
+        → (first ≡ second) × (one.place ≡ other.place) × (one.count ≡ other.count) }
+    ensures refused { (all : List ℕ) (first second : CaptureFault) (one other : ℕ) → IsRefused all first one → IsRefused all second other
+        → (first ≡ second) × (one ≡ other) }
+    ensures never_both { (all : List ℕ) (fault : CaptureFault) (place : ℕ) (frames : List Frame) (reader : CaptureReader)
+        → IsRefused all fault place → IsRead all frames reader → ⊥ }
+{}
+
+/// Whoever has read a file header of pcap, whole records and less than another record has had the frames of these records,
+/// and has that rest. What follows a file header is refused nowhere.
 pub fn each_record_is_a_frame()
-    ensures frames { (form : Form) (header : List ℕ) (records : List (List ℕ)) (rest : List ℕ) (frames : List Frame) (reader : PcapReader)
+    ensures frames { (form : Form) (header : List ℕ) (records : List (List ℕ)) (rest : List ℕ) (frames : List Frame) (reader : CaptureReader)
         → IsHeader form header → AllByRecursion (IsRecord form.writer.order) records → IsPartial form.writer.order rest
-        → IsRead ((header ++ flat_map (λ r. r) records) ++ rest) frames reader
+        → IsRead ((header ++ bytes_of records) ++ rest) frames reader
         → (frames ≡ map (frame_of form) records) × (reader.count ≡ length rest) }
-    ensures once { (all : List ℕ) (first second : List Frame) (one other : PcapReader)
-        → IsRead all first one → IsRead all second other → first ≡ second }
+    ensures never_refused { (form : Form) (header rest : List ℕ) (fault : CaptureFault) (place : ℕ)
+        → IsHeader form header → IsRefused (header ++ rest) fault place → ⊥ }
 {}

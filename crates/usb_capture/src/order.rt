@@ -1,6 +1,6 @@
 //! The byte order of the host that wrote a capture.
-ghost use Rattle.std.specs.Prelude.{◌≡◌};
-ghost use Rattle.usb_capture.specs.Numbers.{number_at};
+ghost use Rattle.std.specs.Prelude.{◌≡◌, ◌+◌, ◌<◌};
+ghost use Rattle.usb_capture.specs.Numbers.{long_at, number_at, short_at};
 
 use usb_fields::byte_at;
 
@@ -29,6 +29,31 @@ impl ByteOrder {
         match self {
             ByteOrder::Little => u32::from_le_bytes(bytes),
             ByteOrder::Big => u32::from_be_bytes(bytes),
+        }
+    }
+
+    /// The number of 16 bits at this place.
+    pub(crate) fn short_at(self, b: &[u8], at: u8) -> u16
+        ensures { result ≡ short_at self b.now at }
+    {
+        let first = byte_at(b, usize::from(at));
+        let second = byte_at(b, usize::from(at) + 1);
+        match self {
+            ByteOrder::Little => u16::from(first) + 256 * u16::from(second),
+            ByteOrder::Big => u16::from(second) + 256 * u16::from(first),
+        }
+    }
+
+    /// The number of 64 bits at this place.
+    pub(crate) fn long_at(self, b: &[u8], at: u8) -> u64
+        requires { at + 4 < 256 }
+        ensures { result ≡ long_at self b.now at }
+    {
+        let first = u64::from(self.number_at(b, at));
+        let second = u64::from(self.number_at(b, at + 4));
+        match self {
+            ByteOrder::Little => first + 4_294_967_296 * second,
+            ByteOrder::Big => second + 4_294_967_296 * first,
         }
     }
 }

@@ -1,8 +1,14 @@
 //! What a pcap file says at its beginning (draft-ietf-opsawg-pcap, File Header).
-ghost use Rattle.std.specs.Prelude.{◌≡◌, ◌≢◌, ◌+◌, ◌*◌, IfSome, IfNone, length};
-ghost use Rattle.usb_capture.specs.Pcap.{magic, unit};
+ghost use Rattle.std.specs.Prelude.{◌≡◌, ◌+◌, ◌*◌};
+ghost use Rattle.usb_capture.specs.Pcap.{unit, writer_of};
 
 use crate::order::ByteOrder;
+
+/// The magic number of a file whose fractions of a second are microseconds.
+const MICROSECONDS: u32 = 0xa1b2_c3d4;
+
+/// The magic number of one whose are nanoseconds.
+const NANOSECONDS: u32 = 0xa1b2_3c4d;
 
 /// What the second number of a record's time counts.
 #[derive(Clone, Copy, Debug, PartialEq, Eq, Hash)]
@@ -32,19 +38,22 @@ pub struct Form {
 }
 
 impl Writer {
-    ghost use Rattle.usb_capture.specs.declared.pcap.Writer.{Writer};
-
-    /// Who begins a file with these four bytes: a1b2c3d4 or a1b23c4d in either order.
+    /// Who begins a file with these bytes: a1b2c3d4 or a1b23c4d in either order.
     pub fn of_magic(bytes: &[u8]) -> Option<Writer>
-        ensures some { IfSome result (λ writer. bytes.now ≡ magic writer.order writer.precision) }
-        ensures none { IfNone result ((writer : Writer) → bytes.now ≢ magic writer.order writer.precision) }
+        ensures { result ≡ writer_of bytes.now }
     {
-        let (order, precision) = match bytes {
-            [0xd4, 0xc3, 0xb2, 0xa1] => (ByteOrder::Little, Precision::Micro),
-            [0xa1, 0xb2, 0xc3, 0xd4] => (ByteOrder::Big, Precision::Micro),
-            [0x4d, 0x3c, 0xb2, 0xa1] => (ByteOrder::Little, Precision::Nano),
-            [0xa1, 0xb2, 0x3c, 0x4d] => (ByteOrder::Big, Precision::Nano),
-            _ => return None,
+        let little = ByteOrder::Little.number_at(bytes, 0);
+        let big = ByteOrder::Big.number_at(bytes, 0);
+        let (order, precision) = if little == MICROSECONDS {
+            (ByteOrder::Little, Precision::Micro)
+        } else if big == MICROSECONDS {
+            (ByteOrder::Big, Precision::Micro)
+        } else if little == NANOSECONDS {
+            (ByteOrder::Little, Precision::Nano)
+        } else if big == NANOSECONDS {
+            (ByteOrder::Big, Precision::Nano)
+        } else {
+            return None;
         };
         Some(Writer { order, precision })
     }

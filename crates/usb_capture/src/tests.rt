@@ -1,7 +1,9 @@
 //! Files whose bytes are typed from the format's document, each in two pieces, cut at every byte.
+mod pcapng;
+
 use crate::{
-    ByteOrder, CaptureFault, Event, EventFault, EventKind, Frame, MOST_BYTES, PacketFault,
-    PcapReader, packet_of,
+    ByteOrder, CaptureFault, CaptureReader, Event, EventFault, EventKind, Frame, MOST_BYTES,
+    PacketFault, packet_of,
 };
 use std::alloc::Global;
 use usb_fields::{Sequence, Setup, after, prefix};
@@ -23,8 +25,8 @@ const BIG: &[u8] = &[
 ];
 
 /// Feeds a piece until it is used up. The frames that are whole now go to the end.
-fn feed_all(
-    reader: &mut PcapReader,
+pub(crate) fn feed_all(
+    reader: &mut CaptureReader,
     piece: &[u8],
     frames: &mut Vec<Frame>,
 ) -> Result<(), CaptureFault> {
@@ -45,8 +47,12 @@ fn feed_all(
 }
 
 /// The frames of bytes that are cut at this place, and how many bytes are left of a part that isn't whole.
-fn read_cut(alloc: Global, bytes: &[u8], cut: usize) -> Result<(Vec<Frame>, u64), CaptureFault> {
-    let mut reader = PcapReader::new(alloc);
+pub(crate) fn read_cut(
+    alloc: Global,
+    bytes: &[u8],
+    cut: usize,
+) -> Result<(Vec<Frame>, u64), CaptureFault> {
+    let mut reader = CaptureReader::new(alloc);
     let mut frames = Vec::new(alloc);
     feed_all(&mut reader, prefix(bytes, cut), &mut frames)?;
     feed_all(&mut reader, after(bytes, cut), &mut frames)?;
@@ -56,7 +62,7 @@ fn read_cut(alloc: Global, bytes: &[u8], cut: usize) -> Result<(Vec<Frame>, u64)
 
 /// Whether a frame has these numbers and bytes.
 fn is(frame: &Frame, time: u64, captured: u32, original: u32, bytes: &[u8]) -> bool {
-    frame.time == time
+    frame.time == Some(time)
         && frame.link == 220
         && frame.captured == captured
         && frame.original == original
@@ -108,7 +114,7 @@ fn tells_what_a_cut_file_has(rt: HostRuntime) {
 fn refuses_what_is_no_capture(rt: HostRuntime) {
     let files: [&[u8]; 3] = [
         &[0xd4, 0xc3, 0xb2, 0xa2],
-        &[0x0a, 0x0d, 0x0d, 0x0a, 0x1c, 0, 0, 0],
+        &[0x0a, 0x0d, 0x0d, 0x0b, 0x1c, 0, 0, 0],
         &[18, 1, 0, 2, 0],
     ];
     for bytes in files {
@@ -122,7 +128,7 @@ fn refuses_what_is_no_capture(rt: HostRuntime) {
 #[test]
 fn passes_over_the_end_of_a_long_record(rt: HostRuntime) {
     let alloc = rt.alloc();
-    let mut reader = PcapReader::new(alloc);
+    let mut reader = CaptureReader::new(alloc);
     let mut frames = Vec::new(alloc);
     let header = [2, 0, 0, 0, 0, 0, 0, 0, 0xa0, 0x86, 1, 0, 0xa0, 0x86, 1, 0];
     feed_all(&mut reader, prefix(LITTLE, 24), &mut frames).expect(&rt, "a file header");
@@ -176,7 +182,7 @@ fn frame_with(
 ) -> Result<Frame, CaptureFault> {
     let bytes = Sequence::from_vec(Vec::from_slice(alloc, bytes)?);
     Ok(Frame {
-        time: 0,
+        time: None,
         link,
         order,
         captured: 0,

@@ -2,7 +2,7 @@
 ghost use Rattle.std.specs.Prelude.{◌≡◌, ◌<◌, Some, IfOk, IfErr};
 ghost use Rattle.usb_capture.specs.Events.{IsUsbmon, kind_of, setup_at, usbmon_fault};
 
-use crate::event::{Event, EventFault, EventKind, long_at, short_at, transfer_of};
+use crate::event::{Event, EventFault, EventKind, transfer_of};
 use crate::order::ByteOrder;
 use usb_fields::{Setup, after, byte_at, prefix};
 
@@ -28,10 +28,10 @@ pub(crate) fn read(order: ByteOrder, header: usize, b: &[u8]) -> Result<Event<'_
     };
     let captured = order.number_at(b, 36) as usize;
     Ok(Event {
-        id: long_at(order, b, 0),
+        id: order.long_at(b, 0),
         kind,
         transfer,
-        bus: short_at(order, b, 12),
+        bus: order.short_at(b, 12),
         device: u16::from(byte_at(b, 11)),
         endpoint: byte_at(b, 10),
         setup: if byte_at(b, 14) == 0 {
@@ -65,8 +65,8 @@ pub(crate) fn setup_at(b: &[u8], at: u8) -> Setup
     Setup {
         request_type: byte_at(b, usize::from(at)),
         request: byte_at(b, usize::from(at) + 1),
-        value: short_at(ByteOrder::Little, b, at + 2),
-        index: short_at(ByteOrder::Little, b, at + 4),
-        length: short_at(ByteOrder::Little, b, at + 6),
+        value: ByteOrder::Little.short_at(b, at + 2),
+        index: ByteOrder::Little.short_at(b, at + 4),
+        length: ByteOrder::Little.short_at(b, at + 6),
     }
 }

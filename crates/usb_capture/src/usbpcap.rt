@@ -2,7 +2,7 @@
 ghost use Rattle.std.specs.Prelude.{◌≡◌, Some, IfOk, IfErr};
 ghost use Rattle.usb_capture.specs.Events.{IsUsbpcap, begins_with_setup, usbpcap_fault};
 
-use crate::event::{Event, EventFault, EventKind, long_at, short_at, transfer_of};
+use crate::event::{Event, EventFault, EventKind, transfer_of};
 use crate::order::ByteOrder;
 use crate::usbmon::setup_at;
 use usb_fields::{after, byte_at, prefix};
@@ -17,7 +17,7 @@ pub(crate) fn read(b: &[u8]) -> Result<Event<'_>, EventFault>
     ensures err { IfErr result (λ fault. usbpcap_fault b.now ≡ Some fault) }
 {
     let order = ByteOrder::Little;
-    let header = usize::from(short_at(order, b, 0));
+    let header = usize::from(order.short_at(b, 0));
     if header < HEADER_LENGTH || b.len() < header {
         return Err(EventFault::Short);
     }
@@ -28,15 +28,15 @@ pub(crate) fn read(b: &[u8]) -> Result<Event<'_>, EventFault>
     let data = prefix(after(b, header), length as usize);
     let begins = begins_with_setup(transfer, header, b);
     Ok(Event {
-        id: long_at(order, b, 2),
+        id: order.long_at(b, 2),
         kind: if byte_at(b, 16) % 2 == 0 {
             EventKind::Submission
         } else {
             EventKind::Completion
         },
         transfer,
-        bus: short_at(order, b, 17),
-        device: short_at(order, b, 19),
+        bus: order.short_at(b, 17),
+        device: order.short_at(b, 19),
         endpoint: byte_at(b, 21),
         setup: if begins {
             Some(setup_at(data, 0))

@@ -1,2 +1,3 @@
 pub mod Completed
+pub mod WithoutStrings
 pub mod inside

@@ -2,6 +2,7 @@
 ghost use Rattle.std.specs.Prelude.{◌≡◌, ◌++◌, ℕ, List, IfErr, IfOk, IfSome, None, OnOk, OnSome, false};
 ghost use Rattle.std.specs.List.{list_any};
 ghost use Rattle.usb_file_data.specs.File.{File, WriteRefused, file_bytes, has_no_layout, other_bytes, sets_bytes, strings_bytes, each_string_bytes, whole_set, write_refusal, other_sets};
+ghost use Rattle.usb_file.specs.WithoutStrings.{HasParts, WithoutStrings, WithoutStringsRefused};
 
 use std::alloc::Global;
 use usb_fields::{UnitFault, known_bytes, write_units_onto};
@@ -37,6 +38,29 @@ pub fn write_file(alloc: Global, f: &DescriptorFile) -> Result<Vec<u8>, WriteFau
     }
 }
 
+/// The bytes of a file without its strings, whether or not it names some: the parts before them.
+///
+/// ```rust
+/// let sets = write_without_strings(alloc, &file)?;
+/// ```
+///
+/// # Errors
+///
+/// `Count`, `Kind` or `Layout`, the first that applies, exactly where one of these parts has no bytes;
+/// `Memory` where they have bytes, when out of memory.
+pub fn write_without_strings(alloc: Global, f: &DescriptorFile) -> Result<Vec<u8>, WriteFault>
+    ensures ok { IfOk result (λ b. WithoutStrings f.now b.items) }
+    ensures err { IfErr result (λ fault. WithoutStringsRefused f.now fault) }
+{
+    match parts_of(alloc, f) {
+        Some(out) => {
+            known_bytes(&out);
+            Ok(out)
+        }
+        None => Err(first_reason_of_parts(f)),
+    }
+}
+
 /// The first reason why the file isn't written.
 #[cold]
 fn first_reason(f: &DescriptorFile) -> WriteFault
@@ -48,20 +72,42 @@ fn first_reason(f: &DescriptorFile) -> WriteFault
     }
 }
 
+/// The first reason why its parts before the strings aren't written.
+#[cold]
+fn first_reason_of_parts(f: &DescriptorFile) -> WriteFault
+    ensures { WithoutStringsRefused f.now result }
+{
+    match write_refusal(f) {
+        Some(WriteFault::Texts) | None => WriteFault::Memory,
+        Some(fault) => fault,
+    }
+}
+
 /// The bytes of a file, or `None` where it has none or out of memory.
 fn file_of(alloc: Global, f: &DescriptorFile) -> Option<Vec<u8>>
     ensures bytes { IfSome result (λ b. b.items ≡ file_bytes f.now) }
     ensures allowed { OnSome result (write_refusal f.now ≡ None) }
 {
-    let is_undeclared = has_wrong_count(f) || has_wrong_kind(f);
-    if is_undeclared || are_wrong_strings(count_named(f), &f.strings) {
+    if are_wrong_strings(count_named(f), &f.strings) {
+        return None;
+    }
+    let mut out = parts_of(alloc, f)?;
+    put_strings(&mut out, &f.strings).ok()?;
+    Some(out)
+}
+
+/// The bytes of its parts before the strings, or `None` where one has none or out of memory.
+fn parts_of(alloc: Global, f: &DescriptorFile) -> Option<Vec<u8>>
+    ensures bytes { IfSome result (λ b. b.items ≡ file_bytes (record f.now { strings = None })) }
+    ensures allowed { OnSome result (HasParts f.now) }
+{
+    if has_wrong_count(f) || has_wrong_kind(f) {
         return None;
     }
     let mut out = Vec::new(alloc);
     out.extend_from_slice(&f.device.to_bytes()).ok()?;
     put_sets(&mut out, &f.sets).ok()?;
     put_other(&mut out, &f.other).ok()?;
-    put_strings(&mut out, &f.strings).ok()?;
     Some(out)
 }
 

@@ -23,7 +23,7 @@ mod strings;
 
 pub use completed::read_completed;
 pub use file_reader::read_file;
-pub use file_writer::write_file;
+pub use file_writer::{write_file, write_without_strings};
 pub use input::read_input;
 pub use usb_file_data::{
     DescriptorFile, FILE_LIMIT, FileFault, FileWhy, Finding, Input, InputFault, Likeness, NoMemory,

@@ -77,13 +77,13 @@ impl CurrentRead {
 
     /// Begins the read that follows one that has ended.
     #[inline(never)]
-    fn go_on(&mut self, alloc: Global, limits: &Limits, terms: Terms, ending: Ending)
+    fn go_on(&mut self, alloc: Global, limits: &Limits, terms: &Terms, ending: Ending)
         requires good { IsGood (place_in self.old) }
         requires fits { FitsPlace (place_in self.old) (kept_in self.old) }
         requires bytes { KeepsBytes (kept_in self.old) }
-        ensures { GoesOn limits.now terms (place_in self.old) self.old.transfer (kept_in self.old) ending (place_in self.new) (stands self.new) self.old.forgiven self.new.forgiven }
+        ensures { GoesOn limits.now terms.now (place_in self.old) self.old.transfer (kept_in self.old) ending (place_in self.new) (stands self.new) self.old.forgiven self.new.forgiven }
     {
-        let due = self.lead(alloc, terms, ending);
+        let due = self.lead(alloc, *terms, ending);
         self.held.restart(alloc, due);
         self.transfer = transfer_at(limits, &due, &self.draft);
         self.due = due;
@@ -117,6 +117,7 @@ impl CurrentRead {
     }
 
     /// What is due after a read of this step. One that is refused ends the enumeration, or is passed over.
+    #[inline(always)]
     fn settle(
         &mut self,
         alloc: Global,
@@ -141,6 +142,7 @@ impl CurrentRead {
     }
 
     /// Lists the trouble of a read of strings, and goes on with a stand-in. Or the end when out of memory.
+    #[inline(never)]
     fn pass_over(&mut self, alloc: Global, trouble: Trouble) -> Due
         requires { IsGood (place_in self.old) }
         ensures { PassesOver (place_in self.old) trouble (place_of result self.new.draft) self.old.forgiven self.new.forgiven }
@@ -160,12 +162,12 @@ impl CurrentRead {
         &mut self,
         alloc: Global,
         limits: &Limits,
-        terms: Terms,
+        terms: &Terms,
         answer: Answer<'_>,
     ) -> bool
         requires reading { IsReading (place_in self.old) self.old.transfer (kept_in self.old) }
         requires bytes { BringsBytes (reply_of answer) }
-        ensures takes { TakesHeard limits.now terms (place_in self.old) (kept_in self.old) (taken self.old.transfer (reply_of answer.entry)) (stands self.new) self.old.forgiven self.new.forgiven }
+        ensures takes { TakesHeard limits.now terms.now (place_in self.old) (kept_in self.old) (taken self.old.transfer (reply_of answer.entry)) (stands self.new) self.old.forgiven self.new.forgiven }
         ensures fewer { left (taken self.old.transfer (reply_of answer.entry)).transfer < left self.old.transfer }
         ensures stands { IsStanding (stands self.new) }
         ensures quiet { result ≡ false → is_bus_trouble (place_in self.new) ≡ false }

@@ -150,7 +150,7 @@ impl Host {
         known_answer(answer);
         let has_ended = self
             .reading
-            .take(self.alloc, &self.limits, self.terms, answer);
+            .take(self.alloc, &self.limits, &self.terms, answer);
         if has_ended {
             self.reset_due = may_try_again(&self.reading, self.resets, &self.limits);
         }

@@ -78,6 +78,7 @@ fn sets_due(alloc: Global, terms: Terms, kind: SetKind, draft: &mut Draft) -> Re
 }
 
 /// The next string, or the configuration once all are there.
+#[inline(always)]
 #[tactic(auto, using(crate::proofs::CostLemmas::few_texts))]
 fn texts_due(alloc: Global, draft: &mut Draft) -> Due
     requires languages { length draft.old.strings.languages ≤ 126 }
@@ -198,8 +199,14 @@ fn read_languages(alloc: Global, terms: Terms, bytes: &[u8], draft: &mut Draft) 
     }
     match units_in(alloc, bytes) {
         Ok(Some(languages)) => {
-            let texts = Sequence::new(alloc);
-            draft.strings = Strings { languages, texts };
+            let count = languages.len() * draft.named.len();
+            let Ok(texts) = Vec::with_capacity(alloc, count) else {
+                return Err(Why::Memory);
+            };
+            draft.strings = Strings {
+                languages,
+                texts: Sequence::from_vec(texts),
+            };
             Ok(texts_due(alloc, draft))
         }
         Ok(None) => Err(Why::Malformed),

@@ -4,7 +4,6 @@ pub mod Coming
 pub mod EndpointSteps
 pub mod EndpointsShown
 pub mod NumberSteps
-pub mod NumberedLemmas
 pub mod Open
 pub mod Outlines
 pub mod RemarksPlaced

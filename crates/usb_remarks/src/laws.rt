@@ -1,7 +1,6 @@
 //! What holds of the outline of each input, and so of its explanation, which has the lines of each descriptor of it. The
 //! functions of these laws do nothing: their contracts are the laws.
 ghost use Rattle.usb_remarks.specs.OutlineLaws.{AllEachByteOnce, BrokenCoversUpToFault, WholeHasNoRest, WholeShowsTree, WholeReportsFindings};
-ghost use Rattle.usb_remarks.specs.Numbered.{NumbersAreOutline};
 ghost use Rattle.usb_remarks.specs.OwnedEndpoints.{WholeShowsEndpoints};
 ghost use Rattle.usb_remarks.specs.Remarks.{FullOrHighIsOpen, LowOrFullIsOpen};
 
@@ -37,12 +36,6 @@ pub fn each_descriptor_has_its_owner()
 /// order, each with the number of its set, its interface and alternate setting, its address and its bytes.
 pub fn each_endpoint_has_its_setting()
     ensures { WholeShowsEndpoints }
-{}
-
-/// A walk that goes from one [`Position`](usb_walk::Position) to the next has the descriptors of the outline: with the same places,
-/// bytes, roles, depths and owners.
-pub fn a_walk_by_numbers_is_the_outline()
-    ensures { NumbersAreOutline }
 {}
 
 /// An open speed is both: on an endpoint at `low or full speed`, or at `full or high speed`, something is remarked just where

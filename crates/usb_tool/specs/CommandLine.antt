@@ -6,7 +6,9 @@ use Rattle.std.specs.Global.{Global}
 use Rattle.clap.specs.Words.{App, Row, Rule, Text, first_of, new_app, new_rule, with_rule, with_subcommand}
 use Rattle.clap.specs.declared.builder.action.ArgAction.TheVariants as actions
 use Rattle.clap.specs.declared.builder.value_parser.ValueParser.TheVariants as parsers
+use Rattle.usb_host.specs.Terms.{everything}
 use Rattle.usb_tool.specs.declared.checking.Checking.{Checking}
+use Rattle.usb_tool.specs.declared.choosing.Choosing.{Choosing}
 use Rattle.usb_tool.specs.declared.manner.Explaining.{Explaining}
 use Rattle.usb_tool.specs.declared.command_line.Line.{Line}
 use Rattle.usb_tool.specs.declared.command_line.Line.TheVariants as lines
@@ -38,6 +40,12 @@ fates_rule = chosen_rule (codes "fates")
 abbrev pub damage_rule : Rule
 damage_rule = chosen_rule (codes "damage")
 
+abbrev pub strings_rule : Rule
+strings_rule = chosen_rule (codes "strings")
+
+abbrev pub other_speed_rule : Rule
+other_speed_rule = chosen_rule (codes "other-speed")
+
 -- the numbers that an address, NAKs and attempts may be
 abbrev pub address_rule : Rule
 address_rule = number_rule (codes "address") 1 127
@@ -68,7 +76,8 @@ explain_app = command_with (codes "explain")
 
 abbrev pub enumerate_app : App
 enumerate_app = command_with (codes "enumerate")
-    (speed_rule ∷ address_rule ∷ naks_rule ∷ attempts_rule ∷ fates_rule ∷ damage_rule ∷ flag_rule (codes "log") ∷ flag_rule (codes "brief") ∷ flag_rule (codes "packets") ∷ flag_rule (codes "with-strings") ∷ [])
+    (speed_rule ∷ address_rule ∷ naks_rule ∷ attempts_rule ∷ fates_rule ∷ damage_rule ∷ flag_rule (codes "log") ∷ flag_rule (codes "brief") ∷ flag_rule (codes "packets") ∷ flag_rule (codes "with-strings")
+    ∷ strings_rule ∷ other_speed_rule ∷ [])
 
 -- a command that prints its version where it is asked for
 abbrev pub versioned : App → App
@@ -140,11 +149,21 @@ flags_of rows = record {
   brief = gives (codes "brief") rows;
   packets = gives (codes "packets") rows;
   with_strings = gives (codes "with-strings") rows;
+  choice = everything;
 }
 
 -- none of them
 abbrev pub no_flags : EnumerateFlags
-no_flags = record { log = false; brief = false; packets = false; with_strings = false }
+no_flags = record { log = false; brief = false; packets = false; with_strings = false; choice = everything }
+
+-- the options that say what is asked for
+pub record HasChoosing (o : Choosing) (rows : List Row) : Type 0 where
+  pub strings : text_of o.strings ≡ first_of (codes "strings") rows
+  pub other_speed : text_of o.other_speed ≡ first_of (codes "other-speed") rows
+
+-- neither of them was found
+abbrev pub chooses_none : List Row → Bool
+chooses_none rows = not (is_some (first_of (codes "strings") rows)) && not (is_some (first_of (codes "other-speed") rows))
 
 -- the subcommand of this name was found, and this holds of what was found for its options
 abbrev pub Finds : Text → (List Row → Type 0) → Option (Text × List Row) → Type 0
@@ -159,7 +178,7 @@ abbrev pub Asks : Line → Option (Text × List Row) → Type 0
 Asks lines.Show = Finds (codes "show") (ReadsBy false false)
 Asks lines.Check = Finds (codes "check") (λ rows. (finds_alone rows ≡ true) × ReadsBy false false rows)
 Asks lines.Build = Finds (codes "build") (WritesBy false false)
-Asks (lines.Enumerate o) = Finds (codes "enumerate") (λ rows. HasTexts o rows × (flags_of rows ≡ no_flags) × (first_of (codes "damage") rows ≡ None))
+Asks (lines.Enumerate o) = Finds (codes "enumerate") (λ rows. HasTexts o rows × (flags_of rows ≡ no_flags) × (first_of (codes "damage") rows ≡ None) × (chooses_none rows ≡ true))
 Asks lines.ShowAny = Finds (codes "show") (ReadsBy false true)
 Asks lines.CheckAny = Finds (codes "check") (λ rows. (finds_alone rows ≡ true) × ReadsBy false true rows)
 Asks (lines.ShowHex any) = Finds (codes "show") (ReadsBy true any)
@@ -168,8 +187,11 @@ Asks (lines.CheckRemarks o) = Finds (codes "check") (λ rows. (finds_alone rows 
 Asks lines.BuildCommented = Finds (codes "build") (WritesBy false true)
 Asks (lines.BuildHex comments) = Finds (codes "build") (WritesBy true comments)
 Asks (lines.Explain o) = Finds (codes "explain") (HasFlags o)
-Asks (lines.EnumerateWith o flags) = Finds (codes "enumerate") (λ rows. HasTexts o rows × (flags ≡ flags_of rows) × (flags ≢ no_flags) × (first_of (codes "damage") rows ≡ None))
-Asks (lines.EnumerateDamaged o flags text) = Finds (codes "enumerate") (λ rows. HasTexts o rows × (flags ≡ flags_of rows) × (first_of (codes "damage") rows ≡ Some text.now))
+Asks (lines.EnumerateWith o flags) = Finds (codes "enumerate") (λ rows. HasTexts o rows × (flags ≡ flags_of rows) × (flags ≢ no_flags) × (first_of (codes "damage") rows ≡ None) × (chooses_none rows ≡ true))
+Asks (lines.EnumerateDamaged o flags text) = Finds (codes "enumerate") (λ rows. HasTexts o rows × (flags ≡ flags_of rows) × (first_of (codes "damage") rows ≡ Some text.now) × (chooses_none rows ≡ true))
+Asks (lines.EnumerateChosen o flags damage choosing) =
+    Finds (codes "enumerate")
+    (λ rows. HasTexts o rows × (flags ≡ flags_of rows) × (text_of damage ≡ first_of (codes "damage") rows) × HasChoosing choosing rows × (chooses_none rows ≡ false))
 
 -- the words as clap sees them
 abbrev pub word_texts : List (String Global) → List Text

@@ -24,10 +24,10 @@ use Rattle.usb_text.specs.Output.{AppendsFront, AppendsLess, Held}
 use Rattle.usb_host.specs.Limits.{LimitView}
 use Rattle.usb_bus.specs.declared.fate.Fate.{Fate}
 use Rattle.usb_bus.specs.declared.wire.change.BitChange.{BitChange}
-use Rattle.usb_bus.specs.DamagedRuns.{IsDamagedEnumeration}
-use Rattle.usb_bus.specs.Enumerate.{IsEnumeration}
-use Rattle.usb_bus.specs.Log.{IsLogOf, WritesLogLess}
-use Rattle.usb_bus.specs.LogOnWire.{IsWireLogOf, WritesWireLogLess}
+use Rattle.usb_bus.specs.DamagedRuns.{IsDamagedRunFrom}
+use Rattle.usb_bus.specs.Enumerate.{IsChosenEnumeration, Pair, chosen_pair}
+use Rattle.usb_bus.specs.Log.{IsLogFrom, WritesLogLessFrom}
+use Rattle.usb_bus.specs.LogOnWire.{IsWireLogFrom, WritesWireLogLessFrom}
 use Rattle.usb_tool.specs.EnumerationEnds.{end_of, end_status}
 use Rattle.usb_tool.specs.declared.enumeration_end.EnumerationEnd.{EnumerationEnd}
 use Rattle.usb_tool.specs.declared.enumeration_end.EnumerationEnd.TheVariants.{Refused}
@@ -57,7 +57,7 @@ refused_line (refusals.Finding finding) = codes "refused 1 " ++ finding_line fin
 refused_line fault = codes "refused " ++ decimal (fault_number fault) ++ 10 ∷ []
 
 -- what an enumeration is made under: the limits of the host, the speed of the device, the fates of the transactions, the bits
--- that change, and whether a log is asked for, a brief one or with packets, and a dump is taken
+-- that change, whether a log is asked for, a brief one or with packets, and a dump is taken, and what the host asks for
 pub record Conditions : Type 0 where
   pub limits : LimitView
   pub speed : Speed
@@ -87,21 +87,25 @@ abbrev pub has_bytes : List BitChange → EnumerateFlags → Bool
 has_bytes [] flags = flags.packets
 has_bytes (change ∷ more) flags = true
 
+-- a new host that asks for what is chosen, and a new device
+abbrev pub new_under : Conditions → Pair
+new_under c = chosen_pair c.limits c.speed c.flags.choice
+
 -- A device with these descriptors was enumerated, over a bus of bytes or not, and this is the log of that very run, or nothing where
 -- none is asked for.
 abbrev pub IsRunOver : Bool → Bool → Conditions → DescriptorFile → Run → List ℕ → Type 0
-IsRunOver false false c f run log = IsEnumeration f c.speed c.limits c.fates run × (log ≡ [])
-IsRunOver false true c f run log = IsLogOf c.flags.brief f c.speed c.limits c.fates run log
-IsRunOver true false c f run log = IsDamagedEnumeration f c.speed c.limits c.fates c.changes run × (log ≡ [])
-IsRunOver true true c f run log = IsWireLogOf c.flags.brief c.flags.packets f c.fates c.changes c.speed c.limits run log
+IsRunOver false false c f run log = IsChosenEnumeration f c.speed c.limits c.flags.choice c.fates run × (log ≡ [])
+IsRunOver false true c f run log = IsLogFrom (new_under c) c.flags.brief f c.fates run log
+IsRunOver true false c f run log = IsDamagedRunFrom (new_under c) f c.fates c.changes run × (log ≡ [])
+IsRunOver true true c f run log = IsWireLogFrom c.flags.brief c.flags.packets f c.fates c.changes (new_under c) run log
 
 abbrev pub IsRun : Conditions → DescriptorFile → Run → List ℕ → Type 0
 IsRun c f run log = IsRunOver (has_bytes c.changes c.flags) c.flags.log c f run log
 
 -- its log was cut off
 abbrev pub CutsLog : Bool → Conditions → DescriptorFile → Held → Held → OutFault → Type 0
-CutsLog false c f held holds fault = WritesLogLess c.flags.brief f c.speed c.limits c.fates held holds fault
-CutsLog true c f held holds fault = WritesWireLogLess c.flags.brief c.flags.packets f c.fates c.changes c.speed c.limits held holds fault
+CutsLog false c f held holds fault = WritesLogLessFrom (new_under c) c.flags.brief f c.fates held holds fault
+CutsLog true c f held holds fault = WritesWireLogLessFrom c.flags.brief c.flags.packets f c.fates c.changes (new_under c) held holds fault
 
 -- a device was made of the file and enumerated, this is the log of that run, if it is asked for, and the text what is reported
 -- of it

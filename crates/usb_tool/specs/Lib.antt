@@ -12,6 +12,7 @@ pub mod CommandLine
 pub mod OptionValues
 pub mod Damages
 pub mod Settings
+pub mod Choosing
 pub mod OptionFaults
 pub mod Numbers
 pub mod Runs

@@ -252,6 +252,8 @@ SettingsNumbers =
     × (settings_fault_number options.BriefAlone ≡ 7)
     × (settings_fault_number options.Damages ≡ 8)
     × (settings_fault_number options.PacketsAlone ≡ 9)
+    × (settings_fault_number options.Strings ≡ 10)
+    × (settings_fault_number options.OtherSpeed ≡ 11)
 
 -- All of them, so that two variants that change places in the code are refused.
 pub record NumbersAreThoseOfTheTables : Type 0 where

@@ -26,6 +26,8 @@ settings_fault_number faults.SpeedAlone = 5
 settings_fault_number faults.BriefAlone = 7
 settings_fault_number faults.Damages = 8
 settings_fault_number faults.PacketsAlone = 9
+settings_fault_number faults.Strings = 10
+settings_fault_number faults.OtherSpeed = 11
 
 -- its line on standard error, without its line feed
 abbrev pub settings_line : SettingsFault → List ℕ
@@ -37,6 +39,8 @@ settings_line faults.SpeedAlone = codes "usbdesc: --speed without --remarks"
 settings_line faults.BriefAlone = codes "usbdesc: --brief without --log"
 settings_line faults.Damages = codes "usbdesc: bad damages"
 settings_line faults.PacketsAlone = codes "usbdesc: --packets without --log"
+settings_line faults.Strings = codes "usbdesc: bad strings"
+settings_line faults.OtherSpeed = codes "usbdesc: bad other speed"
 
 -- what it means, for people
 abbrev pub settings_meaning : SettingsFault → List ℕ
@@ -48,6 +52,8 @@ settings_meaning faults.SpeedAlone = codes "a speed is for remarks: check --rema
 settings_meaning faults.BriefAlone = codes "a log is brief: enumerate --log --brief"
 settings_meaning faults.Damages = codes "damage is TRANSACTION:PACKET:BIT,..;.. with packets 1 to 3"
 settings_meaning faults.PacketsAlone = codes "a log shows packets: enumerate --log --packets"
+settings_meaning faults.Strings = codes "strings are needed, wanted or skipped"
+settings_meaning faults.OtherSpeed = codes "the other speed is asked for or not: yes or no"
 
 -- the exit status: 2 as for a line that is no command, and 3 where it is out of memory
 abbrev pub settings_status : SettingsFault → ℕ

@@ -1,5 +1,5 @@
 -- What the program does, from its command line to its exit status.
-use Rattle.std.specs.Prelude.{◌≡◌, ℕ, ◌⊎◌, Bool, true, false, if◌then◌else◌, List, [], ◌∷◌, ◌++◌, Option, Result, Ok, Err, String}
+use Rattle.std.specs.Prelude.{◌≡◌, ℕ, ◌⊎◌, Bool, true, false, if◌then◌else◌, List, [], ◌∷◌, ◌++◌, Option, Some, None, Result, Ok, Err, String}
 use Rattle.std.specs.Global.{Global}
 use Rattle.std.specs.Io.KnownBytes.{Keeps}
 use Rattle.clap.specs.Kinds.{IsAmong}
@@ -9,7 +9,11 @@ use Rattle.clap.specs.declared.error.kind.ErrorKind.TheVariants as kinds
 use Rattle.usb_text.specs.Output.{AppendsFront, Held}
 use Rattle.usb_tool.specs.Commands.{BuildCommentedFails, BuildFails, Built, BuiltCommented, CheckAnyFails, CheckFails, Checked, CheckedAny, ShowAnyFails, ShowFails, Shown, ShownAny}
 use Rattle.usb_tool.specs.RemarkChecks.{CheckRemarksFails, CheckedRemarks, IsRunningSpeed, RefusesChecking}
+use Rattle.std.specs.Borrow.{Bor}
 use Rattle.usb_tool.specs.Enumerations.{Conditions, EnumerateFails, EnumeratedTo, under}
+use Rattle.usb_host.specs.declared.choice.Choice.{Choice}
+use Rattle.usb_tool.specs.Choosing.{IsChosen, RefusesChoosing}
+use Rattle.usb_tool.specs.declared.choosing.Choosing.{Choosing}
 use Rattle.usb_tool.specs.EnumerationEnds.{end_status, refusal_meaning, trouble_meaning}
 use Rattle.usb_tool.specs.declared.enumeration_end.EnumerationEnd.{EnumerationEnd}
 use Rattle.usb_tool.specs.declared.enumeration_end.EnumerationEnd.TheVariants as ends
@@ -173,6 +177,17 @@ EndsDamaged person o flags text from to held holds errors told status =
     (λ s. EndsUnder person (under s.settings.limits s.settings.speed s.settings.fates.items s.changes.items flags)) from to held holds errors told status
     ⊎ OptionsAreRefused person (RefusesBeside o flags text) from to held holds errors told status
 
+-- with damage or without
+abbrev pub EndsBeside : Bool → Options → EnumerateFlags → Option (Bor (List ℕ)) → Course
+EndsBeside person o flags None = EndsEnumeration person o flags
+EndsBeside person o flags (Some text) = EndsDamaged person o flags text.now
+
+-- by a host that asks for what these options choose
+abbrev pub EndsChosen : Bool → Options → EnumerateFlags → Option (Bor (List ℕ)) → Choosing → Course
+EndsChosen person o flags damage choosing from to held holds errors told status =
+    OptionsAreTaken Choice (IsChosen choosing) (λ choice. EndsBeside person o (record flags { choice = choice }) damage) from to held holds errors told status
+    ⊎ OptionsAreRefused person (RefusesChoosing choosing) from to held holds errors told status
+
 -- what to try where the input of `build` is at fault
 abbrev pub build_hint : Bool → Hint
 build_hint comments = if comments then hints.Nothing else hints.Comments
@@ -193,6 +208,7 @@ EndsLine person (lines.BuildHex comments) = Ends person (build_hint comments) (B
 EndsLine person (lines.Explain options) = EndsExplanation person options
 EndsLine person (lines.EnumerateWith options flags) = EndsEnumeration person options flags
 EndsLine person (lines.EnumerateDamaged options flags text) = EndsDamaged person options flags text.now
+EndsLine person (lines.EnumerateChosen options flags damage choosing) = EndsChosen person options flags damage choosing
 
 -- the words are a line, and what it asks for was done
 pub record LineIsTaken (person : Bool) (words : List (String Global)) (from to : Left) (held holds errors told : Held) (status : ℕ) : Type 0 where

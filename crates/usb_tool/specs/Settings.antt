@@ -69,6 +69,8 @@ RefusesOptions o faults.SpeedAlone = ⊥
 RefusesOptions o faults.BriefAlone = ⊥
 RefusesOptions o faults.Damages = ⊥
 RefusesOptions o faults.PacketsAlone = ⊥
+RefusesOptions o faults.Strings = ⊥
+RefusesOptions o faults.OtherSpeed = ⊥
 
 -- the fault of a flag that is for a log where none is asked for: lines of data are left out, or else packets are shown
 abbrev pub flag_alone : EnumerateFlags → Option SettingsFault

@@ -2,16 +2,16 @@
 ghost use Rattle.std.specs.Prelude.{◌≡◌, IfOk, false};
 ghost use Rattle.clap.specs.Words.{app_of, new_app, rule_of, with_rule, with_subcommand};
 ghost use Rattle.clap.specs.declared.builder.Command.TheViews.{out-Command};
-ghost use Rattle.usb_tool.specs.CommandLine.{address_rule, attempts_rule, build_app, check_app, chosen_rule, damage_rule, enumerate_app, explain_app, fates_rule, flag_rule, naks_rule, show_app, speed_rule, usbdesc_app, valued_rule};
+ghost use Rattle.usb_tool.specs.CommandLine.{address_rule, attempts_rule, build_app, check_app, chosen_rule, damage_rule, enumerate_app, explain_app, fates_rule, flag_rule, naks_rule, other_speed_rule, show_app, speed_rule, strings_rule, usbdesc_app, valued_rule};
 
 use crate::help::{
     ABOUT, ADDRESS_HELP, ATTEMPTS_HELP, BRIEF_HELP, BRIEF_LOG_HELP, BUILD_ABOUT, BUILD_HELP,
     BUILD_USAGE, CHECK_ABOUT, CHECK_ANY_HELP, CHECK_HELP, CHECK_USAGE, COMMENTS_HELP, DAMAGE,
     DAMAGE_HELP, ENUMERATE_ABOUT, ENUMERATE_HELP, ENUMERATE_USAGE, EXPLAIN_ABOUT, EXPLAIN_HELP,
     EXPLAIN_USAGE, FATES, FATES_HELP, FORMATS_HELP, HEX_HELP, HEX_OUTPUT_HELP, LOG_HELP,
-    LOOSE_HELP, NAKS_HELP, NO_PLACES_HELP, PACKETS_HELP, RAN_AT_HELP, REMARKS_HELP, RUNNING_SPEEDS,
-    SHOW_ABOUT, SHOW_ANY_HELP, SHOW_HELP, SHOW_USAGE, SPEED_HELP, SPEEDS, UTF8_HELP, VERSION,
-    WITH_STRINGS_HELP,
+    LOOSE_HELP, NAKS_HELP, NO_PLACES_HELP, OTHER_SPEED, OTHER_SPEED_HELP, PACKETS_HELP,
+    RAN_AT_HELP, REMARKS_HELP, RUNNING_SPEEDS, SHOW_ABOUT, SHOW_ANY_HELP, SHOW_HELP, SHOW_USAGE,
+    SPEED_HELP, SPEEDS, STRINGS, STRINGS_HELP, UTF8_HELP, VERSION, WITH_STRINGS_HELP,
 };
 use clap::{Arg, ArgAction, Command, value_parser};
 use std::alloc::{AllocError, Global};
@@ -107,7 +107,9 @@ fn enumerate<'a>(alloc: Global) -> Result<Command<'a>, AllocError>
     let enumerate = add_option(enumerate, flag(alloc, "log", LOG_HELP))?;
     let enumerate = add_option(enumerate, flag(alloc, "brief", BRIEF_LOG_HELP))?;
     let enumerate = add_option(enumerate, flag(alloc, "packets", PACKETS_HELP))?;
-    add_option(enumerate, flag(alloc, "with-strings", WITH_STRINGS_HELP))
+    let enumerate = add_option(enumerate, flag(alloc, "with-strings", WITH_STRINGS_HELP))?;
+    let enumerate = add_option(enumerate, strings(alloc))?;
+    add_option(enumerate, other_speed(alloc))
 }
 
 /// A command of this name, which takes no words of its own.
@@ -212,4 +214,18 @@ fn damage<'a>(alloc: Global) -> Arg<'a>
     ensures local { result.global ≡ false }
 {
     chosen(alloc, "damage", DAMAGE, DAMAGE_HELP)
+}
+
+fn strings<'a>(alloc: Global) -> Arg<'a>
+    ensures rule { rule_of result ≡ strings_rule }
+    ensures local { result.global ≡ false }
+{
+    chosen(alloc, "strings", STRINGS, STRINGS_HELP)
+}
+
+fn other_speed<'a>(alloc: Global) -> Arg<'a>
+    ensures rule { rule_of result ≡ other_speed_rule }
+    ensures local { result.global ≡ false }
+{
+    chosen(alloc, "other-speed", OTHER_SPEED, OTHER_SPEED_HELP)
 }

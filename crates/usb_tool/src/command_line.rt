@@ -2,15 +2,17 @@
 ghost use Rattle.std.specs.Prelude.{◌≡◌, IfOk, Some, codes};
 ghost use Rattle.clap.specs.Words.{fault_of, first_of, found_of, rows_of, subcommand_of, subcommand_rows_of};
 ghost use Rattle.clap.specs.Kinds.{FailsBy};
-ghost use Rattle.usb_tool.specs.CommandLine.{Asks, HasFlags, IsChecking, HasTexts, flags_of, gives, is_given, text_of, usbdesc_app, word_texts};
+ghost use Rattle.usb_tool.specs.CommandLine.{Asks, HasChoosing, HasFlags, IsChecking, HasTexts, flags_of, gives, is_given, text_of, usbdesc_app, word_texts};
 ghost use Rattle.usb_tool.specs.inside.Taking.{NamesCommand};
 
 use crate::checking::Checking;
+use crate::choosing::Choosing;
 use crate::clap_command::usbdesc;
 use crate::manner::Explaining;
 use crate::settings::{EnumerateFlags, Options};
 use clap::{ArgMatches, Error};
 use std::alloc::Global;
+use usb_host::Choice;
 
 /// What a command line asks for.
 #[derive(Clone, Copy, Debug, PartialEq, Eq, Hash)]
@@ -43,6 +45,9 @@ pub enum Line<'a> {
     EnumerateWith(Options<'a>, EnumerateFlags),
     /// `enumerate --damage`, with this text and with any of these flags.
     EnumerateDamaged(Options<'a>, EnumerateFlags, &'a str),
+    /// `enumerate` with at least one of the options that say what is asked for, with any of these flags and with the text of
+    /// `--damage`, if it is given.
+    EnumerateChosen(Options<'a>, EnumerateFlags, Option<&'a str>, Choosing<'a>),
 }
 
 /// What the words ask for, of which the first is the program's name.
@@ -150,7 +155,12 @@ fn enumerate_of<'a>(matches: &ArgMatches<'a>) -> Line<'a>
 {
     let options = options_of(matches);
     let flags = flags_of(matches);
-    match damage_of(matches) {
+    let damage = damage_of(matches);
+    let choosing = choosing_of(matches);
+    if choosing.strings.is_some() || choosing.other_speed.is_some() {
+        return Line::EnumerateChosen(options, flags, damage, choosing);
+    }
+    match damage {
         Some(text) => Line::EnumerateDamaged(options, flags, text),
         None if flags.log || flags.brief || flags.packets || flags.with_strings => {
             Line::EnumerateWith(options, flags)
@@ -187,6 +197,16 @@ fn flags_of(matches: &ArgMatches<'_>) -> EnumerateFlags
         brief: has_flag(matches, "brief"),
         packets: has_flag(matches, "packets"),
         with_strings: has_flag(matches, "with-strings"),
+        choice: Choice::everything(),
+    }
+}
+
+fn choosing_of<'a>(matches: &ArgMatches<'a>) -> Choosing<'a>
+    ensures { HasChoosing result (rows_of (found_of matches.now)) }
+{
+    Choosing {
+        strings: matches.get_str("strings"),
+        other_speed: matches.get_str("other-speed"),
     }
 }
 

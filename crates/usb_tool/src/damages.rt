@@ -20,7 +20,8 @@ pub struct DamageSettings {
 ///
 /// ```rust
 /// let options = Options { speed: None, address: None, naks: None, attempts: None, fates: None };
-/// let flags = EnumerateFlags { log: false, brief: true, packets: false, with_strings: false };
+/// let choice = Choice::everything();
+/// let flags = EnumerateFlags { log: false, brief: true, packets: false, with_strings: false, choice };
 /// assert_eq!(rt; damage_settings(alloc, &options, flags, "1:1").err(), Some(SettingsFault::BriefAlone));
 /// ```
 ///

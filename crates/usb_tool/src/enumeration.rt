@@ -17,14 +17,14 @@ use crate::settings::EnumerateFlags;
 use std::alloc::Global;
 use std::io::{Read, Write};
 use usb_bus::{
-    BitChange, Fate, Logging, Run, enumerate_encoded, enumerate_encoded_logged,
-    enumerate_encoded_on_the_wire, enumerate_encoded_on_the_wire_logged,
+    BitChange, Fate, Logging, Run, enumerate_logged_with, enumerate_on_the_wire_logged_with,
+    enumerate_on_the_wire_with, enumerate_with,
 };
 use usb_device::{DescriptionFault, Encoded};
 use usb_fields::Speed;
 use usb_file::{DescriptorFile, FILE_LIMIT, read_completed, read_file};
 use usb_file_data::FileFault;
-use usb_host::{Limits, Trouble};
+use usb_host::{Choice, Limits, Trouble};
 use usb_listing::list;
 use usb_text::write_all;
 
@@ -64,6 +64,7 @@ pub fn run_enumerate<R: Read, W: Write>(
         brief: false,
         packets: false,
         with_strings: false,
+        choice: Choice::everything(),
     };
     run_enumerate_with(alloc, r, w, l, s, fates, flags)
 }
@@ -76,7 +77,8 @@ pub fn run_enumerate<R: Read, W: Write>(
 /// let mut dump: &[u8] = &[18, 1, 0, 2, 0, 0, 0, 64, 0x34, 0x12, 0x78, 0x56, 0, 1, 1, 0, 0, 0];
 /// let mut lines = Vec::new(alloc);
 /// let limits = Limits::new(1, 16, 3)?;
-/// let flags = EnumerateFlags { log: false, brief: false, packets: false, with_strings: true };
+/// let choice = Choice::everything();
+/// let flags = EnumerateFlags { log: false, brief: false, packets: false, with_strings: true, choice };
 /// assert_eq!(rt; run_enumerate_with(alloc, &mut dump, &mut lines, limits, Speed::Full, &[], flags)?, 1);
 /// // A device has a configuration.
 /// assert_eq!(rt; lines.as_slice(), b"refused 1 V10 main 0 0 0\n");
@@ -221,10 +223,10 @@ fn run_on_the_wire<W: Write>(
             brief: flags.brief,
             packets: flags.packets,
         };
-        let run = enumerate_encoded_on_the_wire_logged(alloc, d, l, logging, w)?;
+        let run = enumerate_on_the_wire_logged_with(alloc, d, l, flags.choice, logging, w)?;
         Ok(run)
     } else {
-        Ok(enumerate_encoded_on_the_wire(alloc, d, l, fates, changes))
+        Ok(enumerate_on_the_wire_with(alloc, d, l, flags.choice, fates, changes))
     }
 }
 
@@ -242,10 +244,10 @@ fn run_losing<W: Write>(
     ensures err { IfErr result (BreaksRun (under l d.now.speed fates.now [] flags) d.now.file (W.contents w.old) (W.contents w.new)) }
 {
     if flags.log {
-        let run = enumerate_encoded_logged(alloc, d, l, fates, flags.brief, w)?;
+        let run = enumerate_logged_with(alloc, d, l, flags.choice, fates, flags.brief, w)?;
         Ok(run)
     } else {
-        Ok(enumerate_encoded(alloc, d, l, fates))
+        Ok(enumerate_with(alloc, d, l, flags.choice, fates))
     }
 }
 

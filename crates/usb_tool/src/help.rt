@@ -298,6 +298,20 @@ pub(crate) const DAMAGE_HELP: &str =
 pub(crate) const WITH_STRINGS_HELP: &str =
     "Takes a dump too, with the text 'string 3' for index 3 and so on, in language 0409";
 
+/// What the value of `--strings` is called: its words would make the column of options too wide.
+pub(crate) const STRINGS: &str = "WORD";
+
+/// What `--strings` says.
+pub(crate) const STRINGS_HELP: &str =
+    "Named strings: needed, wanted (may be missing) or skipped [default: needed]";
+
+/// The values of `--other-speed`.
+pub(crate) const OTHER_SPEED: &str = "yes|no";
+
+/// What `--other-speed` says.
+pub(crate) const OTHER_SPEED_HELP: &str =
+    "Whether the qualifier and the other-speed sets are asked for [default: yes]";
+
 /// What `--log` says.
 pub(crate) const LOG_HELP: &str = "Writes a line for each transaction before the result";
 

@@ -26,7 +26,7 @@
 //! function of the words, and each fault is `clap`'s own (`specs/CommandLine.antt`).
 //! [`settings_of`] makes the [`Settings`] of an enumeration of these texts, with what holds where an option is
 //! absent, and [`settings_with`] refuses flags too (`specs/Settings.antt`). It reads the numbers, and [`read_speed`] and [`read_fates`] the other two
-//! (`specs/OptionValues.antt`). [`damage_settings`] reads the bits that change too (`specs/Damages.antt`). [`manner_of`] says what the options of `explain` mean (`specs/Explains.antt`).
+//! (`specs/OptionValues.antt`). [`damage_settings`] reads the bits that change too (`specs/Damages.antt`), and [`choice_of`] what the host asks for (`specs/Choosing.antt`). [`manner_of`] says what the options of `explain` mean (`specs/Explains.antt`).
 //!
 //! [`converse`] makes control transfers between a host and a device over a bus that loses packets and handshakes.
 //! It takes the description of the device (crate `usb_device`), how many NAKs the host retries, the requests
@@ -38,6 +38,7 @@ mod build;
 mod check;
 mod check_remarks;
 mod checking;
+mod choosing;
 mod clap_command;
 mod command_line;
 mod damages;
@@ -63,6 +64,7 @@ pub use build::{run_build, run_build_commented};
 pub use check::{run_check, run_check_any};
 pub use check_remarks::{remarks_add_lines_alone, run_check_remarks};
 pub use checking::{Checking, running_speed};
+pub use choosing::{Choosing, choice_of};
 pub use command_line::{Line, read_line};
 pub use damages::{DamageSettings, damage_settings, read_damages};
 pub use enumeration::{run_enumerate, run_enumerate_with, run_enumeration};

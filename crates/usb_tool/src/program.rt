@@ -5,13 +5,14 @@ ghost use Rattle.usb_tool.specs.Faults.{words_line, words_status};
 ghost use Rattle.usb_tool.specs.CommandLine.{no_flags};
 ghost use Rattle.usb_tool.specs.Enumerations.{under};
 ghost use Rattle.usb_tool.specs.Faults.{fault_line, meaning_line, status_of};
-ghost use Rattle.usb_tool.specs.Runs.{Answers, EndsChecking, EndsDamaged, EndsEnumeration, EndsExplanation, EndsHex, EndsLine, EndsRemarks, EndsUnder, Runs, ReportsLines, ReportsEnd, ReportsEnded, ReportsOutcome, any_hint, build_hint, ended_status, enumerate_hint, line_status};
+ghost use Rattle.usb_tool.specs.Runs.{Answers, EndsBeside, EndsChecking, EndsChosen, EndsDamaged, EndsEnumeration, EndsExplanation, EndsHex, EndsLine, EndsRemarks, EndsUnder, Runs, ReportsLines, ReportsEnd, ReportsEnded, ReportsOutcome, any_hint, build_hint, ended_status, enumerate_hint, line_status};
 ghost use Rattle.usb_tool.specs.OptionFaults.{settings_line, settings_meaning, settings_status};
 
 use crate::build::{run_build, run_build_commented};
 use crate::check::{run_check, run_check_any};
 use crate::check_remarks::run_check_remarks;
 use crate::checking::{Checking, running_speed};
+use crate::choosing::{Choosing, choice_of};
 use crate::command_line::{Line, read_line};
 use crate::damages::{DamageSettings, damage_settings};
 use crate::enumeration::run_enumeration;
@@ -28,6 +29,7 @@ use clap::error::ErrorKind;
 use std::alloc::Global;
 use std::io;
 use std::io::{Read, Write};
+use usb_host::Choice;
 use usb_remarks::SetSpeed;
 use usb_text::write_all;
 
@@ -168,6 +170,9 @@ fn carry_out<R: Read, W: Write, E: Write>(
         Line::EnumerateDamaged(options, flags, text) => enumerate_damaged(
             alloc, options, *flags, text, person, r, w, e,
         ),
+        Line::EnumerateChosen(options, flags, damage, choosing) => enumerate_chosen(
+            alloc, options, *flags, *damage, choosing, person, r, w, e,
+        ),
     }
 }
 
@@ -294,6 +299,7 @@ fn enumerate_plainly<R: Read, W: Write, E: Write>(
         brief: false,
         packets: false,
         with_strings: false,
+        choice: Choice::everything(),
     };
     enumerate_with(alloc, options, flags, person, r, w, e)
 }
@@ -328,6 +334,49 @@ fn enumerate_with<R: Read, W: Write, E: Write>(
             report_end(&outcome, person, flags, e)
         },
         Err(fault) => refuse(fault, person, e),
+    }
+}
+
+/// Enumerates as the other options say, by a host that asks for what is chosen. A choice that is none is reported before anything
+/// is read.
+fn enumerate_chosen<R: Read, W: Write, E: Write>(
+    alloc: Global,
+    options: &Options<'_>,
+    flags: EnumerateFlags,
+    damage: Option<&str>,
+    choosing: &Choosing<'_>,
+    person: bool,
+    r: &mut R,
+    w: &mut W,
+    e: &mut E,
+) -> u8
+    ensures { EndsChosen person options.now flags damage.entry choosing.now (R.remaining r.old) (R.remaining r.new) (W.contents w.old) (W.contents w.new) (E.contents e.old) (E.contents e.new) result }
+{
+    match choice_of(choosing) {
+        Ok(choice) => {
+            let chosen = EnumerateFlags { choice, ..flags };
+            enumerate_beside(alloc, options, chosen, damage, person, r, w, e)
+        }
+        Err(fault) => refuse(fault, person, e),
+    }
+}
+
+/// Enumerates over a bus on which bits change, if a text names some.
+fn enumerate_beside<R: Read, W: Write, E: Write>(
+    alloc: Global,
+    options: &Options<'_>,
+    flags: EnumerateFlags,
+    damage: Option<&str>,
+    person: bool,
+    r: &mut R,
+    w: &mut W,
+    e: &mut E,
+) -> u8
+    ensures { EndsBeside person options.now flags damage.entry (R.remaining r.old) (R.remaining r.new) (W.contents w.old) (W.contents w.new) (E.contents e.old) (E.contents e.new) result }
+{
+    match damage {
+        Some(text) => enumerate_damaged(alloc, options, flags, text, person, r, w, e),
+        None => enumerate_with(alloc, options, flags, person, r, w, e),
     }
 }
 

@@ -10,7 +10,7 @@ use std::alloc::{AllocError, AllocFailed, Global};
 use std::{error, fmt};
 use usb_bus::Fate;
 use usb_fields::Speed;
-use usb_host::Limits;
+use usb_host::{Choice, Limits};
 
 /// The speed of a name: `low`, `full` or `high`.
 ///
@@ -134,7 +134,7 @@ pub struct Options<'a> {
     pub fates: Option<&'a str>,
 }
 
-/// The flags of `enumerate`: what it does beside.
+/// The flags of `enumerate`: what it does beside, and what its host asks for.
 #[derive(Clone, Copy, Debug, PartialEq, Eq, Hash)]
 pub struct EnumerateFlags {
     /// Whether a log of the transactions is asked for.
@@ -145,6 +145,8 @@ pub struct EnumerateFlags {
     pub packets: bool,
     /// Whether a dump is taken, with a text in each place that names a string.
     pub with_strings: bool,
+    /// What the host asks for.
+    pub choice: Choice,
 }
 
 /// What an enumeration is given beside its file.
@@ -194,7 +196,8 @@ pub fn settings_of(alloc: Global, options: &Options<'_>) -> Result<Settings, Set
 ///
 /// ```rust
 /// let options = Options { speed: None, address: None, naks: None, attempts: None, fates: None };
-/// let flags = EnumerateFlags { log: false, brief: true, packets: false, with_strings: false };
+/// let choice = Choice::everything();
+/// let flags = EnumerateFlags { log: false, brief: true, packets: false, with_strings: false, choice };
 /// assert_eq!(rt; settings_with(alloc, &options, flags).err(), Some(SettingsFault::BriefAlone));
 /// ```
 ///
@@ -301,10 +304,14 @@ pub enum SettingsFault {
     Damages,
     /// The bytes of packets are asked for, and no log is, which shows them.
     PacketsAlone,
+    /// No choice of strings has the name.
+    Strings,
+    /// No choice of the other speed has the name.
+    OtherSpeed,
 }
 
 impl SettingsFault {
-    /// The fault's number, 1 to 9 without 6: of the first three a lower one is tested first.
+    /// The fault's number, 1 to 11 without 6: of the first three a lower one is tested first.
     ///
     /// ```rust
     /// assert_eq!(rt; SettingsFault::Speed.number(), 2);
@@ -321,6 +328,8 @@ impl SettingsFault {
             SettingsFault::BriefAlone => 7,
             SettingsFault::Damages => 8,
             SettingsFault::PacketsAlone => 9,
+            SettingsFault::Strings => 10,
+            SettingsFault::OtherSpeed => 11,
         }
     }
 
@@ -355,6 +364,8 @@ impl SettingsFault {
             SettingsFault::BriefAlone => "a log is brief: enumerate --log --brief",
             SettingsFault::Damages => "damage is TRANSACTION:PACKET:BIT,..;.. with packets 1 to 3",
             SettingsFault::PacketsAlone => "a log shows packets: enumerate --log --packets",
+            SettingsFault::Strings => "strings are needed, wanted or skipped",
+            SettingsFault::OtherSpeed => "the other speed is asked for or not: yes or no",
         }
     }
 }
@@ -373,6 +384,8 @@ impl fmt::Display for SettingsFault {
             SettingsFault::BriefAlone => f.write_str("usbdesc: --brief without --log"),
             SettingsFault::Damages => f.write_str("usbdesc: bad damages"),
             SettingsFault::PacketsAlone => f.write_str("usbdesc: --packets without --log"),
+            SettingsFault::Strings => f.write_str("usbdesc: bad strings"),
+            SettingsFault::OtherSpeed => f.write_str("usbdesc: bad other speed"),
         }
     }
 }

@@ -46,7 +46,7 @@ def _alone(found: Found) -> tuple[str, Problem | None]:
 
 def _together(found: list[Found]) -> list[Found]:
     """A device descriptor with the sets that it declares, where these are the next and follow it without a gap; else nothing."""
-    device, *sets = found[:found[0].bytes[-1] + 1]
+    device, *sets = found
     end = device.place + len(device.bytes)
     for it in sets:
         if it.place != end:
@@ -61,15 +61,16 @@ def _together(found: list[Found]) -> list[Found]:
 
 def found_in(data: bytes, address: int = 0) -> Iterator[Piece]:
     """What stands in bytes whose first one has this address."""
-    found = list(find(data))
-    while found:
-        whole = _together(found) if found[0].kind == "device" else []
-        words, finding = _alone(found[0])
-        joined = b"".join(it.bytes for it in whole) or found[0].bytes
+    found, at = list(find(data)), 0
+    while at < len(found):
+        first = found[at]
+        whole = _together(found[at:at + 1 + first.bytes[-1]]) if first.kind == "device" else []
+        words, finding = _alone(first)
+        joined = b"".join(it.bytes for it in whole) or first.bytes
         if whole:
             words, finding = f"{words} and its sets", _first(joined)
-        yield Piece(address + found[0].place, joined, words, finding)
-        del found[:len(whole) or 1]
+        yield Piece(address + first.place, joined, words, finding)
+        at += len(whole) or 1
 
 
 def _read(word: str) -> bytes:

@@ -1,9 +1,8 @@
 -- Scripts that a host walks and a device serves.
 use Rattle.std.specs.Prelude.{◌≡◌, ℕ, Bool, true, List, [], ◌∷◌, Option}
 use Rattle.usb_fields.specs.declared.setup.Setup.{Setup as SetupPacket}
-use Rattle.usb_fields.specs.declared.packet.Speed.{Speed}
 use Rattle.usb_set.specs.declared.tree.Configuration.{Configuration}
-use Rattle.usb_host.specs.Terms.{all_of}
+use Rattle.usb_host.specs.declared.choice.Terms.{Terms}
 use Rattle.usb_host.specs.Plan.{Begin}
 use Rattle.usb_device.specs.declared.state.State.{State}
 use Rattle.usb_device.specs.Requests.{Outcome, Bytes, Takes}
@@ -11,14 +10,14 @@ use Rattle.usb_device.specs.Step.{carried_out, is_set_address}
 use Rattle.usb_bus.specs.Beside.{CutsAlike, SizesAlike}
 use Rattle.usb_bus.specs.Attempt.{reply_to}
 use Rattle.usb_host.specs.Place.{Place}
-use Rattle.usb_host.specs.Order.{asks, next}
+use Rattle.usb_host.specs.Order.{asks, leads}
 use Rattle.usb_bus.specs.inside.Script.{Exchange}
 
--- the host's side: from this place the script's requests are due, one after another, and lead to `end`
-module _ (set_of : List ℕ → Option Configuration) (speed : Speed) (address : ℕ) where
+-- the host's side: from this place the script's requests are due, one after another, and lead to `end`, with nothing passed over
+module _ (set_of : List ℕ → Option Configuration) (terms : Terms) (address : ℕ) where
   abbrev pub WalksScript : Place → Place → List Exchange → Type 0
   WalksScript end place [] = place ≡ end
-  WalksScript end place (x ∷ xs) = (asks address place ≡ Begin x.address x.packet x.request) × WalksScript end (next set_of (all_of speed) place x.reply) xs
+  WalksScript end place (x ∷ xs) = (asks address place ≡ Begin x.address x.packet x.request) × WalksScript end (leads set_of terms place x.reply) xs
 
 -- the device's side, with packets of n bytes
 module _ (answer : State → SetupPacket → Outcome) (n : ℕ) where

@@ -1,12 +1,11 @@
 -- What the loops of a talk keep.
 use Rattle.std.specs.Prelude.{◌≡◌, ℕ, List, [], ◌∷◌, Some, ◌<◌, ◌≤◌, ◌*◌, length, None, zero, suc, ◌+◌, Option, Result, Ok, Err, Bool, true, false, ◌==◌, if◌then◌else◌}
-use Rattle.usb_fields.specs.declared.packet.Speed.{Speed}
 use Rattle.usb_file_data.specs.declared.file.DescriptorFile.{DescriptorFile}
 use Rattle.usb_host.specs.Limits.{LimitView}
 use Rattle.usb_bus.specs.declared.fate.Fate.{Fate}
 use Rattle.usb_host.specs.Steps.{outcome_of, wanted, HostPhase, ResetDue, Reading, Ended}
 use Rattle.usb_bus.specs.declared.enumeration.Run.{Run}
-use Rattle.usb_bus.specs.Enumerate.{Pair, Runs, new_pair, Moves, HasReadAll, HasCause}
+use Rattle.usb_bus.specs.Enumerate.{Pair, Runs, Moves, HasReadAll, HasCause}
 use Rattle.usb_bus.specs.Log.{count_before}
 use Rattle.usb_device.specs.declared.state.State.{State}
 use Rattle.usb_host.specs.Place.{Place, Reported, Stopped}
@@ -14,6 +13,7 @@ use Rattle.usb_bus.specs.declared.conversation.Conversation.TheInside.{Inside}
 use Rattle.usb_bus.specs.Converse.{TalkView}
 use Rattle.usb_fields.specs.Packets.{Sent}
 use Rattle.usb_fields.specs.declared.setup.Setup.{Setup as SetupPacket}
+use Rattle.usb_host.specs.declared.step.Trouble.{Trouble}
 use Rattle.usb_host.specs.declared.why.Why.{Why}
 use Rattle.usb_host.specs.declared.why.Why.TheVariants.{Stalled}
 use Rattle.usb_host.specs.declared.transfer.TransferStage.{TransferStage}
@@ -42,26 +42,26 @@ AllWork does [] n last from to = to ≡ from
 AllWork {W} does (x ∷ earlier) n last from to =
     (mid : W) × AllWork does earlier (count_before (wanted x.host.phase) n) x from mid × does x last n mid to
 
--- so many transactions lead to this pair, and this was done at each step
-pub record Leads {W : Type 0} (f : DescriptorFile) (speed : Speed) (limits : LimitView) (fates : List Fate) (does : StepWork W) (n : ℕ) (last : Pair) (from to : W) : Type 0 where
+-- so many transactions lead from a new pair to this one, and this was done at each step
+pub record Leads {W : Type 0} (f : DescriptorFile) (new : Pair) (fates : List Fate) (does : StepWork W) (n : ℕ) (last : Pair) (from to : W) : Type 0 where
   pub earlier : List Pair
-  pub runs : Runs f fates (new_pair limits speed) earlier n last
+  pub runs : Runs f fates new earlier n last
   pub work : AllWork does earlier n last from to
 
 -- a run has ended, with what `run` says, and this was done at each step
-pub record Walks {W : Type 0} (f : DescriptorFile) (speed : Speed) (limits : LimitView) (fates : List Fate) (does : StepWork W) (from to : W) (run : Run) : Type 0 where
+pub record Walks {W : Type 0} (f : DescriptorFile) (new : Pair) (fates : List Fate) (does : StepWork W) (from to : W) (run : Run) : Type 0 where
   pub last : Pair
-  pub leads : Leads f speed limits fates does run.transactions last from to
+  pub leads : Leads f new fates does run.transactions last from to
   pub attempts : last.host.resets ≡ run.attempts
   pub outcome : outcome_of last.host.phase ≡ Some run.outcome
   pub state : last.device.state ≡ run.state
 
 -- a run has come so far, and the step that was made then has broken it
-pub record Breaks {W : Type 0} (f : DescriptorFile) (speed : Speed) (limits : LimitView) (fates : List Fate) (does breaks : StepWork W) (from to : W) : Type 0 where
+pub record Breaks {W : Type 0} (f : DescriptorFile) (new : Pair) (fates : List Fate) (does breaks : StepWork W) (from to : W) : Type 0 where
   pub before : Pair
   pub transactions : ℕ
   pub mid : W
-  pub leads : Leads f speed limits fates does transactions before from mid
+  pub leads : Leads f new fates does transactions before from mid
   pub last : Pair
   pub now : ℕ
   pub moves : Moves f fates before transactions last now
@@ -69,18 +69,18 @@ pub record Breaks {W : Type 0} (f : DescriptorFile) (speed : Speed) (limits : Li
 
 -- What holds of a run of both ends after each step.
 
--- The end of an enumeration at a place. A report is the description, and the device has the address and is configured by
--- the first set's value. Any other end has a cause.
-abbrev pub PlaceEndsWell : DescriptorFile → LimitView → List Fate → ℕ → State → Place → Type 0
-PlaceEndsWell f limits used attempts s (Reported g) = HasReadAll f limits.address s g
-PlaceEndsWell f limits used attempts s (Stopped trouble) = HasCause limits used attempts trouble.why
-PlaceEndsWell f limits used attempts s place = ⊥
+-- The end of an enumeration at a place. A report is what was asked for, nothing was passed over, and the device has the address
+-- and is configured by the first set's value. Any other end has a cause.
+abbrev pub PlaceEndsWell : DescriptorFile → LimitView → List Fate → ℕ → State → List Trouble → Place → Type 0
+PlaceEndsWell f limits used attempts s forgiven (Reported g) = HasReadAll f limits.address s g × (forgiven ≡ [])
+PlaceEndsWell f limits used attempts s forgiven (Stopped trouble) = HasCause limits used attempts trouble.why
+PlaceEndsWell f limits used attempts s forgiven place = ⊥
 
 -- where an enumeration has come to: while it goes on there is nothing to say
-abbrev pub GoesWell : DescriptorFile → LimitView → List Fate → ℕ → State → HostPhase → Type 0
-GoesWell f limits used attempts s ResetDue = Unit {0}
-GoesWell f limits used attempts s (Reading place transfer kept) = Unit {0}
-GoesWell f limits used attempts s (Ended place) = PlaceEndsWell f limits used attempts s place
+abbrev pub GoesWell : DescriptorFile → LimitView → List Fate → ℕ → State → List Trouble → HostPhase → Type 0
+GoesWell f limits used attempts s forgiven ResetDue = Unit {0}
+GoesWell f limits used attempts s forgiven (Reading place transfer kept) = Unit {0}
+GoesWell f limits used attempts s forgiven (Ended place) = PlaceEndsWell f limits used attempts s forgiven place
 
 -- A talk that goes on, as its caller sees it.
 

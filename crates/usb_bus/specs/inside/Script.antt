@@ -1,7 +1,7 @@
 -- The script of an enumeration in which nothing is lost: each request, and the reply to it (USB 2.0, 9.1.2 and 9.4).
-use Rattle.std.specs.Prelude.{ℕ, suc, Bool, true, false, List, [], ◌∷◌, length, take, Option, Some, None}
+use Rattle.std.specs.Prelude.{ℕ, suc, ◌&&◌, Bool, true, false, List, [], ◌∷◌, length, take, Option, Some, None}
 use Rattle.usb_fields.specs.declared.setup.Setup.{Setup as SetupPacket}
-use Rattle.usb_fields.specs.declared.packet.Speed.{Speed}
+use Rattle.usb_host.specs.declared.choice.Terms.{Terms}
 use Rattle.usb_fields.specs.Device.{device_bytes, qualifier_bytes}
 use Rattle.usb_fields.specs.Units.{units_bytes}
 use Rattle.usb_set.specs.declared.tree.SetKind.{SetKind}
@@ -81,10 +81,10 @@ module _ (address packet : ℕ) where
   second_script true f = other_script f.other (named_script f)
   second_script false f = named_script f
 
-  -- all of it, at a device with these descriptors
-  abbrev pub script : Speed → DescriptorFile → List Exchange
-  script speed f =
+  -- all of it, for these descriptors
+  abbrev pub script : Terms → DescriptorFile → List Exchange
+  script terms f =
       exchange 0 8 (get_descriptor 1 0 0 8) (Bytes (take 8 (device_bytes f.device)))
       ∷ exchange 0 packet (set_address address) Done
       ∷ exchange address packet (get_descriptor 1 0 0 18) (Bytes (device_bytes f.device))
-      ∷ set_script kinds.Configuration 0 f.sets (second_script (may_have_second speed f.device) f)
+      ∷ set_script kinds.Configuration 0 f.sets (second_script (terms.choice.other_speed && may_have_second terms.speed f.device) f)

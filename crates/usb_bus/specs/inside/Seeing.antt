@@ -2,11 +2,9 @@
 use Rattle.std.specs.Prelude.{◌≡◌, ◌⊎◌, ◌≤◌, ◌<◌, ◌+◌, ℕ, suc, List, ◌++◌, Bool, true, false, Option, Some, None}
 use Rattle.std.specs.Io.KnownBytes.{Appends}
 use Rattle.usb_fields.specs.Packets.{Reply, Sent}
-use Rattle.usb_fields.specs.declared.packet.Speed.{Speed}
 use Rattle.usb_text.specs.declared.output.OutFault.{OutFault}
 use Rattle.usb_text.specs.Output.{Held}
 use Rattle.usb_host.specs.Cost.{left_to_ask}
-use Rattle.usb_host.specs.Limits.{LimitView}
 use Rattle.usb_file_data.specs.declared.file.DescriptorFile.{DescriptorFile}
 use Rattle.usb_host.specs.declared.why.Why.{Why}
 use Rattle.usb_host.specs.Transfer.{TransferView, due}
@@ -17,7 +15,7 @@ use Rattle.usb_bus.specs.declared.fate.Fate.{Fate}
 use Rattle.usb_bus.specs.declared.wire.change.BitChange.{BitChange}
 use Rattle.usb_bus.specs.Damaged.{IsLegalSent, bits_of}
 use Rattle.usb_bus.specs.DamagedRuns.{IsDamagedAt}
-use Rattle.usb_bus.specs.Enumerate.{IsReset, Pair, measure, new_pair}
+use Rattle.usb_bus.specs.Enumerate.{IsReset, Pair, measure}
 use Rattle.usb_bus.specs.PacketLines.{packets_below}
 use Rattle.usb_bus.specs.Run.{fate_at}
 use Rattle.usb_host.specs.declared.step.Step.{Step}
@@ -80,16 +78,17 @@ module _ (brief all : Bool) (f : DescriptorFile) (fates : List Fate) (changes : 
     pub moves : LoggedMoves brief all f fates changes x n y now lines
     pub written : CutsOff fault held holds lines
 
-  module _ (speed : Speed) (limits : LimitView) where
+  -- from a new pair on
+  module _ (new : Pair) where
     -- a run so far, whose lines were written
     pub record LeadsLogged (n : ℕ) (last : Pair) (held holds : Held) : Type 0 where
       pub earlier : List Pair
       pub log : List ℕ
-      pub runs : LoggedRuns brief all f fates changes (new_pair limits speed) earlier n last log
+      pub runs : LoggedRuns brief all f fates changes new earlier n last log
       pub written : Appends held holds log
 
     -- one that has ended
     pub record WalksLogged (held holds : Held) (run : Run) : Type 0 where
       pub lines : List ℕ
-      pub of_run : IsLoggedRun brief all f fates changes speed limits run lines
+      pub of_run : IsLoggedRun brief all f fates changes new run lines
       pub written : Appends held holds lines

@@ -2,14 +2,16 @@
 ghost use Rattle.std.specs.Prelude.{◌≡◌, ◌<◌, ◌+◌, ◌^◌, IfSome, IsNone};
 ghost use Rattle.usb_host.specs.Cost.{left_to_ask};
 ghost use Rattle.usb_device.specs.Accepted.{Accepted};
-ghost use Rattle.usb_bus.specs.DamagedLaws.{IsSlight};
-ghost use Rattle.usb_bus.specs.DamagedRuns.{AreSlight, IsDamagedEnumeration, IsDamagedStep, counts_of};
-ghost use Rattle.usb_bus.specs.Enumerate.{NoneIsLeft, both};
+ghost use Rattle.usb_bus.specs.DamagedLaws.{IsSlight, IsSlightFrom};
+ghost use Rattle.usb_bus.specs.DamagedRuns.{AreSlight, IsDamagedEnumeration, IsDamagedRunFrom, IsDamagedStep, counts_of};
+ghost use Rattle.usb_bus.specs.Asked.{asked_of};
+ghost use Rattle.usb_bus.specs.Enumerate.{NoneIsLeft, both, chosen_pair};
 ghost use Rattle.usb_bus.specs.inside.Addresses.{AsksWithin};
 ghost use Rattle.usb_bus.specs.inside.Seeing.{IsSeenStep};
 
 use crate::enumeration::Run;
 use crate::fate::Fate;
+use crate::lemmas::all_is_asked;
 use crate::steps::{Nobody, Observer};
 use crate::wire::change::BitChange;
 use crate::wire::exchange::exchange_bytes;
@@ -17,7 +19,7 @@ use crate::wire::receive::Damages;
 use crate::wire::slight_damage_ends_well;
 use std::alloc::Global;
 use usb_device::{Description, Device, Encoded};
-use usb_host::{Action, Host, Limits};
+use usb_host::{Action, Choice, Host, Limits};
 
 /// What the bus does to transactions: what it loses, and which bits it changes.
 #[derive(Clone, Copy)]
@@ -109,11 +111,27 @@ pub fn enumerate_encoded_on_the_wire(
     ensures run { IsDamagedEnumeration d.now.file d.now.speed limits fates.now changes.now result }
     ensures slight { AreSlight changes.now → IsSlight d.now.file d.now.speed limits (counts_of fates.now changes.now result.transactions) result }
 {
+    all_is_asked(d);
+    enumerate_on_the_wire_with(alloc, d, limits, Choice::everything(), fates, changes)
+}
+
+/// The same by a host that asks for so much, as [`enumerate_with`](crate::enumerate_with) does.
+pub fn enumerate_on_the_wire_with(
+    alloc: Global,
+    d: &Encoded,
+    limits: Limits,
+    choice: Choice,
+    fates: &[Fate],
+    changes: &[BitChange],
+) -> Run
+    ensures run { IsDamagedRunFrom (chosen_pair limits d.now.speed choice) d.now.file fates.now changes.now result }
+    ensures slight { AreSlight changes.now → IsSlightFrom (chosen_pair limits d.now.speed choice) d.now.file (asked_of choice d.now.file) limits (counts_of fates.now changes.now result.transactions) result }
+{
     // For the proof alone: what holds of a description, of limits and of every such run.
     d.known();
     limits.known();
     slight_damage_ends_well();
-    run_bytes(alloc, d, limits, fates, changes)
+    run_bytes(alloc, d, limits, choice, fates, changes)
 }
 
 /// Makes the steps of an enumeration from a new host and a new device to its outcome.
@@ -121,16 +139,17 @@ fn run_bytes(
     alloc: Global,
     d: &Encoded,
     limits: Limits,
+    choice: Choice,
     fates: &[Fate],
     changes: &[BitChange],
 ) -> Run
-    ensures { IsDamagedEnumeration d.now.file d.now.speed limits fates.now changes.now result }
+    ensures { IsDamagedRunFrom (chosen_pair limits d.now.speed choice) d.now.file fates.now changes.now result }
 {
     // For the proof alone: what holds of a description and of limits.
     d.known();
     limits.known();
     let wire = Wire { fates, changes };
-    let mut host = Host::new(alloc, limits, d.speed());
+    let mut host = Host::with_choice(alloc, limits, d.speed(), choice);
     let mut device = Device::of(d);
     let mut transactions = 0u64;
     while let Some(now) = step_bytes(&mut host, &mut device, wire, transactions, &mut Nobody) {

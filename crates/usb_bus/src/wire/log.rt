@@ -3,15 +3,17 @@ ghost use Rattle.std.specs.Prelude.{◌≡◌, ◌<◌, ◌+◌, ◌^◌, IfErr,
 ghost use Rattle.usb_fields.specs.Packets.{reply_of};
 ghost use Rattle.usb_host.specs.Cost.{left_to_ask};
 ghost use Rattle.usb_device.specs.Accepted.{Accepted};
-ghost use Rattle.usb_bus.specs.DamagedLaws.{IsSlight};
-ghost use Rattle.usb_bus.specs.DamagedRuns.{AreSlight, IsDamagedEnumeration, counts_of};
-ghost use Rattle.usb_bus.specs.Enumerate.{NoneIsLeft, both};
-ghost use Rattle.usb_bus.specs.LogOnWire.{WritesWireLog, WritesWireLogLess, WritesWireStepsLess};
+ghost use Rattle.usb_bus.specs.DamagedLaws.{IsSlight, IsSlightFrom};
+ghost use Rattle.usb_bus.specs.DamagedRuns.{AreSlight, IsDamagedEnumeration, IsDamagedRunFrom, counts_of};
+ghost use Rattle.usb_bus.specs.Asked.{asked_of};
+ghost use Rattle.usb_bus.specs.Enumerate.{NoneIsLeft, both, chosen_pair};
+ghost use Rattle.usb_bus.specs.LogOnWire.{WritesWireLog, WritesWireLogFrom, WritesWireLogLess, WritesWireLogLessFrom, WritesWireStepsLess};
 ghost use Rattle.usb_bus.specs.inside.Addresses.{AsksWithin};
 ghost use Rattle.usb_bus.specs.inside.Seeing.{HasSeenPackets, LogsStep, LogsStepLess, WalksLogged};
 
 use crate::enumeration::Run;
 use crate::fate::Fate;
+use crate::lemmas::all_is_asked;
 use crate::log::Log;
 use crate::step_lines::{Before, Turn};
 use crate::steps::Observer;
@@ -25,7 +27,7 @@ use std::alloc::{AllocError, Global};
 use std::io::Write;
 use usb_device::{Device, Encoded};
 use usb_fields::Answer;
-use usb_host::{Host, Limits};
+use usb_host::{Choice, Host, Limits};
 use usb_text::{OutFault, write_all};
 
 /// What happens on a bus of bytes, and what a log shows of it.
@@ -159,13 +161,37 @@ pub fn enumerate_encoded_on_the_wire_logged<W: Write>(
     ensures run { IfOk result (IsDamagedEnumeration d.now.file d.now.speed limits logging.entry.fates.now logging.entry.changes.now) }
     ensures slight { AreSlight logging.entry.changes.now → IfOk result (λ run. IsSlight d.now.file d.now.speed limits (counts_of logging.entry.fates.now logging.entry.changes.now run.transactions) run) }
 {
+    all_is_asked(d);
+    enumerate_on_the_wire_logged_with(alloc, d, limits, Choice::everything(), logging, w)
+}
+
+/// The same by a host that asks for so much, as [`enumerate_with`](crate::enumerate_with) does.
+///
+/// # Errors
+///
+/// Those of [`enumerate_logged`](crate::enumerate_logged).
+pub fn enumerate_on_the_wire_logged_with<W: Write>(
+    alloc: Global,
+    d: &Encoded,
+    limits: Limits,
+    choice: Choice,
+    logging: Logging<'_>,
+    w: &mut W,
+) -> Result<Run, OutFault>
+    ensures log { IfOk result (WritesWireLogFrom logging.entry.brief logging.entry.packets d.now.file logging.entry.fates.now logging.entry.changes.now (chosen_pair limits d.now.speed choice) (W.contents w.old) (W.contents w.new)) }
+    ensures err { IfErr result (WritesWireLogLessFrom logging.entry.brief logging.entry.packets d.now.file logging.entry.fates.now logging.entry.changes.now (chosen_pair limits d.now.speed choice) (W.contents w.old) (W.contents w.new)) }
+
+    // What `enumerate_on_the_wire_with` promises of the run.
+    ensures run { IfOk result (IsDamagedRunFrom (chosen_pair limits d.now.speed choice) d.now.file logging.entry.fates.now logging.entry.changes.now) }
+    ensures slight { AreSlight logging.entry.changes.now → IfOk result (λ run. IsSlightFrom (chosen_pair limits d.now.speed choice) d.now.file (asked_of choice d.now.file) limits (counts_of logging.entry.fates.now logging.entry.changes.now run.transactions) run) }
+{
     // For the proof alone: what holds of a description, of limits and of every such run.
     d.known();
     limits.known();
     slight_damage_ends_well();
     match logging.brief {
-        true => write_log::<true, W>(alloc, d, limits, logging, w),
-        false => write_log::<false, W>(alloc, d, limits, logging, w),
+        true => write_log::<true, W>(alloc, d, limits, choice, logging, w),
+        false => write_log::<false, W>(alloc, d, limits, choice, logging, w),
     }
 }
 
@@ -173,17 +199,18 @@ fn write_log<const BRIEF: bool, W: Write>(
     alloc: Global,
     d: &Encoded,
     limits: Limits,
+    choice: Choice,
     logging: Logging<'_>,
     w: &mut W,
 ) -> Result<Run, OutFault>
-    ensures log { IfOk result (WritesWireLog BRIEF logging.entry.packets d.now.file logging.entry.fates.now logging.entry.changes.now d.now.speed limits (W.contents w.old) (W.contents w.new)) }
-    ensures err { IfErr result (WritesWireLogLess BRIEF logging.entry.packets d.now.file logging.entry.fates.now logging.entry.changes.now d.now.speed limits (W.contents w.old) (W.contents w.new)) }
+    ensures log { IfOk result (WritesWireLogFrom BRIEF logging.entry.packets d.now.file logging.entry.fates.now logging.entry.changes.now (chosen_pair limits d.now.speed choice) (W.contents w.old) (W.contents w.new)) }
+    ensures err { IfErr result (WritesWireLogLessFrom BRIEF logging.entry.packets d.now.file logging.entry.fates.now logging.entry.changes.now (chosen_pair limits d.now.speed choice) (W.contents w.old) (W.contents w.new)) }
 {
     let mut log = WireLog {
         log: Log::<BRIEF>::new(alloc),
         logging,
     };
-    let run = run_logged(alloc, d, limits, &mut log, w)?;
+    let run = run_logged(alloc, d, limits, choice, &mut log, w)?;
     write_tally(alloc, logging.fates, run.transactions, w)?;
     Ok(run)
 }
@@ -193,16 +220,17 @@ fn run_logged<const BRIEF: bool, W: Write>(
     alloc: Global,
     d: &Encoded,
     limits: Limits,
+    choice: Choice,
     log: &mut WireLog<'_, BRIEF>,
     w: &mut W,
 ) -> Result<Run, OutFault>
-    ensures walks { IfOk result (WalksLogged BRIEF log.old.logging.packets d.now.file log.old.logging.fates.now log.old.logging.changes.now d.now.speed limits (W.contents w.old) (W.contents w.new)) }
-    ensures err { IfErr result (WritesWireStepsLess BRIEF log.old.logging.packets d.now.file log.old.logging.fates.now log.old.logging.changes.now d.now.speed limits (W.contents w.old) (W.contents w.new)) }
+    ensures walks { IfOk result (WalksLogged BRIEF log.old.logging.packets d.now.file log.old.logging.fates.now log.old.logging.changes.now (chosen_pair limits d.now.speed choice) (W.contents w.old) (W.contents w.new)) }
+    ensures err { IfErr result (WritesWireStepsLess BRIEF log.old.logging.packets d.now.file log.old.logging.fates.now log.old.logging.changes.now (chosen_pair limits d.now.speed choice) (W.contents w.old) (W.contents w.new)) }
 {
     // For the proof alone: what holds of a description and of limits.
     d.known();
     limits.known();
-    let mut host = Host::new(alloc, limits, d.speed());
+    let mut host = Host::with_choice(alloc, limits, d.speed(), choice);
     let mut device = Device::of(d);
     let mut transactions = 0u64;
     while let Some(now) = log.step(&mut host, &mut device, transactions, w)? {

@@ -1,10 +1,10 @@
 use Rattle.std.proofs.Common.{◌∙◌, IfSome, refl, sym, ap, subst, arith}
 use Rattle.std.specs.Prelude.{IsNone, IsSome}
-use Rattle.usb_host.specs.Terms.{everything}
-use Rattle.usb_host.specs.Steps.{new_host}
+use Rattle.usb_host.specs.Steps.{chosen_host}
 use Rattle.usb_host.proofs.LowerLemmas.{asks_less}
+use Rattle.usb_device.specs.Requests.{answer}
 use Rattle.usb_bus.specs.declared.enumeration.Run.{Run}
-use Rattle.usb_bus.specs.Enumerate.{Pair, IsStep, Moves, both}
+use Rattle.usb_bus.specs.Enumerate.{IsRunFrom, Pair, IsStep, Moves, both, chosen_pair}
 use Rattle.usb_bus.specs.inside.Running.{Breaks, Leads, Walks}
 use Rattle.usb_bus.proofs.EnumerateLemmas.{most_few}
 use Rattle.usb_bus.proofs.LogLemmas.{leads_none, leads_on}
@@ -14,11 +14,11 @@ use Rattle.usb_bus.proofs.steps.run_with.Goals as goal
 
 pub loop-host-init : goal.loop-host-init
 loop-host-init g c =
-    let new = c.new-host.ensures ∙ ap (λ s. new_host c.args.limits s) c.speed.ensures in
-    let most_new = asks_less.at_most c.args.limits c.args.d.now.speed everything in
+    let new = c.with_choice-host.ensures ∙ ap (λ s. chosen_host c.args.limits s c.args.choice) c.speed.ensures in
+    let most_new = asks_less.at_most c.args.limits c.args.d.now.speed c.args.choice in
     record {
-      leads = leads_none c.args.d.now.file c.args.d.now.speed c.args.limits c.args.fates.now (g.S.Steps.does c.args.d.now.file c.args.fates.now)
-          (both c.new-host.result c.of-device.result.device) c.args.w.now
+      leads = leads_none c.args.d.now.file (chosen_pair c.args.limits c.args.d.now.speed c.args.choice) c.args.fates.now (g.S.Steps.does c.args.d.now.file c.args.fates.now)
+          (both c.with_choice-host.result c.of-device.result.device) c.args.w.now
           (rw (new, c.of-device.ensures) refl);
       description = ap (λ v. v.description) c.of-device.ensures;
       few = rw new (omega arith);
@@ -47,7 +47,7 @@ loop-host-preserved g c =
     let fewer = made.fewer in
     let few = c.loop-host.invariant.few in
     record {
-      leads = leads_on c.args.d.now.file c.args.d.now.speed c.args.limits c.args.fates.now (g.S.Steps.does c.args.d.now.file c.args.fates.now)
+      leads = leads_on c.args.d.now.file (chosen_pair c.args.limits c.args.d.now.speed c.args.choice) c.args.fates.now (g.S.Steps.does c.args.d.now.file c.args.fates.now)
           before after n now c.args.w.now c.loop-host.w c.step.new.w c.loop-host.invariant.leads made.moves did;
       description = c.in_ok-now.ensures.description ∙ c.loop-host.invariant.description;
       few = omega arith;
@@ -69,7 +69,7 @@ returns-in_err-now-clause-breaks g c =
     let fault = c.in_err-now.field-0.0 in
     let (now, moves, broken) = c.in_err-now.ensures.breaks in
     exit_err c.from_residual.result fault
-    (λ e. Breaks f c.args.d.now.speed c.args.limits fates (g.S.Steps.does f fates) (λ x y m from to. g.S.Steps.breaks f fates x y m from to e) c.args.w.now c.step.new.w)
+    (λ e. Breaks f (chosen_pair c.args.limits c.args.d.now.speed c.args.choice) fates (g.S.Steps.does f fates) (λ x y m from to. g.S.Steps.breaks f fates x y m from to e) c.args.w.now c.step.new.w)
     c.from_residual.ensures.1
     (record {
       before = before;
@@ -93,16 +93,16 @@ result g c =
     }
 
 walked : (g : Over) (c : goal.After-state g)
-    → Walks c.args.d.now.file c.args.d.now.speed c.args.limits c.args.fates.now (g.S.Steps.does c.args.d.now.file c.args.fates.now) c.args.w.now c.step.new.w (result g c)
+    → Walks c.args.d.now.file (chosen_pair c.args.limits c.args.d.now.speed c.args.choice) c.args.fates.now (g.S.Steps.does c.args.d.now.file c.args.fates.now) c.args.w.now c.step.new.w (result g c)
 walked g c =
     let (none, kept) = c.in_ok-now.ensures.none (subst (λ o. IsNone o) (sym c.in_default.is) refl) in
     let last : Pair = both c.step.new.host c.step.new.device.device in
     record {
       last = last;
       leads = subst
-          (λ w. Leads c.args.d.now.file c.args.d.now.speed c.args.limits c.args.fates.now (g.S.Steps.does c.args.d.now.file c.args.fates.now) c.loop-host.transactions last c.args.w.now w)
+          (λ w. Leads c.args.d.now.file (chosen_pair c.args.limits c.args.d.now.speed c.args.choice) c.args.fates.now (g.S.Steps.does c.args.d.now.file c.args.fates.now) c.loop-host.transactions last c.args.w.now w)
           (sym kept)
-          (subst (λ p. Leads c.args.d.now.file c.args.d.now.speed c.args.limits c.args.fates.now (g.S.Steps.does c.args.d.now.file c.args.fates.now) c.loop-host.transactions p c.args.w.now c.loop-host.w)
+          (subst (λ p. Leads c.args.d.now.file (chosen_pair c.args.limits c.args.d.now.speed c.args.choice) c.args.fates.now (g.S.Steps.does c.args.d.now.file c.args.fates.now) c.loop-host.transactions p c.args.w.now c.loop-host.w)
           (sym none.same) c.loop-host.invariant.leads);
       attempts = sym c.attempts-attempts.ensures;
       outcome = sym c.into_outcome.ensures ∙ c.in-Some-into_outcome.is;
@@ -112,9 +112,19 @@ walked g c =
 pub returns-clause-walks : goal.returns-clause-walks
 returns-clause-walks g c = walked g c
 
+made : (g : Over) (c : goal.After-state g)
+    → IsRunFrom (chosen_pair c.args.limits c.args.d.now.speed c.args.choice) (answer c.args.d.now.file) c.args.d.now.file.device.packet c.args.fates.now (result g c)
+made g c = (let w = walked g c in (w.leads.earlier, w.last, w.leads.runs, w.attempts, w.outcome, w.state))
+
 -- by the law of enumerations that have ended
 pub returns-clause-ends_well : goal.returns-clause-ends_well
 returns-clause-ends_well g c =
-    let w = walked g c in
-    c.an_enumeration_ends_well.ensures c.args.d.now.file c.args.d.now.speed c.args.limits c.args.fates.now (result g c)
-    c.known.ensures.accepted c.known.ensures.fits c.known-2.ensures (w.leads.earlier, w.last, w.leads.runs, w.attempts, w.outcome, w.state)
+    (c.an_enumeration_ends_well.ensures.any_choice c.args.d.now.file c.args.d.now.speed c.args.limits c.args.choice c.args.fates.now (result g c)
+    c.known.ensures.accepted c.known.ensures.fits c.known-2.ensures (made g c)).0
+
+pub returns-clause-run : goal.returns-clause-run
+returns-clause-run g c = (
+  made g c,
+  (c.an_enumeration_ends_well.ensures.any_choice c.args.d.now.file c.args.d.now.speed c.args.limits c.args.choice c.args.fates.now (result g c)
+      c.known.ensures.accepted c.known.ensures.fits c.known-2.ensures (made g c)).1,
+)

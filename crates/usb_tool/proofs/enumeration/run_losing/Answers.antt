@@ -10,6 +10,6 @@ returns-else-flags-clause-ok g c =
     let held = g.W.Write.contents c.args.w.now in
     record {
       log = [];
-      enumerated = run_is false false (under c.args.l c.args.d.now.speed c.args.fates.now [] c.args.flags) c.args.d.now.file c.enumerate_encoded.result [] c.requires c.if-flags.false (c.enumerate_encoded.ensures.run, refl);
+      enumerated = run_is false false (under c.args.l c.args.d.now.speed c.args.fates.now [] c.args.flags) c.args.d.now.file c.enumerate_with.result [] c.requires c.if-flags.false (c.enumerate_with.ensures.run, refl);
       written = appends_nothing held held (keeps_refl held);
     }

@@ -1,7 +1,6 @@
 use Rattle.std.proofs.Common.{◌∙◌, [], ◌∷◌, refl, sym, ap, subst, arith}
 use Rattle.usb_device.specs.Accepted.{Accepted}
-use Rattle.usb_host.specs.Terms.{everything}
-use Rattle.usb_host.specs.Steps.{new_host}
+use Rattle.usb_host.specs.Steps.{chosen_host}
 use Rattle.usb_host.proofs.LowerLemmas.{asks_less}
 use Rattle.usb_bus.specs.DamagedRuns.{IsDamagedStep}
 use Rattle.usb_bus.specs.Enumerate.{Pair, both}
@@ -10,8 +9,8 @@ use Rattle.usb_bus.proofs.wire.enumeration.run_bytes.Goals as goal
 
 pub loop-now-init : goal.loop-now-init
 loop-now-init c =
-    let new = c.new-host.ensures ∙ ap (λ s. new_host c.args.limits s) c.speed.ensures in
-    let most_new = asks_less.at_most c.args.limits c.args.d.now.speed everything in
+    let new = c.with_choice-host.ensures ∙ ap (λ s. chosen_host c.args.limits s c.args.choice) c.speed.ensures in
+    let most_new = asks_less.at_most c.args.limits c.args.d.now.speed c.args.choice in
     let low = c.known-2.ensures.address_to in
     record {
       runs = ([], (rw (new, c.of-device.ensures) refl, refl));

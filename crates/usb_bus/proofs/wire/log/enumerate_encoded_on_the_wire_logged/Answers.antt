@@ -1,27 +1,18 @@
-use Rattle.std.proofs.Common.{true, false}
-use Rattle.usb_bus.proofs.WireLogLemmas.{log_made, log_slight}
+use Rattle.std.proofs.Common.{subst}
+use Rattle.std.specs.Prelude.{IfOk}
+use Rattle.usb_host.specs.declared.choice.Choice.{Choice}
+use Rattle.usb_bus.specs.Asked.{asked_of}
+use Rattle.usb_bus.specs.DamagedLaws.{IsSlightFrom}
+use Rattle.usb_bus.specs.DamagedRuns.{counts_of}
+use Rattle.usb_bus.specs.Enumerate.{chosen_pair, new_pair}
 use Rattle.usb_bus.proofs.wire.log.enumerate_encoded_on_the_wire_logged.Goals as goal
 
-pub returns-in-true-clause-run : goal.returns-in-true-clause-run
-returns-in-true-clause-run g c =
-    log_made true c.args.logging.packets c.args.d.now.file c.args.logging.fates.now c.args.logging.changes.now c.args.d.now.speed c.args.limits c.write_log.result
-    (g.W.Write.contents c.args.w.now) (g.W.Write.contents c.write_log.new.w) c.write_log.ensures.log
-
-pub returns-in-true-clause-slight : goal.returns-in-true-clause-slight
-returns-in-true-clause-slight g c = λ slight.
-    log_slight c.write_log.result c.args.d.now.file c.args.d.now.speed c.args.limits c.args.logging.fates.now c.args.logging.changes.now c.slight_damage_ends_well.ensures.ends_well
-    c.known.ensures.accepted c.known.ensures.fits c.known-2.ensures slight
-    (log_made true c.args.logging.packets c.args.d.now.file c.args.logging.fates.now c.args.logging.changes.now c.args.d.now.speed c.args.limits c.write_log.result
-    (g.W.Write.contents c.args.w.now) (g.W.Write.contents c.write_log.new.w) c.write_log.ensures.log)
-
-pub returns-in-false-clause-run : goal.returns-in-false-clause-run
-returns-in-false-clause-run g c =
-    log_made false c.args.logging.packets c.args.d.now.file c.args.logging.fates.now c.args.logging.changes.now c.args.d.now.speed c.args.limits c.write_log-in-false.result
-    (g.W.Write.contents c.args.w.now) (g.W.Write.contents c.write_log-in-false.new.w) c.write_log-in-false.ensures.log
-
-pub returns-in-false-clause-slight : goal.returns-in-false-clause-slight
-returns-in-false-clause-slight g c = λ slight.
-    log_slight c.write_log-in-false.result c.args.d.now.file c.args.d.now.speed c.args.limits c.args.logging.fates.now c.args.logging.changes.now c.slight_damage_ends_well.ensures.ends_well
-    c.known.ensures.accepted c.known.ensures.fits c.known-2.ensures slight
-    (log_made false c.args.logging.packets c.args.d.now.file c.args.logging.fates.now c.args.logging.changes.now c.args.d.now.speed c.args.limits c.write_log-in-false.result
-    (g.W.Write.contents c.args.w.now) (g.W.Write.contents c.write_log-in-false.new.w) c.write_log-in-false.ensures.log)
+pub returns-clause-slight : goal.returns-clause-slight
+returns-clause-slight g c = λ slight.
+    let d = c.args.d.now in
+    let limits = c.args.limits in
+    let logging = c.args.logging in
+    let r = c.enumerate_on_the_wire_logged_with.result in
+    subst (λ f. IfOk r (λ run. IsSlightFrom (new_pair limits d.speed) d.file f limits (counts_of logging.fates.now logging.changes.now run.transactions) run)) c.all_is_asked.ensures
+    (subst (λ (choice : Choice). IfOk r (λ run. IsSlightFrom (chosen_pair limits d.speed choice) d.file (asked_of choice d.file) limits (counts_of logging.fates.now logging.changes.now run.transactions) run))
+    c.everything.ensures (c.enumerate_on_the_wire_logged_with.ensures.slight slight))

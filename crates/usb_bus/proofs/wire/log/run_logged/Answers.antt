@@ -1,8 +1,7 @@
 use Rattle.std.proofs.Common.{◌∙◌, IfSome, refl, ap, subst, arith}
-use Rattle.usb_host.specs.Terms.{everything}
-use Rattle.usb_host.specs.Steps.{new_host}
+use Rattle.usb_host.specs.Steps.{chosen_host}
 use Rattle.usb_host.proofs.LowerLemmas.{asks_less}
-use Rattle.usb_bus.specs.Enumerate.{Pair, both}
+use Rattle.usb_bus.specs.Enumerate.{Pair, both, chosen_pair}
 use Rattle.usb_bus.specs.inside.Seeing.{LogsStep}
 use Rattle.usb_bus.proofs.LogLemmas.{is_brief}
 use Rattle.usb_bus.proofs.WireLogLemmas.{leads_none, leads_on}
@@ -10,13 +9,13 @@ use Rattle.usb_bus.proofs.wire.log.run_logged.Goals as goal
 
 pub loop-host-init : goal.loop-host-init
 loop-host-init g c =
-    let new = c.new-host.ensures ∙ ap (λ s. new_host c.args.limits s) c.speed.ensures in
-    let most_new = asks_less.at_most c.args.limits c.args.d.now.speed everything in
+    let new = c.with_choice-host.ensures ∙ ap (λ s. chosen_host c.args.limits s c.args.choice) c.speed.ensures in
+    let most_new = asks_less.at_most c.args.limits c.args.d.now.speed c.args.choice in
     let low = c.known-2.ensures.address_to in
     let l = c.args.log.now.logging in
     record {
-      leads = leads_none (is_brief g.row.BRIEF) l.packets c.args.d.now.file l.fates.now l.changes.now c.args.d.now.speed c.args.limits
-          (both c.new-host.result c.of-device.result.device) (g.W.Write.contents c.args.w.now) (rw (new, c.of-device.ensures) refl);
+      leads = leads_none (is_brief g.row.BRIEF) l.packets c.args.d.now.file l.fates.now l.changes.now (chosen_pair c.args.limits c.args.d.now.speed c.args.choice)
+          (both c.with_choice-host.result c.of-device.result.device) (g.W.Write.contents c.args.w.now) (rw (new, c.of-device.ensures) refl);
       logging = refl;
       description = ap (λ v. v.description) c.of-device.ensures;
       few = rw new (omega arith);
@@ -41,7 +40,7 @@ loop-host-preserved g c =
     let fewer = made.fewer in
     let few = c.loop-host.invariant.few in
     record {
-      leads = leads_on brief l.packets c.args.d.now.file l.fates.now l.changes.now c.args.d.now.speed c.args.limits before n after now (g.W.Write.contents c.args.w.now) from to
+      leads = leads_on brief l.packets c.args.d.now.file l.fates.now l.changes.now (chosen_pair c.args.limits c.args.d.now.speed c.args.choice) before n after now (g.W.Write.contents c.args.w.now) from to
           c.loop-host.invariant.leads made;
       logging = c.in_ok-now.ensures.same ∙ c.loop-host.invariant.logging;
       description = c.in_ok-now.ensures.description ∙ c.loop-host.invariant.description;

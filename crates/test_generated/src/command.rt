@@ -1,0 +1,155 @@
+//! The commands of the program, each over any reader and writer.
+use crate::answer::Answer;
+use crate::tally::Tally;
+use std::alloc::Global;
+use std::io::{Read, Write};
+use usb_bus::Fate;
+use usb_fields::Speed;
+use usb_host::{Choice, Limits, NamedStrings};
+use usb_tool::{
+    EnumerateFlags, Look, Manner, Settings, ToolFault, run_build, run_build_commented, run_check,
+    run_check_any, run_enumerate, run_enumerate_with, run_explain, run_show, run_show_any,
+};
+
+/// How an input is explained.
+const WHOLE: Manner = Manner {
+    look: Look {
+        brief: false,
+        places: true,
+        utf8: false,
+        formats: false,
+    },
+    speed: None,
+    decoded: false,
+};
+
+/// A host that asks for everything.
+const EVERYTHING: Choice = Choice {
+    strings: NamedStrings::Needed,
+    other_speed: true,
+};
+
+/// With a log.
+const LOGGED: EnumerateFlags = EnumerateFlags {
+    log: true,
+    brief: false,
+    packets: false,
+    with_strings: false,
+    choice: EVERYTHING,
+};
+
+/// With a brief log.
+const BRIEF: EnumerateFlags = EnumerateFlags {
+    log: true,
+    brief: true,
+    packets: false,
+    with_strings: false,
+    choice: EVERYTHING,
+};
+
+/// A command.
+#[derive(Clone, Copy)]
+pub(crate) enum Command {
+    Show,
+    /// Of a dump too.
+    ShowAny,
+    Check,
+    /// Of a set or a dump too.
+    CheckAny,
+    /// With fields and places, at a speed that the descriptors say.
+    Explain,
+    Build,
+    /// Of a listing with comments too.
+    BuildCommented,
+    /// At full speed.
+    Enumerate,
+    /// The same with its log.
+    Log,
+    /// The same with a brief log.
+    Brief,
+}
+
+impl Command {
+    /// The command of this word.
+    pub(crate) fn of(word: &str) -> Option<Command> {
+        match word {
+            "show" => Some(Command::Show),
+            "show_any" => Some(Command::ShowAny),
+            "check" => Some(Command::Check),
+            "check_any" => Some(Command::CheckAny),
+            "explain" => Some(Command::Explain),
+            "build" => Some(Command::Build),
+            "build_commented" => Some(Command::BuildCommented),
+            "enumerate" => Some(Command::Enumerate),
+            "log" => Some(Command::Log),
+            "brief" => Some(Command::Brief),
+            _ => None,
+        }
+    }
+
+    /// Its word.
+    pub(crate) fn word(self) -> &'static str {
+        match self {
+            Command::Show => "show",
+            Command::ShowAny => "show_any",
+            Command::Check => "check",
+            Command::CheckAny => "check_any",
+            Command::Explain => "explain",
+            Command::Build => "build",
+            Command::BuildCommented => "build_commented",
+            Command::Enumerate => "enumerate",
+            Command::Log => "log",
+            Command::Brief => "brief",
+        }
+    }
+
+    /// The settings of its enumeration.
+    pub(crate) fn settings(self, limits: Limits, fates: Vec<Fate>) -> Settings {
+        Settings {
+            limits,
+            speed: Speed::Full,
+            fates,
+        }
+    }
+
+    /// Carries it out. What the commands promise ends here: whoever calls this is proved without it.
+    pub(crate) fn run<R: Read, W: Write>(
+        self,
+        alloc: Global,
+        r: &mut R,
+        w: &mut W,
+        settings: &Settings,
+    ) -> Result<u8, ToolFault> {
+        let Settings {
+            limits,
+            speed,
+            ref fates,
+        } = *settings;
+        match self {
+            Command::Show => run_show(alloc, r, w),
+            Command::ShowAny => run_show_any(alloc, r, w),
+            Command::Check => run_check(alloc, r, w),
+            Command::CheckAny => run_check_any(alloc, r, w),
+            Command::Explain => run_explain(alloc, r, w, WHOLE, false),
+            Command::Build => run_build(alloc, r, w),
+            Command::BuildCommented => run_build_commented(alloc, r, w),
+            Command::Enumerate => run_enumerate(alloc, r, w, limits, speed, fates),
+            Command::Log => run_enumerate_with(alloc, r, w, limits, speed, fates, LOGGED),
+            Command::Brief => run_enumerate_with(alloc, r, w, limits, speed, fates, BRIEF),
+        }
+    }
+
+    /// Adds its answer to this input to the case, and gives what it writes.
+    pub(crate) fn answer(
+        self,
+        mut input: &[u8],
+        settings: &Settings,
+        tally: &mut Tally,
+    ) -> anyhow::Result<Vec<u8>> {
+        let mut output = Vec::new(tally.alloc);
+        let outcome = self.run(tally.alloc, &mut input, &mut output, settings);
+        let answer = Answer::new(tally.alloc, outcome, output)?;
+        tally.add(self.word(), &answer)?;
+        Ok(answer.output)
+    }
+}

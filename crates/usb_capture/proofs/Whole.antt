@@ -1,0 +1,192 @@
+-- How many bytes a part has, as more of it come or as only the first are held.
+use Rattle.std.proofs.Common.{◌≡◌, ℕ, ◌+◌, ◌*◌, ◌%◌, ◌<◌, ◌≤◌, List, ◌++◌, length, take, Bool, true, false, nat_lt, nat_le, nat_eq, ◌⊎◌, inl, inr, refl, sym, ◌∙◌, ap, arith, length-append}
+use Rattle.std.proofs.lemmas.List.{length-take-le, take_all}
+use Rattle.std.proofs.lemmas.Bool.Decides.{nat_tests}
+use Rattle.std.specs.Prelude.{Option, Some, None, if◌then◌else◌}
+use Rattle.usb_capture.specs.declared.order.ByteOrder.{ByteOrder}
+use Rattle.usb_capture.specs.declared.order.ByteOrder.TheVariants.{Little, Big}
+use Rattle.usb_capture.specs.declared.pcap.Form.{Form}
+use Rattle.usb_capture.specs.declared.pcap.Writer.{Writer}
+use Rattle.usb_capture.specs.declared.stage.Stage.{Stage}
+use Rattle.usb_capture.specs.declared.stage.Stage.TheVariants.{Start, Records, Blocks}
+use Rattle.usb_capture.specs.Files.{first_length, whole}
+use Rattle.usb_capture.specs.Numbers.{number_at}
+use Rattle.usb_capture.specs.Pcap.{record_length, writer_of}
+use Rattle.usb_capture.specs.Pcapng.{block_length, block_order, is_section, is_total, total}
+use Rattle.usb_capture.proofs.Numbers.{Agree, fewer, front, le_or, more, same_number}
+
+-- what the first bytes tell is told by whatever agrees with them
+pub order_same : (order : ByteOrder) (b c : List ℕ) → Agree 12 b c → block_order order b ≡ block_order order c
+order_same order b c h =
+    let type = same_number 12 Big b c 0 (omega arith) h in
+    let little = same_number 12 Little b c 8 (omega arith) h in
+    let big = same_number 12 Big b c 8 (omega arith) h in
+    cc
+
+pub writer_same : (b c : List ℕ) → Agree 4 b c → writer_of b ≡ writer_of c
+writer_same b c h =
+    let little = same_number 4 Little b c 0 (omega arith) h in
+    let big = same_number 4 Big b c 0 (omega arith) h in
+    cc
+
+pub section_same : (b c : List ℕ) → Agree 4 b c → is_section b ≡ is_section c
+section_same b c h = ap (λ n. nat_eq n 0x0a0d0d0a) (same_number 4 Big b c 0 (omega arith) h)
+
+total_same : (order : Option ByteOrder) (b c : List ℕ) → Agree 12 b c → total order b ≡ total order c
+total_same None b c h = refl
+total_same (Some order) b c h = ap (λ n. if is_total n then n else 12) (same_number 12 order b c 4 (omega arith) h)
+
+-- a block of which 12 bytes are there
+block_long : (order : ByteOrder) (b : List ℕ) → 12 ≤ length b → block_length order b ≡ total (block_order order b) b
+block_long order b long = (let t : nat_lt (length b) 12 ≡ false = grind (arith, nat_tests) in ap (λ t. if t then 12 else total (block_order order b) b) t)
+
+block_short : (order : ByteOrder) (b : List ℕ) → length b < 12 → block_length order b ≡ 12
+block_short order b short = (let t : nat_lt (length b) 12 ≡ true = grind (arith, nat_tests) in ap (λ t. if t then 12 else total (block_order order b) b) t)
+
+block_same : (order : ByteOrder) (b c : List ℕ) → 12 ≤ length b → 12 ≤ length c → Agree 12 b c → block_length order b ≡ block_length order c
+block_same order b c long longer h =
+    block_long order b long ∙ ap (λ m. total m b) (order_same order b c h) ∙ total_same (block_order order c) b c h ∙ sym (block_long order c longer)
+
+least_total : (order : Option ByteOrder) (b : List ℕ) → 12 ≤ total order b
+least_total None b = omega arith
+least_total (Some order) b = of_number (number_at order b 4)
+  where
+    of_number : (n : ℕ) → 12 ≤ (if is_total n then n else 12)
+    of_number n = grind (arith, nat_tests)
+
+least_block : (order : ByteOrder) (b : List ℕ) → 12 ≤ block_length order b
+least_block order b =
+    elim (le_or 12 (length b)) [
+      | inl long ↦ (let e = block_long order b long in let h = least_total (block_order order b) b in omega (arith, e, h))
+      | inr short ↦ (let e = block_short order b short in omega (arith, e))
+    ]
+
+block_steady : (order : ByteOrder) (b x : List ℕ) → 12 ≤ length b → block_length order (b ++ x) ≡ block_length order b
+block_steady order b x long = block_same order (b ++ x) b (let sum = length-append b x in omega (arith, sum, long)) long (more 12 b x long)
+
+block_grows : (order : ByteOrder) (b x : List ℕ) → block_length order b ≤ block_length order (b ++ x)
+block_grows order b x =
+    elim (le_or 12 (length b)) [
+      | inl long ↦ (let e = block_steady order b x long in omega (arith, e))
+      | inr short ↦ (let e = block_short order b short in let h = least_block order (b ++ x) in omega (arith, e, h))
+    ]
+
+-- the first part of a file, by what its first four bytes tell
+abbrev first_by : Option Writer → Bool → List ℕ → ℕ
+first_by (Some writer) section b = 24
+first_by None section b = if section then block_length Little b else 4
+
+first_is : (writer : Option Writer) (b : List ℕ) → first_length writer b ≡ first_by writer (is_section b) b
+first_is (Some writer) b = refl
+first_is None b = refl
+
+start_long : (b : List ℕ) → 4 ≤ length b → whole Start b ≡ first_by (writer_of b) (is_section b) b
+start_long b long = (let t : nat_lt (length b) 4 ≡ false = grind (arith, nat_tests) in ap (λ t. if t then 4 else first_length (writer_of b) b) t ∙ first_is (writer_of b) b)
+
+start_short : (b : List ℕ) → length b < 4 → whole Start b ≡ 4
+start_short b short = (let t : nat_lt (length b) 4 ≡ true = grind (arith, nat_tests) in ap (λ t. if t then 4 else first_length (writer_of b) b) t)
+
+-- the same of bytes that agree with these
+start_same : (b c : List ℕ) → 4 ≤ length c → Agree 4 c b → whole Start c ≡ first_by (writer_of b) (is_section b) c
+start_same b c long h =
+    start_long c long ∙ ap (λ m. first_by m (is_section c) c) (writer_same c b h) ∙ ap (λ t. first_by (writer_of b) t c) (section_same c b h)
+
+least_first : (writer : Option Writer) (section : Bool) (b : List ℕ) → 4 ≤ first_by writer section b
+least_first (Some writer) section b = omega arith
+least_first None true b = (let h = least_block Little b in omega (arith, h))
+least_first None false b = omega arith
+
+least_start : (b : List ℕ) → 4 ≤ whole Start b
+least_start b =
+    elim (le_or 4 (length b)) [
+      | inl long ↦ (let e = start_long b long in let h = least_first (writer_of b) (is_section b) b in omega (arith, e, h))
+      | inr short ↦ (let e = start_short b short in omega (arith, e))
+    ]
+
+first_grows : (writer : Option Writer) (section : Bool) (b x : List ℕ) → first_by writer section b ≤ first_by writer section (b ++ x)
+first_grows (Some writer) section b x = omega arith
+first_grows None true b x = block_grows Little b x
+first_grows None false b x = omega arith
+
+first_steady : (writer : Option Writer) (section : Bool) (b x : List ℕ) → first_by writer section b ≤ length b → first_by writer section (b ++ x) ≡ first_by writer section b
+first_steady (Some writer) section b x h = refl
+first_steady None true b x h = block_steady Little b x (let least = least_block Little b in omega (arith, least, h))
+first_steady None false b x h = refl
+
+first_same : (writer : Option Writer) (section : Bool) (b c : List ℕ) → 12 ≤ length b → 12 ≤ length c → Agree 12 b c → first_by writer section b ≡ first_by writer section c
+first_same (Some writer) section b c long longer h = refl
+first_same None true b c long longer h = block_same Little b c long longer h
+first_same None false b c long longer h = refl
+
+-- a record of which 16 bytes are there
+record_long : (form : Form) (b : List ℕ) → 16 ≤ length b → whole (Records form) b ≡ record_length form.writer.order b
+record_long form b long = (let t : nat_lt (length b) 16 ≡ false = grind (arith, nat_tests) in ap (λ t. if t then 16 else record_length form.writer.order b) t)
+
+record_short : (form : Form) (b : List ℕ) → length b < 16 → whole (Records form) b ≡ 16
+record_short form b short = (let t : nat_lt (length b) 16 ≡ true = grind (arith, nat_tests) in ap (λ t. if t then 16 else record_length form.writer.order b) t)
+
+pub least_record : (form : Form) (b : List ℕ) → 16 ≤ whole (Records form) b
+least_record form b =
+    elim (le_or 16 (length b)) [
+      | inl long ↦ (let e = record_long form b long in omega (arith, e))
+      | inr short ↦ (let e = record_short form b short in omega (arith, e))
+    ]
+
+record_same : (form : Form) (b c : List ℕ) → 16 ≤ length b → 16 ≤ length c → Agree 16 b c → whole (Records form) b ≡ whole (Records form) c
+record_same form b c long longer h =
+    record_long form b long ∙ ap (λ n. 16 + n) (same_number 16 form.writer.order b c 8 (omega arith) h) ∙ sym (record_long form c longer)
+
+record_steady : (form : Form) (b x : List ℕ) → 16 ≤ length b → whole (Records form) (b ++ x) ≡ whole (Records form) b
+record_steady form b x long = record_same form (b ++ x) b (let sum = length-append b x in omega (arith, sum, long)) long (more 16 b x long)
+
+-- a part has some bytes
+pub some_bytes : (stage : Stage) (b : List ℕ) → 0 < whole stage b
+some_bytes Start b = (let h = least_start b in omega (arith, h))
+some_bytes (Records form) b = (let h = least_record form b in omega (arith, h))
+some_bytes (Blocks order) b = (let h = least_block order b in omega (arith, h))
+
+-- as more bytes come they tell no fewer
+pub whole_grows : (stage : Stage) (b x : List ℕ) → whole stage b ≤ whole stage (b ++ x)
+whole_grows Start b x =
+    elim (le_or 4 (length b)) [
+      | inl long ↦
+          (let e = start_long b long in
+          let f = start_same b (b ++ x) (let sum = length-append b x in omega (arith, sum, long)) (more 4 b x long) in
+          let h = first_grows (writer_of b) (is_section b) b x in
+          omega (arith, e, f, h))
+      | inr short ↦ (let e = start_short b short in let h = least_start (b ++ x) in omega (arith, e, h))
+    ]
+whole_grows (Records form) b x =
+    elim (le_or 16 (length b)) [
+      | inl long ↦ (let e = record_steady form b x long in omega (arith, e))
+      | inr short ↦ (let e = record_short form b short in let h = least_record form (b ++ x) in omega (arith, e, h))
+    ]
+whole_grows (Blocks order) b x = block_grows order b x
+
+-- a whole part tells its length, whatever follows
+pub whole_steady : (stage : Stage) (b x : List ℕ) → whole stage b ≤ length b → whole stage (b ++ x) ≡ whole stage b
+whole_steady Start b x h =
+    let least = least_start b in
+    let long : 4 ≤ length b = omega (arith, least, h) in
+    let e = start_long b long in
+    start_same b (b ++ x) (let sum = length-append b x in omega (arith, sum, long)) (more 4 b x long)
+    ∙ first_steady (writer_of b) (is_section b) b x (omega (arith, e, h)) ∙ sym e
+whole_steady (Records form) b x h = record_steady form b x (let least = least_record form b in omega (arith, least, h))
+whole_steady (Blocks order) b x h = block_steady order b x (let least = least_block order b in omega (arith, least, h))
+
+-- the first 16 bytes tell it
+whole_same : (stage : Stage) (b c : List ℕ) → 16 ≤ length b → 16 ≤ length c → Agree 16 b c → whole stage b ≡ whole stage c
+whole_same Start b c long longer h =
+    start_same c b (omega (arith, long)) (fewer 4 16 b c (omega arith) h)
+    ∙ first_same (writer_of c) (is_section c) b c (omega (arith, long)) (omega (arith, longer)) (fewer 12 16 b c (omega arith) h)
+    ∙ sym (start_long c (omega (arith, longer)))
+whole_same (Records form) b c long longer h = record_same form b c long longer h
+whole_same (Blocks order) b c long longer h = block_same order b c (omega (arith, long)) (omega (arith, longer)) (fewer 12 16 b c (omega arith) h)
+
+-- what is held of a part tells as much
+pub whole_held : (stage : Stage) (b : List ℕ) → whole stage (take 65627 b) ≡ whole stage b
+whole_held stage b =
+    elim (le_or (length b) 65627) [
+      | inl all ↦ ap (whole stage) (take_all 65627 b all)
+      | inr some ↦ whole_same stage (take 65627 b) b (let n = length-take-le 65627 b (omega (arith, some)) in omega (arith, n)) (omega (arith, some)) (front 16 65627 b (omega arith))
+    ]

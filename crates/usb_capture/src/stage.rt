@@ -1,0 +1,105 @@
+//! What a part of a capture file is.
+ghost use Rattle.std.specs.Prelude.{◌≡◌};
+ghost use Rattle.usb_capture.specs.Files.{content, first_content, first_length, record_head, whole};
+
+use crate::block;
+use crate::content::{Content, Head, Layout};
+use crate::fault::CaptureFault;
+use crate::interface::Interface;
+use crate::order::ByteOrder;
+use crate::pcap::{Form, Writer};
+
+/// What is being read.
+#[derive(Clone, Copy, Debug)]
+pub(crate) enum Stage {
+    /// The first part of a file.
+    Start,
+    /// A record of pcap.
+    Records(Form),
+    /// A block of pcapng.
+    Blocks(ByteOrder),
+}
+
+impl Stage {
+    /// How many bytes a part has, as far as those that are held tell.
+    pub(crate) fn whole(self, held: &[u8]) -> u64
+        ensures { result ≡ whole self held.now }
+    {
+        match self {
+            Stage::Start if held.len() < 4 => 4,
+            Stage::Start => first_length(Writer::of_magic(held), held),
+            Stage::Records(_) if held.len() < 16 => 16,
+            Stage::Records(form) => 16 + u64::from(form.writer.order.number_at(held, 8)),
+            Stage::Blocks(order) => u64::from(block::block_length(order, held)),
+        }
+    }
+
+    /// What a part of `n` bytes says, of which these are held, and these are the last four.
+    ///
+    /// # Errors
+    ///
+    /// The first fault of the part.
+    pub(crate) fn content(
+        self,
+        interfaces: &[Interface],
+        held: &[u8],
+        n: u64,
+        last: &[u8],
+    ) -> Result<Content, CaptureFault>
+        ensures { result ≡ content self interfaces.now held.now n last.now }
+    {
+        match self {
+            Stage::Start => first_content(Writer::of_magic(held), held, n, last),
+            Stage::Records(form) => Ok(Content::Packet(record_head(form, held))),
+            Stage::Blocks(order) => block::read(order, interfaces, held, n, last),
+        }
+    }
+}
+
+/// How many bytes the first part has, of which four tell who wrote it.
+fn first_length(writer: Option<Writer>, held: &[u8]) -> u64
+    ensures { result ≡ first_length writer held.now }
+{
+    match writer {
+        Some(_) => 24,
+        None if block::is_section(held) => u64::from(block::block_length(ByteOrder::Little, held)),
+        None => 4,
+    }
+}
+
+/// What the first part says.
+fn first_content(
+    writer: Option<Writer>,
+    held: &[u8],
+    n: u64,
+    last: &[u8],
+) -> Result<Content, CaptureFault>
+    ensures { result ≡ first_content writer held.now n last.now }
+{
+    match writer {
+        Some(writer) => Ok(Content::Header(Form {
+            writer,
+            link: (writer.order.number_at(held, 20) % 65_536) as u16,
+        })),
+        None if block::is_section(held) => block::read(ByteOrder::Little, &[], held, n, last),
+        None => Err(CaptureFault::Magic),
+    }
+}
+
+/// What a record says before its data.
+fn record_head(form: Form, held: &[u8]) -> Head
+    ensures { result ≡ record_head form held.now }
+{
+    let order = form.writer.order;
+    Head {
+        time: Some(
+            form.writer
+                .time(order.number_at(held, 0), order.number_at(held, 4)),
+        ),
+        link: form.link,
+        order,
+        captured: order.number_at(held, 8),
+        original: order.number_at(held, 12),
+        layout: Layout::Record,
+    }
+}

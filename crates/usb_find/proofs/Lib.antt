@@ -1,0 +1,7 @@
+mod Seeking
+mod Standing
+mod Reaching
+mod Leading
+mod Headers
+mod OneByOne
+mod Fresh

@@ -1,0 +1,112 @@
+"""Writes testdata/captures, field by field as the formats' documents name them. It shares no code with the crates.
+
+    captures              writes the files
+    captures --compare    asks tshark for the time, lengths and interface of each frame, and says where it differs from what
+                          was written
+"""
+
+import os
+import struct
+import subprocess
+import sys
+
+from readings import ROW_DATA
+
+FOLDER = os.path.join(ROW_DATA, "captures")
+
+
+def pcap(order, magic, link, records):
+    """File Header and Packet Records of draft-ietf-opsawg-pcap; a record is (seconds, fraction, original, data)."""
+    written = struct.pack(order + "IHHIIII", magic, 2, 4, 0, 0, 262144, link)
+    for seconds, fraction, original, data in records:
+        written += struct.pack(order + "IIII", seconds, fraction, len(data), original) + data
+    return written
+
+
+def block(order, kind, body):
+    """Block Type, Block Total Length, the body padded to 32 bits, and the length once more (draft-ietf-opsawg-pcapng)."""
+    body += bytes(-len(body) % 4)
+    length = 12 + len(body)
+    return struct.pack(order + "II", kind, length) + body + struct.pack(order + "I", length)
+
+
+def section(order):
+    return block(order, 0x0A0D0D0A, struct.pack(order + "IHHq", 0x1A2B3C4D, 1, 0, -1))
+
+
+def option(order, code, value):
+    return struct.pack(order + "HH", code, len(value)) + value + bytes(-len(value) % 4)
+
+
+def interface(order, link, most=0, options=b""):
+    return block(order, 1, struct.pack(order + "HHI", link, 0, most) + options)
+
+
+def enhanced(order, number, units, original, data):
+    return block(order, 6, struct.pack(order + "IIIII", number, units >> 32, units & 0xFFFFFFFF, len(data), original) + data)
+
+
+def packet(order, number, units, original, data):
+    """The obsolete Packet Block, with seven dropped packets."""
+    return block(order, 2, struct.pack(order + "HHIIII", number, 7, units >> 32, units & 0xFFFFFFFF, len(data), original) + data)
+
+
+def simple(order, original, data):
+    return block(order, 3, struct.pack(order + "I", original) + data)
+
+
+def sections():
+    """Two sections, little-endian and big-endian; three interfaces of three link types and clocks; each type of packet."""
+    clock = option("<", 9, b"\x8a") + option("<", 14, struct.pack("<q", -1)) + option("<", 0, b"")
+    return b"".join((
+        section("<"), interface("<", 220, 2), interface("<", 249, 0, clock + struct.pack("<HH", 5, 5)),
+        enhanced("<", 0, (1 << 32) + 2, 9, b"\xaa\xbb\xcc"), block("<", 0x80000001, b""), simple("<", 5, b"\xdd\xee"),
+        packet("<", 1, 0x601, 0, b""),
+        section(">"), interface(">", 288), enhanced(">", 0, 5, 1, b"\xd2"),
+    ))
+
+
+def clocks():
+    """An interface for each of some resolutions, as powers of ten and of two, with an offset each, and a packet at each."""
+    asked = [(0, 0, 1_700_000_000), (3, 0, 1_700_000_000_123), (6, 1_700_000_000, 123_456), (9, 0, 1_700_000_000_123_456_789),
+             (0x80, 0, 1_700_000_000), (0x8A, 0, 1_740_800_000_511), (0x94, -1, 1_782_579_200_000_001), (10, 0, 17_000_000_000_123_456_789)]
+    described = [interface("<", 288, 0, option("<", 9, bytes((resolution,))) + option("<", 14, struct.pack("<q", offset))) for resolution, offset, _ in asked]
+    return section("<") + b"".join(described) + b"".join(enhanced("<", number, units, 1, b"\xd2") for number, (_, _, units) in enumerate(asked))
+
+
+# Each file, and of its frames the time, or none, the lengths in the file and on the bus, and the interface.
+RECORDS = [(3, 7, 3, b"\xaa\xbb\xcc"), (2, 999_999, 65_536, b"")]
+MICROSECONDS = [("3.000007000", 3, 3, 0), ("2.999999000", 0, 65_536, 0)]
+NANOSECONDS = [("3.000000007", 3, 3, 0), ("2.000999999", 0, 65_536, 0)]
+FILES = {
+    "little.pcap": (pcap("<", 0xA1B2C3D4, 220, RECORDS), MICROSECONDS),
+    "big.pcap": (pcap(">", 0xA1B23C4D, 220, RECORDS), NANOSECONDS),
+    "sections.pcapng": (sections(), [("4294.967298000", 3, 9, 0), (None, 2, 5, 0), ("0.500976562", 0, 0, 1), ("0.000005000", 1, 1, 0)]),
+    "clocks.pcapng": (clocks(), [
+        ("1700000000.000000000", 1, 1, 0), ("1700000000.123000000", 1, 1, 1), ("1700000000.123456000", 1, 1, 2),
+        ("1700000000.123456789", 1, 1, 3), ("1700000000.000000000", 1, 1, 4), ("1700000000.499023437", 1, 1, 5),
+        ("1699999999.000000953", 1, 1, 6), ("1700000000.012345678", 1, 1, 7)]),
+}
+
+
+def compare():
+    """Says where tshark reads other frames."""
+    differs = False
+    for name, (data, wanted) in FILES.items():
+        fields = ("frame.time_epoch", "frame.cap_len", "frame.len", "frame.interface_id")
+        words = ["tshark", "-r", "-", "-T", "fields", *(word for field in fields for word in ("-e", field))]
+        ran = subprocess.run(words, input=data, capture_output=True, check=True).stdout.decode()
+        came = [line.split("\t") for line in ran.splitlines()]
+        told = [[time or "", str(captured), str(original), str(number) if name.endswith("ng") else ""] for time, captured, original, number in wanted]
+        if came != told:
+            differs = True
+            print(f"{name}: tshark has {came}, and not {told}")
+    return differs
+
+
+if __name__ == "__main__":
+    if sys.argv[1:] == ["--compare"]:
+        sys.exit(compare())
+    for name, (data, _) in FILES.items():
+        with open(os.path.join(FOLDER, name), "wb") as out:
+            out.write(data)
