@@ -2,7 +2,7 @@ use Rattle.std.proofs.Common.{◌≡◌, [], ap, inl, subst}
 use Rattle.std.specs.Prelude.{IfErr, IfOk}
 use Rattle.usb_tool.specs.Enumerations.{Conditions, EnumerateFails, EnumeratedTo, under}
 use Rattle.usb_tool.proofs.Running.{enumeration_ends}
-use Rattle.usb_tool.proofs.program.enumerate_with.Goals as goal
+use Rattle.usb_tool.proofs.enumerating.enumerate_with.Goals as goal
 
 pub returns-in-Ok : goal.returns-in-Ok
 returns-in-Ok g c =
