@@ -184,6 +184,16 @@ static void exchange(struct nzg_host *host, struct nzg_device *device, const str
     say("\n");
 }
 
+static void say_forgiven(struct nzg_host *host) {
+    struct nzg_trouble trouble = {0};
+    for (uint32_t i = 0; i < 300 && nzg_host_forgiven(host, i, &trouble); i++) {
+        say_list(" forgiven ", trouble.why);
+        say_list(" ", trouble.step);
+        say_list(" ", trouble.index);
+        say_list(" ", trouble.language);
+    }
+}
+
 static void say_outcome(struct nzg_host *host) {
     struct nzg_trouble trouble = {0};
     struct nzg_answer answer = nzg_host_outcome(host, &trouble, room, ROOM);
@@ -193,7 +203,14 @@ static void say_outcome(struct nzg_host *host) {
     say_list(" ", trouble.index);
     say_list(" ", nzg_host_attempts(host));
     if (answer.status == NZG_DONE) say_hash(room, answer.length);
+    say_forgiven(host);
     say("\n");
+}
+
+/* A host of any choice, and sometimes of one that is none. */
+static void open_with(struct nzg_host *host, uint8_t address, uint16_t naks, uint8_t attempts, uint8_t speed) {
+    uint8_t strings = (uint8_t)any(4);
+    say_answer("host", nzg_host_open_with(host, address, naks, attempts, speed, strings, one_in(2)));
 }
 
 void host_steps(uint32_t length, uint8_t speed, uint32_t trouble_in) {
@@ -201,7 +218,9 @@ void host_steps(uint32_t length, uint8_t speed, uint32_t trouble_in) {
     struct nzg_host host = {0};
     nzg_device_open(&device, file, length, speed);
     uint8_t address = (uint8_t)any(129), attempts = (uint8_t)any(5);
-    say_answer("host", nzg_host_open(&host, address, (uint16_t)any(5), attempts, speed));
+    uint16_t naks = (uint16_t)any(5);
+    if (one_in(2)) say_answer("host", nzg_host_open(&host, address, naks, attempts, speed));
+    else open_with(&host, address, naks, attempts, speed);
     say("\n");
     for (uint32_t i = 0; i < 4000; i++) {
         struct nzg_transaction next = {0};

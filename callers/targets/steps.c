@@ -57,6 +57,7 @@ static void play(uint32_t length, const struct wanted *wanted) {
     for (uint8_t i = 0; i < 30; i++) transfer_steps();
     for (uint8_t i = 0; i < 30; i++) write_steps();
     facts(length);
+    words(length);
     pieces(length);
     enumerations(length);
     if (wanted->more) refusals(length);

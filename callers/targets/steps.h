@@ -23,6 +23,7 @@ void host_steps(uint32_t length, uint8_t speed, uint32_t trouble_in);
 void transfer_steps(void);
 void write_steps(void);
 void facts(uint32_t length);
+void words(uint32_t length);
 void mutated_facts(uint32_t length, uint32_t times);
 void pieces(uint32_t length);
 void enumerations(uint32_t length);
