@@ -1,4 +1,5 @@
-"""The firmware of examples/firmware in QEMU: the bench plays hosts to it, and its reports move a pointer."""
+"""The firmware of examples/firmware: the bench plays hosts to it in QEMU, and over a model of a real controller's registers on this
+machine, and its reports move a pointer."""
 
 import os
 import re
@@ -32,20 +33,38 @@ def file_of():
     return bytes(names.get(it.strip()) or (ord(it.strip()[1]) if "'" in it else int(it, 0)) for it in items)
 
 
-def play(target, made, room, library, losses, said):
-    """Whether the firmware is as the proved device under each loss."""
-    firmware, file = built(target, made, room), f"{room}/mouse.file"
+def modelled(room, library):
+    """The firmware for this machine, over the model of STM32's registers."""
+    out = f"{room}/mouse-stm32"
+    sources = [f"{PLACE}/{it}.c" for it in ("main", "stm32", "stm32_model")]
+    run("cc", "-O2", "-fsanitize=address,undefined", "-DSTM32_MODEL", "-Wall", "-Wextra", "-Werror", "-I", f"{ROOT}/include", *sources,
+        f"{os.path.abspath(library)}/libnozzlegorse.a", "-o", out)
+    return out
+
+
+def is_right(name, firmware, room, library, losses, said):
+    """Whether a firmware is as the proved device under each loss, and moves the pointer."""
+    file = f"{room}/mouse.file"
     with open(file, "wb") as it:
         it.write(file_of())
-    said(f"firmware: {target}: {sizes.in_flash(firmware):,} bytes of flash, all of the program")
     environment = {**os.environ, "FIRMWARE": firmware, "PYTHONPATH": f"{PLACE}:{ROOT}/python", "PYTHONDONTWRITEBYTECODE": "1",
                    "NOZZLEGORSE_LIBRARY": f"{os.path.abspath(library)}/libnozzlegorse.so"}
     moved = subprocess.run([sys.executable, f"{PLACE}/in_qemu.py"], env=environment, capture_output=True, text=True, check=False).stdout
-    said(f"firmware: {target}: {moved.splitlines()[0] if moved else 'not enumerated'}")
+    said(f"firmware: {name}: {moved.splitlines()[0] if moved else 'not enumerated'}")
     if REPORTS not in moved:
-        said(f"firmware: {target}: the pointer does not go to the right and down: {moved}")
+        said(f"firmware: {name}: the pointer does not go to the right and down: {moved}")
         return False
     words = ["-m", "nozzlegorse.bench", "in_qemu:Firmware", file, "--losses", str(losses), "--within", "40"]
     ended = subprocess.run([sys.executable, *words], env=environment, capture_output=True, text=True, check=False)
-    said(f"firmware: {target}: {(ended.stdout or ended.stderr).splitlines()[0 if ended.stdout else -1]}")
+    said(f"firmware: {name}: {(ended.stdout or ended.stderr).splitlines()[0 if ended.stdout else -1]}")
     return ended.returncode == 0
+
+
+def play(target, made, room, library, losses, said):
+    firmware = built(target, made, room)
+    said(f"firmware: {target}: {sizes.in_flash(firmware):,} bytes of flash, all of the program")
+    return is_right(target, firmware, room, library, losses, said)
+
+
+def play_over_registers(room, library, losses, said):
+    return is_right("STM32's registers", modelled(room, library), room, library, losses, said)

@@ -16,7 +16,7 @@ struct hardware_event {
 
 void hardware_start(void);
 void hardware_wait(struct hardware_event *event);
-/* To the transaction that came last. */
+/* To the transaction that came last. A SETUP is always acknowledged (8.4.6.4): there NZG_STALL says that no data of it are taken. */
 void hardware_answer(const struct nzg_packet *packet);
 /* The address from the next transaction on. */
 void hardware_address(uint8_t address);

@@ -13,19 +13,26 @@ from nozzlegorse import ends
 
 QEMU = ["qemu-system-arm", "-M", "mps2-an386", "-cpu", "cortex-m4", "-nographic", "-monitor", "none", "-serial", "none",
         "-semihosting-config", "enable=on,target=native", "-kernel"]
+OF_X86_64 = 62
 RESET, TRANSACTION, ACKED = range(3)
 STAGES = {"setup": 0, "in": 1, "out": 2}
 REPLIES = ("ack", "nak", "stall", "data", "silence")
 
 
+def run_by(firmware):
+    """A program for this machine, over the model of a peripheral, runs as it is."""
+    with open(firmware, "rb") as program:
+        return [firmware] if program.read(20)[18] == OF_X86_64 else [*QEMU, firmware]
+
+
 class Firmware:
-    """Endpoint zero of the firmware. QEMU ends with the pipe."""
+    """Endpoint zero of the firmware, which ends with the pipe."""
 
     def __init__(self):
         self.folder = tempfile.TemporaryDirectory()
         for name in ("to_device", "from_device"):
             os.mkfifo(f"{self.folder.name}/{name}")
-        self.qemu = subprocess.Popen([*QEMU, os.path.abspath(os.environ["FIRMWARE"])], cwd=self.folder.name, stdin=subprocess.DEVNULL)
+        self.qemu = subprocess.Popen(run_by(os.path.abspath(os.environ["FIRMWARE"])), cwd=self.folder.name, stdin=subprocess.DEVNULL)
         self.out = open(f"{self.folder.name}/to_device", "wb", buffering=0)
         self.into = open(f"{self.folder.name}/from_device", "rb")
 

@@ -18,21 +18,22 @@ static const uint8_t FILE[] = {
 
 static struct nzg_device device;
 
-/* A request that chapter 9 leaves to the class. The library has refused it, and takes this answer in place of that. */
-static void answer_class(void) {
+/* A request that chapter 9 leaves to the class. The library has refused it, and takes this answer in place of that. False where it
+ * stays refused. */
+static bool answer_class(void) {
     struct nzg_setup refused;
-    if (!nzg_device_refused(&device, &refused)) return;
+    if (!nzg_device_refused(&device, &refused)) return true;
     const uint8_t *setup = refused.bytes;
-    if (setup[0] == OF_INTERFACE_IN && setup[1] == GET_DESCRIPTOR && setup[3] == REPORT && !setup[4])
-        nzg_device_answer_with(&device, REPORT_DESCRIPTOR, sizeof REPORT_DESCRIPTOR);
-    if (setup[0] == OF_CLASS_OUT && (setup[1] == SET_IDLE || setup[1] == SET_PROTOCOL) && !setup[4])
-        nzg_device_accept(&device);
+    bool is_report = setup[0] == OF_INTERFACE_IN && setup[1] == GET_DESCRIPTOR && setup[3] == REPORT && !setup[4];
+    bool is_set = setup[0] == OF_CLASS_OUT && (setup[1] == SET_IDLE || setup[1] == SET_PROTOCOL) && !setup[4] && !setup[6] && !setup[7];
+    if (is_report) return nzg_device_answer_with(&device, REPORT_DESCRIPTOR, sizeof REPORT_DESCRIPTOR).status == NZG_DONE;
+    return is_set && nzg_device_accept(&device).status == NZG_DONE;
 }
 
 static void serve(const struct hardware_event *event) {
     struct nzg_packet packet;
     if (!nzg_device_serve(&device, &event->transaction, event->data, event->length, true, &packet)) packet.reply = NZG_SILENCE;
-    if (event->transaction.stage == NZG_SETUP) answer_class();
+    if (event->transaction.stage == NZG_SETUP && !answer_class()) packet.reply = NZG_STALL;
     hardware_answer(&packet);
 }
 

@@ -8,6 +8,7 @@ enum { HEAD = 5, ANSWER = 3, REPORT_ROOM = 8 };
 
 static long in, out;
 static uint8_t address, report[REPORT_ROOM], report_length;
+static bool is_setup;
 
 #if defined __arm__
 static long host(long call, void *words) {
@@ -58,6 +59,7 @@ void hardware_wait(struct hardware_event *event) {
         get(head, HEAD);
         get(event->data, head[4]);
         event->kind = head[0];
+        is_setup = head[2] == NZG_SETUP && head[1] == address;
         if (head[0] != HARDWARE_TRANSACTION) break;
         if (head[1] != address) {
             hardware_answer(&(struct nzg_packet){NZG_SILENCE, 0, 0, {0}});
@@ -78,7 +80,7 @@ void hardware_wait(struct hardware_event *event) {
 }
 
 void hardware_answer(const struct nzg_packet *packet) {
-    put((const uint8_t[]){packet->reply, packet->toggle, packet->length}, ANSWER);
+    put((const uint8_t[]){is_setup ? NZG_ACK : packet->reply, packet->toggle, packet->length}, ANSWER);
     if (packet->length) put(packet->data, packet->length);
 }
 
