@@ -40,7 +40,8 @@ has_number n (r ∷ rs) h = found_among n r rs (rule_number r == n) refl (has_nu
 pub with_number : (n : ℕ) → is_some (rule_numbered n) ≡ true → (r : Rule) × (rule_number r ≡ n)
 with_number n h = has_number n every_rule h
 
-bounds : (r : Rule) → (1 ≤ rule_number r) × (rule_number r ≤ 13)
+-- which numbers there are
+pub bounds : (r : Rule) → (1 ≤ rule_number r) × (rule_number r ≤ 13)
 bounds rules.V1 = (omega arith, omega arith)
 bounds rules.V2 = (omega arith, omega arith)
 bounds rules.V3 = (omega arith, omega arith)

@@ -1,6 +1,6 @@
 -- Findings sorted by rule.
 use Rattle.std.proofs.Common.{◌≡◌, ℕ, suc, ◌+◌, ◌<◌, ◌≤◌, ◌==◌, Bool, true, false, List, [], ◌∷◌, ◌++◌, refl, ap, sym, subst, ◌∙◌, length, map, take, get_or, drop, arith, append_assoc, length-append, nat_lt, not}
-use Rattle.std.specs.Prelude.{◌||◌, is_some, filter, fold, if◌then◌else◌}
+use Rattle.std.specs.Prelude.{◌||◌, is_some, filter, fold, if◌then◌else◌, slice_index_or}
 use Rattle.std.specs.List.{AllByRecursion, list_all}
 use Rattle.std.proofs.lemmas.List.{append-nil, get_or_default, map-append}
 use Rattle.std.proofs.lemmas.Bool.Decides.{nat_tests}
@@ -20,10 +20,11 @@ use Rattle.usb_file_data.specs.declared.rule.Rule.TheVariants as rules
 use Rattle.usb_file_data.specs.Numbers.{rule_number, rule_numbered}
 use Rattle.usb_file_data.specs.Places.{finding, is_among, when}
 use Rattle.usb_file_data.specs.Findings.{at_associations, at_configuration, at_device, by_rule, file_in_order, findings, of_rule, other_in_order, part_in_order, without_sets}
+use Rattle.usb_file_data.specs.inside.Ends.{AreEnds}
 use Rattle.usb_file_data.specs.Rules.{has_number_gap, interface_numbers, wrong_attributes, wrong_device, wrong_interface_count, wrong_value}
 use Rattle.usb_file_data.specs.Causes.{attributes_cause, device_cause, found, value_cause}
-use Rattle.usb_file_data.proofs.RuleNumbers.{known, with_number}
-use Rattle.usb_file_data.proofs.Walking.{stands_more, take_more}
+use Rattle.usb_file_data.proofs.RuleNumbers.{bounds, known, with_number}
+use Rattle.usb_file_data.proofs.Walking.{stands_more, take_all, take_more}
 
 -- a loop's next place
 pub fold_next : {A B : Type 0} (f : B → A → B) (xs : List A) (i : ℕ) (x : A) (old new whole : B) → i < length xs → x ≡ get_or xs i x
@@ -40,6 +41,23 @@ none_left false later x rest h none = none h
 pub none_of : {A : Type 0} (key : A → ℕ) (n : ℕ) (xs : List A) → is_among (map key xs) n ≡ false → filter (λ x. key x == n) xs ≡ []
 none_of key n [] h = refl
 none_of key n (x ∷ xs) h = none_left (key x == n) (is_among (map key xs) n) x (filter (λ x. key x == n) xs) h (none_of key n xs)
+
+-- ---- the ends of the rules
+
+-- what comes after the end of a rule is of other rules
+pub all_of : (found : List Finding) (ends : List ℕ) (r : Rule) (n : ℕ) → AreEnds found (length found) ends → n ≡ rule_number r
+    → of_rule r (take (slice_index_or ends n 0) found) ≡ of_rule r found
+all_of found ends r n are is =
+    ap (λ m. of_rule r (take (slice_index_or ends m 0) found)) is
+    ∙ are.all (rule_number r) (omega (arith, (bounds r).1))
+    ∙ ap (of_rule r) (take_all found (length found) (omega arith))
+
+-- those were copied, up to the end of the rule
+pub copied : (first found out new : List Finding) (i : ℕ) (r : Rule) → new ++ of_rule r (drop i first) ≡ out ++ of_rule r first → length first ≤ i
+    → of_rule r first ≡ of_rule r found → new ≡ out ++ of_rule r found
+copied first found out new i r kept end same =
+    let none : drop i first ≡ [] = grind (arith, common_steps) in
+    sym (append-nil new) ∙ ap (λ xs. new ++ of_rule r xs) (sym none) ∙ kept ∙ ap (λ xs. out ++ xs) same
 
 -- ---- as many
 

@@ -3,3 +3,4 @@ pub mod Walk
 pub mod Interfaces
 pub mod Addresses
 pub mod Reports
+pub mod Ends

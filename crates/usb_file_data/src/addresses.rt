@@ -63,7 +63,8 @@ impl Addresses {
             number: 0,
             in_setting: Marks::new(),
             in_set: Marks::new(),
-            owners: [Owner::Several; 256],
+            // All zeros, so that one fill makes the table.
+            owners: [Owner::One(0); 256],
         }
     }
 

@@ -1,7 +1,7 @@
 //! All findings of a file, of a dump, and of a set alone.
 ghost use Rattle.std.specs.Prelude.{◌≡◌, ◌∷◌, [], IfOk, OnOk};
 ghost use Rattle.usb_file_data.specs.Findings.{dump_findings, file_in_order, findings, found_in_order, input_findings, part_in_order, part_of_kind, set_findings};
-ghost use Rattle.usb_file_data.specs.inside.Reports.{none_reported, reported};
+ghost use Rattle.usb_file_data.specs.inside.Reports.{reported};
 
 use crate::cause::Found;
 use crate::configuration::check_any_set;
@@ -36,7 +36,9 @@ pub use std::alloc::AllocError as NoMemory;
 pub fn check(alloc: Global, f: &DescriptorFile) -> Result<Vec<Finding>, NoMemory>
     ensures { IfOk result (λ v. v.items ≡ findings f.now) }
 {
-    by_rule(alloc, walk_file(alloc, false, f, false)?.into_findings())
+    let mut found = Report::new(alloc, false);
+    walk_file(alloc, &mut found, false, f)?;
+    by_rule(alloc, found.into_findings())
 }
 
 /// Everything in a dump that breaks a rule, in the order of [`check`]. From bcdUSB 0300 on it is of a SuperSpeed
@@ -55,7 +57,9 @@ pub fn check(alloc: Global, f: &DescriptorFile) -> Result<Vec<Finding>, NoMemory
 pub fn check_dump(alloc: Global, f: &DescriptorFile) -> Result<Vec<Finding>, NoMemory>
     ensures { IfOk result (λ v. v.items ≡ dump_findings f.now) }
 {
-    by_rule(alloc, walk_file(alloc, true, f, false)?.into_findings())
+    let mut found = Report::new(alloc, false);
+    walk_file(alloc, &mut found, true, f)?;
+    by_rule(alloc, found.into_findings())
 }
 
 /// Everything in a set alone that breaks a rule, in the order of [`check`]: it is the only set of its part, the main one
@@ -75,7 +79,9 @@ pub fn check_dump(alloc: Global, f: &DescriptorFile) -> Result<Vec<Finding>, NoM
 pub fn check_set(alloc: Global, c: &Configuration) -> Result<Vec<Finding>, NoMemory>
     ensures { IfOk result (λ v. v.items ≡ set_findings c.now) }
 {
-    by_rule(alloc, walk_set(alloc, c, false)?.into_findings())
+    let mut found = Report::new(alloc, false);
+    walk_set(alloc, &mut found, c)?;
+    by_rule(alloc, found.into_findings())
 }
 
 /// Everything in an input that breaks a rule of chapter 9: [`check_set`] of a set, [`check`] of a file and
@@ -94,7 +100,9 @@ pub fn check_set(alloc: Global, c: &Configuration) -> Result<Vec<Finding>, NoMem
 pub fn check_input(alloc: Global, input: &Input) -> Result<Vec<Finding>, NoMemory>
     ensures { IfOk result (λ findings. findings.items ≡ input_findings input.now) }
 {
-    by_rule(alloc, walk(alloc, input, false)?.into_findings())
+    let mut found = Report::new(alloc, false);
+    walk(alloc, &mut found, input)?;
+    by_rule(alloc, found.into_findings())
 }
 
 /// What [`check_input`] finds, in the order of the bytes: at each descriptor the rules that it breaks, and why.
@@ -112,7 +120,9 @@ pub fn check_input(alloc: Global, input: &Input) -> Result<Vec<Finding>, NoMemor
 pub fn found_in_order(alloc: Global, input: &Input) -> Result<Vec<Found>, NoMemory>
     ensures { IfOk result (λ v. v.items ≡ found_in_order input.now) }
 {
-    Ok(walk(alloc, input, true)?.into_found())
+    let mut found = Report::new(alloc, true);
+    walk(alloc, &mut found, input)?;
+    Ok(found.into_found())
 }
 
 /// The part that a set alone is of.
@@ -125,40 +135,36 @@ fn part_of(kind: SetKind) -> Part
     }
 }
 
-/// Goes over an input, and keeps causes where they are asked for.
-fn walk(alloc: Global, input: &Input, has_causes: bool) -> Result<Report, AllocError>
-    ensures { IfOk result (λ found. found ≡ reported (none_reported has_causes) (found_in_order input.now)) }
+/// Goes over an input.
+fn walk(alloc: Global, found: &mut Report, input: &Input) -> Result<(), AllocError>
+    ensures { OnOk result (found.new ≡ reported found.old (found_in_order input.now)) }
 {
     match input {
-        Input::Set(set) => walk_set(alloc, set, has_causes),
-        Input::File(file) => walk_file(alloc, false, file, has_causes),
-        Input::Dump(file) => walk_file(alloc, true, file, has_causes),
+        Input::Set(set) => walk_set(alloc, found, set),
+        Input::File(file) => walk_file(alloc, found, false, file),
+        Input::Dump(file) => walk_file(alloc, found, true, file),
     }
 }
 
-/// Goes over a set alone, as [`walk`] does.
-fn walk_set(alloc: Global, c: &Configuration, has_causes: bool) -> Result<Report, AllocError>
-    ensures { IfOk result (λ found. found ≡ reported (none_reported has_causes) (part_in_order (part_of_kind c.now.kind) (c.now ∷ []))) }
+/// Goes over a set alone.
+fn walk_set(alloc: Global, found: &mut Report, c: &Configuration) -> Result<(), AllocError>
+    ensures { OnOk result (found.new ≡ reported found.old (part_in_order (part_of_kind c.now.kind) (c.now ∷ []))) }
 {
-    let mut found = Report::new(alloc, has_causes);
     let mut known = Known::new(alloc);
-    check_part(&mut found, &mut known, part_of(c.kind), slice::from_ref(c))?;
-    Ok(found)
+    check_part(found, &mut known, part_of(c.kind), slice::from_ref(c))
 }
 
-/// Goes over a file or a dump, as [`walk`] does.
+/// Goes over a file or a dump.
 fn walk_file(
     alloc: Global,
+    found: &mut Report,
     is_dump: bool,
     f: &DescriptorFile,
-    has_causes: bool,
-) -> Result<Report, AllocError>
-    ensures { IfOk result (λ found. found ≡ reported (none_reported has_causes) (file_in_order is_dump f.now)) }
+) -> Result<(), AllocError>
+    ensures { OnOk result (found.new ≡ reported found.old (file_in_order is_dump f.now)) }
 {
-    let mut found = Report::new(alloc, has_causes);
     let mut known = Known::new(alloc);
-    check_parts(&mut found, &mut known, is_dump, f)?;
-    Ok(found)
+    check_parts(found, &mut known, is_dump, f)
 }
 
 /// The device descriptor, the main part and the other part.

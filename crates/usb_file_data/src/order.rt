@@ -1,18 +1,20 @@
 //! Findings sorted by rule.
-ghost use Rattle.std.specs.Prelude.{◌≡◌, ◌++◌, map, true, IfOk, OnOk};
-ghost use Rattle.usb_fields.specs.Marks.{is_marked};
+ghost use Rattle.std.specs.Prelude.{◌≡◌, ◌++◌, length, true, IfOk, OnOk};
 ghost use Rattle.usb_file_data.specs.Findings.{by_rule, of_rule};
-ghost use Rattle.usb_file_data.specs.Places.{is_among};
+ghost use Rattle.usb_file_data.specs.inside.Ends.{AreEnds};
 
 use crate::finding::Finding;
 use crate::rule::Rule;
 use std::alloc::{AllocError, Global};
-use usb_fields::Marks;
 
 /// The number of the last rule.
 const LAST_RULE: u8 = 13;
 
+/// More than the number of any rule.
+const NUMBERS: usize = 16;
+
 /// The findings rule by rule. Those that come so are handed back as they are.
+#[inline(always)]
 pub(crate) fn by_rule(alloc: Global, found: Vec<Finding>) -> Result<Vec<Finding>, AllocError>
     ensures { IfOk result (λ v. v.items ≡ by_rule found.items) }
 {
@@ -24,31 +26,30 @@ pub(crate) fn by_rule(alloc: Global, found: Vec<Finding>) -> Result<Vec<Finding>
 }
 
 /// The findings sorted by their rules.
+#[inline(never)]
 fn sorted(alloc: Global, found: &[Finding]) -> Result<Vec<Finding>, AllocError>
     ensures { IfOk result (λ v. v.items ≡ by_rule found.now) }
 {
-    let broken = broken_rules(found);
+    let ends = ends_of(found);
     let mut out = Vec::with_capacity(alloc, found.len())?;
     for rule in Rule::ALL {
-        copy_of(rule, found, &broken, &mut out)?;
+        copy_of(rule, found, &ends, &mut out)?;
     }
     Ok(out)
 }
 
-/// Copies the findings of a rule, if it is one of the broken.
+/// Copies the findings of a rule. None comes after its end.
 fn copy_of(
     rule: Rule,
     found: &[Finding],
-    numbers: &Marks,
+    ends: &[usize; NUMBERS],
     out: &mut Vec<Finding>,
 ) -> Result<(), AllocError>
-    requires { is_marked numbers.now ≡ is_among (map (λ f. f.rule) found.now) }
+    requires { AreEnds found.now (length found.now) ends.now }
     ensures { OnOk result (out.new.items ≡ out.old.items ++ of_rule rule found.now) }
 {
-    if !numbers.has(rule.number()) {
-        return Ok(());
-    }
-    for one in found {
+    let first = &found[..ends[usize::from(rule.number())]];
+    for one in first {
         if one.rule == rule.number() {
             out.push(*one)?;
         }
@@ -70,13 +71,13 @@ fn is_by_rule(found: &[Finding]) -> bool
     last <= LAST_RULE
 }
 
-/// The numbers of the rules that are broken.
-fn broken_rules(found: &[Finding]) -> Marks
-    ensures { is_marked result ≡ is_among (map (λ f. f.rule) found.now) }
+/// How many findings there are up to the last one of each rule, by its number.
+fn ends_of(found: &[Finding]) -> [usize; NUMBERS]
+    ensures { AreEnds found.now (length found.now) result }
 {
-    let mut numbers = Marks::new();
-    for one in found {
-        numbers.add(one.rule);
+    let mut ends = [0; NUMBERS];
+    for (place, one) in found.iter().enumerate() {
+        ends[usize::from(one.rule) % NUMBERS] = place + 1;
     }
-    numbers
+    ends
 }

@@ -1,11 +1,14 @@
 //! What a walk over an input finds.
-ghost use Rattle.std.specs.Prelude.{◌≡◌, ◌++◌, ◌∷◌, [], OnOk};
+ghost use Rattle.std.specs.Prelude.{◌≡◌, ◌<◌, ◌++◌, ◌∷◌, [], OnOk, vec_capacity, vec_len};
 
 use crate::cause::{Cause, Found};
 use crate::finding::Finding;
 use crate::place::Place;
 use std::alloc::{AllocError, Global};
 use std::marker::Model;
+
+/// For how many findings room is made at once: seldom are there more.
+const ROOM: usize = 16;
 
 /// What is found, in the order of the walk: with the causes, where they are asked for, and else without.
 #[derive(Drop)]
@@ -67,7 +70,8 @@ impl Report {
         if self.has_causes {
             return self.keep(place.found(cause));
         }
-        self.findings.push(place.finding(cause.rule()))?;
+        make_room(&mut self.findings)?;
+        self.findings.push_reserved(place.finding(cause.rule()));
         Ok(())
     }
 
@@ -94,4 +98,26 @@ impl Report {
     {
         self.findings
     }
+}
+
+/// Makes room for a finding more, where there is none.
+#[inline(always)]
+fn make_room(findings: &mut Vec<Finding>) -> Result<(), AllocError>
+    ensures items { findings.new.items ≡ findings.old.items }
+    ensures room { OnOk result (vec_len findings.new < vec_capacity findings.new) }
+{
+    if findings.len() < findings.capacity() {
+        return Ok(());
+    }
+    grow(findings)
+}
+
+/// The same, apart from what is inlined.
+#[cold]
+#[inline(never)]
+fn grow(findings: &mut Vec<Finding>) -> Result<(), AllocError>
+    ensures items { findings.new.items ≡ findings.old.items }
+    ensures room { OnOk result (vec_len findings.new < vec_capacity findings.new) }
+{
+    findings.reserve(ROOM)
 }

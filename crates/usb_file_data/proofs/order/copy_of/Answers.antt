@@ -1,11 +1,8 @@
-use Rattle.std.proofs.Common.{◌++◌, ◌∙◌, ap, sym}
-use Rattle.std.proofs.lemmas.List.{append-nil}
-use Rattle.usb_fields.specs.Marks.{is_marked}
-use Rattle.usb_file_data.specs.Numbers.{rule_number}
-use Rattle.usb_file_data.proofs.Sorting.{none_of}
+use Rattle.std.proofs.Common.{◌∙◌}
+use Rattle.usb_file_data.proofs.Sorting.{all_of, copied}
 use Rattle.usb_file_data.proofs.order.copy_of.Goals as goal
 
-pub returns-then-not-has : goal.returns-then-not-has
-returns-then-not-has c =
-    let absent = ap (λ marks. marks (rule_number c.args.rule)) (sym c.requires) ∙ ap (is_marked c.args.numbers.now) (sym c.number.ensures) ∙ sym c.has.ensures ∙ c.if-not-has.true in
-    sym (ap (λ found. c.args.out.now.items ++ found) (none_of (λ f. f.rule) (rule_number c.args.rule) c.args.found.now absent) ∙ append-nil c.args.out.now.items)
+pub returns : goal.returns
+returns c =
+    copied _ c.args.found.now c.args.out.now.items _ c.loop-one.one-index c.args.rule c.loop-one.invariant c.loop-one-test.false
+    (all_of c.args.found.now c.args.ends.now c.args.rule c.from.result c.requires (c.from.ensures ∙ c.number.ensures))
