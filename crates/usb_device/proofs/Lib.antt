@@ -9,3 +9,8 @@ pub mod RankLemmas
 pub mod Replies
 pub mod OutlineLemmas
 pub mod OpenLemmas
+pub mod PieceLemmas
+pub mod FoundLemmas
+pub mod OfferLemmas
+pub mod LongLemmas
+pub mod WrittenLemmas

@@ -10,5 +10,8 @@ pub mod View
 pub mod Lending
 pub mod Stages
 pub mod Descriptors
+pub mod Images
+pub mod Offers
+pub mod FileImages
 pub mod Transactions
 pub mod inside

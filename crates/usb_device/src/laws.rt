@@ -1,7 +1,11 @@
-//! Laws of what a device keeps.
+//! Laws of what a device keeps, and of its image.
 //!
 //! The functions of these laws do nothing: their contracts are the laws.
-ghost use Rattle.std.specs.Prelude.{◌≡◌, ◌<◌, ◌^◌, ◌||◌, ◌&&◌, ℕ, not, false};
+ghost use Rattle.std.specs.Prelude.{◌≡◌, ◌<◌, ◌^◌, ◌||◌, ◌&&◌, ℕ, List, not, false};
+ghost use Rattle.usb_file_data.specs.declared.file.DescriptorFile.{DescriptorFile};
+ghost use Rattle.usb_device.specs.FileImages.{image_of};
+ghost use Rattle.usb_device.specs.Images.{image_bytes, pieces_of, Piece};
+ghost use Rattle.usb_device.specs.Offers.{offer_in, offer_of};
 ghost use Rattle.usb_device.specs.States.{is_halted, is_same_endpoint, with_halt, without_halt};
 
 /// The 32 bits of [`State::halts`](crate::State::halts) are a set of endpoints, of those OUT and those IN alike (USB
@@ -15,4 +19,12 @@ pub fn halts_are_a_set()
 
     // Two numbers that are the same set are the same.
     ensures same { (halts others : ℕ) → halts < 2 ^ 32 → others < 2 ^ 32 → ((e : ℕ) → is_halted halts e ≡ is_halted others e) → halts ≡ others }
+{}
+
+/// A device image is read as the pieces that it was written of, and so offers what the file does that it was written of: a
+/// device answers over an image what it answers over its file.
+#[tactic(auto, using(crate::proofs::PieceLemmas::read_back, crate::proofs::OfferLemmas::same_offer))]
+pub fn an_image_is_read_back()
+    ensures pieces { (pieces : List Piece) → pieces_of (image_bytes pieces) ≡ pieces }
+    ensures offer { (f : DescriptorFile) → offer_in (image_of f) ≡ offer_of f }
 {}

@@ -12,10 +12,15 @@
 //! can be one handle of a program in another language, for which [`NzgTransaction`] and [`NzgPacket`] are what passes
 //! on the bus, in numbers and lent bytes.
 //!
+//! [`write_image`] makes one byte string of all that a device answers from, and [`Image`] reads it where it lies, whatever
+//! bytes it is: the law [`laws::an_image_is_read_back`] is that it offers what the file does.
+//!
 //! What is allowed of a device under test, beside a device of the same descriptors, [`judge`] says, transaction by
 //! transaction.
 //!
 //! - Which descriptors make a device is `specs/Accepted.antt`, and where each is `specs/Descriptors.antt`.
+//! - The format of an image is `specs/Images.antt`, that of a file `specs/FileImages.antt`, and what a device offers its
+//!   host, by either, `specs/Offers.antt`.
 //! - What comes of each request is `specs/Requests.antt`, a definition for each row of the table, over
 //!   `specs/States.antt`; what may be answered beside the table is `specs/Beside.antt`, and
 //!   what is allowed of a device under test `specs/Conformance.antt` and `specs/OpenTransfers.antt`.
@@ -29,15 +34,18 @@ mod beside;
 mod conformance;
 mod description;
 mod device;
+mod device_image;
 mod encoded;
 mod encoded_file;
 mod endpoint_zero;
+mod file_image;
 mod halts;
 mod image;
 pub mod laws;
 mod open_transfer;
 mod outline;
 mod owned_device;
+mod piece;
 mod request;
 mod selected;
 mod stage;
@@ -49,8 +57,10 @@ pub use beside::{ROOM, Unanswered, is_open};
 pub use conformance::{Difference, is_ready, judge};
 pub use description::Description;
 pub use device::Device;
+pub use device_image::Image;
 pub use encoded::Encoded;
 pub use endpoint_zero::EndpointZero;
+pub use file_image::write_image;
 pub use open_transfer::{OpenStage, OpenTransfer};
 pub use owned_device::OwnedDevice;
 pub use request::is_set_address;
