@@ -16,6 +16,8 @@ mod firmware;
 #[cfg(test)]
 mod judging;
 #[cfg(test)]
+mod lines;
+#[cfg(test)]
 mod losses;
 #[cfg(test)]
 mod lossy_bus;

@@ -16,8 +16,6 @@ mod numbers;
 mod output;
 mod page;
 mod shown;
-#[cfg(test)]
-mod tests;
 mod text;
 
 pub use characters::{is_plain, put_units, put_units_in};

@@ -20,8 +20,6 @@ pub mod laws;
 mod packet;
 mod pid;
 mod tables;
-#[cfg(test)]
-mod tests;
 
 pub use address::AddressFields;
 pub use body::MOST_DATA;

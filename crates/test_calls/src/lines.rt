@@ -4,12 +4,10 @@ ghost use Rattle.std.specs.Option.{option_to_list};
 ghost use Rattle.usb_text.specs.Shown.{Bytes, End, Indent, Name, Number, showing_all};
 ghost use Rattle.usb_text.specs.Written.{WritesLess, WritesLines, is_words, written};
 
-use crate::lines::Lines;
-use crate::output::OutFault;
-use crate::page::Page;
 use std::alloc::AllocError;
 use std::io::Write;
 use std::test::Fail;
+use usb_text::{Lines, OutFault, Page};
 
 /// The name of a class.
 fn class_name(class: u8) -> Option<&'static str>
@@ -49,7 +47,7 @@ fn put_numbers<P: Page>(page: &mut P, numbers: &[u8]) -> Result<(), AllocError>
 }
 
 /// Puts one line.
-#[tactic(auto, using(crate::proofs::ShownLines::showing_joined))]
+#[tactic(auto, using(usb_text::proofs::ShownLines::showing_joined))]
 fn put_entry<P: Page>(
     page: &mut P,
     depth: u8,
@@ -86,7 +84,7 @@ fn puts_lines(rt: HostRuntime) -> Result<(), Fail> {
     Ok(())
 }
 
-/// Writes so many lines.
+/// Writes `count` lines.
 fn write_entries<W: Write>(lines: Lines, count: u8, w: &mut W) -> Result<(), OutFault>
     ensures ok { OnOk result (WritesLines lines.utf8 ((written lines).ended + count) (W.contents w.old) (W.contents w.new)) }
     ensures err { OnErr result (WritesLess lines.utf8 ((written lines).ended + count) (W.contents w.old) (W.contents w.new)) }

@@ -1,7 +1,7 @@
 use Rattle.std.proofs.Common.{rules}
 use Rattle.usb_text.proofs.Pages.{on_err}
 use Rattle.usb_text.proofs.WrittenLines.{nothing_put, puts_broken, puts_finished, puts_less, puts_lines, puts_passed}
-use Rattle.usb_text.proofs.tests.write_entries.Goals as goal
+use Rattle.test_calls.proofs.lines.write_entries.Goals as goal
 
 pub loop-i-init : goal.loop-i-init
 loop-i-init g c = nothing_put _ _
