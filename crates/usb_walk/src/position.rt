@@ -126,7 +126,8 @@ impl Position {
         }
     }
 
-    /// Begins the set of this number, or none.
+    /// Begins the set of this number, or none. It is apart, since most descriptors begin no set.
+    #[inline(never)]
     fn begin(&mut self, is_other: bool, number: usize, below: u8)
         ensures { self.new ≡ begun is_other number below self.old }
     {

@@ -24,6 +24,7 @@ impl Position {
         }
     }
 
+    #[inline(always)]
     #[tactic(auto, unfolding(crate::specs::Roles::outer_role))]
     fn outer_role(&self, d: &[u8]) -> Option<Role>
         ensures { result ≡ outer_role self.now d.now }
