@@ -6,6 +6,8 @@
 #[cfg(test)]
 mod bench;
 #[cfg(test)]
+mod captures;
+#[cfg(test)]
 mod controller;
 #[cfg(test)]
 mod driver;

@@ -26,8 +26,6 @@ mod order;
 mod pcap;
 mod reader;
 mod stage;
-#[cfg(test)]
-mod tests;
 mod usbmon;
 mod usbpcap;
 

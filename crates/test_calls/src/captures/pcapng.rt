@@ -1,6 +1,6 @@
 //! Files of pcapng whose bytes are typed from the format's document, fed in two pieces, cut at every byte.
-use crate::tests::{feed_all, read_cut};
-use crate::{CaptureFault, CaptureReader, Clock, Frame};
+use crate::captures::{feed_all, read_cut};
+use usb_capture::{CaptureFault, CaptureReader, Clock, Frame};
 use usb_fields::{after, prefix};
 
 /// A little-endian section: two interfaces, the second of them with `if_tsresol` 2^-10 and `if_tsoffset` -1; a packet of

@@ -1,11 +1,11 @@
 //! Files whose bytes are typed from the format's document, each in two pieces, cut at every byte.
 mod pcapng;
 
-use crate::{
+use std::alloc::Global;
+use usb_capture::{
     ByteOrder, CaptureFault, CaptureReader, Event, EventFault, EventKind, Frame, MOST_BYTES,
     PacketFault, packet_of,
 };
-use std::alloc::Global;
 use usb_fields::{Sequence, Setup, after, prefix};
 use usb_set::TransferType;
 use usb_wire::{Damage, Handshake, Packet};
