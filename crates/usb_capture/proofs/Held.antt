@@ -1,5 +1,5 @@
 -- What a part says of which only the first bytes are held.
-use Rattle.std.proofs.Common.{◌≡◌, ℕ, ◌+◌, ◌*◌, ◌-◌, ◌%◌, ◌<◌, ◌≤◌, List, [], ◌∷◌, length, take, drop, min, Bool, true, false, nat_lt, nat_eq, ◌⊎◌, inl, inr, refl, sym, ◌∙◌, ap, arith}
+use Rattle.std.proofs.Common.{◌≡◌, ℕ, ◌+◌, ◌*◌, ◌-◌, ◌%◌, ◌<◌, ◌≤◌, List, [], ◌∷◌, length, take, drop, min, Bool, true, false, nat_lt, nat_eq, inl, inr, refl, sym, ◌∙◌, ap, arith}
 use Rattle.std.proofs.lemmas.List.{drop-take, take_all, take-take}
 use Rattle.std.proofs.lemmas.Bool.Decides.{nat_tests}
 use Rattle.std.specs.Prelude.{Option, Some, None, Result, Ok, Err, slice_get, if◌then◌else◌}
@@ -13,18 +13,19 @@ use Rattle.usb_capture.specs.declared.fault.CaptureFault.TheVariants as faults
 use Rattle.usb_capture.specs.declared.frame.Frame.{Frame}
 use Rattle.usb_capture.specs.declared.interface.Interface.{Interface}
 use Rattle.usb_capture.specs.declared.order.ByteOrder.{ByteOrder}
-use Rattle.usb_capture.specs.declared.order.ByteOrder.TheVariants.{Little, Big}
+use Rattle.usb_capture.specs.declared.order.ByteOrder.TheVariants.{Little}
 use Rattle.usb_capture.specs.declared.pcap.Form.{Form}
 use Rattle.usb_capture.specs.declared.pcap.Writer.{Writer}
 use Rattle.usb_capture.specs.declared.stage.Stage.{Stage}
-use Rattle.usb_capture.specs.declared.stage.Stage.TheVariants.{Start, Records, Blocks}
+use Rattle.usb_capture.specs.declared.stage.Stage.TheVariants.{Start, Records, Blocks, Lines}
 use Rattle.usb_capture.specs.Clocks.{clock_of, time_of}
-use Rattle.usb_capture.specs.Files.{content, data_start, first_content, frame_list, frame_with, record_head}
+use Rattle.usb_capture.specs.Files.{content, data_start, first_content, frame_list, frame_with, record_head, whole}
 use Rattle.usb_capture.specs.Numbers.{number_at, short_at}
-use Rattle.usb_capture.specs.Pcap.{form_with, unit, writer_of}
+use Rattle.usb_capture.specs.Pcap.{unit, writer_of}
 use Rattle.usb_capture.specs.Pcapng.{block_content, block_order, interface_content, interface_with, is_section, is_total, ordered_content, packet_content, section_content, simple_content, typed_content}
+use Rattle.usb_capture.specs.UsbmonText.{is_text, line_content}
 use Rattle.usb_capture.proofs.Numbers.{Agree, fewer, front, le_or, same_number, same_short}
-use Rattle.usb_capture.proofs.Whole.{order_same, section_same, writer_same}
+use Rattle.usb_capture.proofs.Whole.{first_by, order_same, section_same, start_long, text_same, writer_same}
 
 section_alike : (order : ByteOrder) (b c : List ℕ) (n : ℕ) → Agree 32 b c → section_content order b n ≡ section_content order c n
 section_alike order b c n h =
@@ -119,11 +120,21 @@ block_alike : (order : ByteOrder) (interfaces : List Interface) (b c : List ℕ)
 block_alike order interfaces b c n last long h =
     ap (λ m. ordered_content m interfaces b n last) (order_same order b c (fewer 12 32 b c (omega arith) h)) ∙ ordered_alike (block_order order c) interfaces b c n last long h
 
-first_alike : (writer : Option Writer) (b c : List ℕ) (n : ℕ) (last : List ℕ) → 65627 < n → Agree 32 b c → first_content writer b n last ≡ first_content writer c n last
-first_alike (Some writer) b c n last long h = ap (λ k. Ok (says.Header (record { writer = writer; link = k % 65536 }))) (same_number 32 writer.order b c 20 (omega arith) h)
-first_alike None b c n last long h =
-    ap (λ t. if t then block_content Little [] b n last else Err faults.Magic) (section_same b c (fewer 4 32 b c (omega arith) h))
-    ∙ ap (λ r. if is_section c then r else Err faults.Magic) (block_alike Little [] b c n last long h)
+-- a line is held whole
+lines_alike : (section text : Bool) (b c : List ℕ) (n : ℕ) (r : Result Content CaptureFault) → 65627 < n → n ≤ first_by None section text c
+    → (if section then r else if text then line_content b else Err faults.Magic) ≡ (if section then r else if text then line_content c else Err faults.Magic)
+lines_alike true text b c n r long few = refl
+lines_alike false true b c n r long few = absurd (omega (arith, long, few))
+lines_alike false false b c n r long few = refl
+
+first_alike : (writer : Option Writer) (b c : List ℕ) (n : ℕ) (last : List ℕ) → 65627 < n → n ≤ first_by writer (is_section c) (is_text c) c → Agree 32 b c → first_content writer b n last ≡ first_content writer c n last
+first_alike (Some writer) b c n last long few h = ap (λ k. Ok (says.Header (record { writer = writer; link = k % 65536 }))) (same_number 32 writer.order b c 20 (omega arith) h)
+first_alike None b c n last long few h =
+    let by : Bool → Bool → Result Content CaptureFault → Result Content CaptureFault = λ section text r. if section then r else if text then line_content b else Err faults.Magic in
+    ap (λ t. by t (is_text b) (block_content Little [] b n last)) (section_same b c (fewer 4 32 b c (omega arith) h))
+    ∙ ap (λ t. by (is_section c) t (block_content Little [] b n last)) (text_same b c (fewer 4 32 b c (omega arith) h))
+    ∙ ap (by (is_section c) (is_text c)) (block_alike Little [] b c n last long h)
+    ∙ lines_alike (is_section c) (is_text c) b c n (block_content Little [] c n last) long few
 
 head_alike : (form : Form) (b c : List ℕ) → Agree 32 b c → record_head form b ≡ record_head form c
 head_alike form b c h =
@@ -146,18 +157,20 @@ head_alike form b c h =
     ∙ ap (made (number_at order c 0) (number_at order c 4) (number_at order c 8)) e12
 
 -- a part over what is held is told by its first 32 bytes
-alike : (stage : Stage) (interfaces : List Interface) (b c : List ℕ) (n : ℕ) (last : List ℕ) → 65627 < n → Agree 32 b c → content stage interfaces b n last ≡ content stage interfaces c n last
-alike Start interfaces b c n last long h =
-    ap (λ w. first_content w b n last) (writer_same b c (fewer 4 32 b c (omega arith) h)) ∙ first_alike (writer_of c) b c n last long h
-alike (Records form) interfaces b c n last long h = ap (λ head. Ok (says.Packet head)) (head_alike form b c h)
-alike (Blocks order) interfaces b c n last long h = block_alike order interfaces b c n last long h
+alike : (stage : Stage) (interfaces : List Interface) (b c : List ℕ) (last : List ℕ) → 65627 < length c → length c ≤ whole stage c → Agree 32 b c → content stage interfaces b (length c) last ≡ content stage interfaces c (length c) last
+alike Start interfaces b c last long few h =
+    let e = start_long c (omega (arith, long)) in
+    ap (λ w. first_content w b (length c) last) (writer_same b c (fewer 4 32 b c (omega arith) h)) ∙ first_alike (writer_of c) b c (length c) last long (omega (arith, e, few)) h
+alike (Records form) interfaces b c last long few h = ap (λ head. Ok (says.Packet head)) (head_alike form b c h)
+alike (Blocks order) interfaces b c last long few h = block_alike order interfaces b c (length c) last long h
+alike Lines interfaces b c last long few h = absurd (omega (arith, long, few))
 
 -- what is held of a part says what the part says
-pub content_held : (stage : Stage) (interfaces : List Interface) (b : List ℕ) (last : List ℕ) → content stage interfaces (take 65627 b) (length b) last ≡ content stage interfaces b (length b) last
-content_held stage interfaces b last =
+pub content_held : (stage : Stage) (interfaces : List Interface) (b : List ℕ) (last : List ℕ) → length b ≤ whole stage b → content stage interfaces (take 65627 b) (length b) last ≡ content stage interfaces b (length b) last
+content_held stage interfaces b last few =
     elim (le_or (length b) 65627) [
       | inl all ↦ ap (λ h. content stage interfaces h (length b) last) (take_all 65627 b all)
-      | inr some ↦ alike stage interfaces (take 65627 b) b (length b) last some (front 32 65627 b (omega arith))
+      | inr some ↦ alike stage interfaces (take 65627 b) b last some few (front 32 65627 b (omega arith))
     ]
 
 -- data begin 28 bytes in at most
@@ -188,6 +201,7 @@ frame_held head b =
 -- and is its frame
 pub frames_held : (content : Content) (b : List ℕ) → frame_list content (take 65627 b) ≡ frame_list content b
 frames_held (says.Packet head) b = ap (λ frame. frame ∷ []) (frame_held head b)
+frames_held (says.Line line) b = refl
 frames_held (says.Header form) b = refl
 frames_held (says.Section order) b = refl
 frames_held (says.Interface interface) b = refl

@@ -7,9 +7,8 @@ use Rattle.usb_capture.specs.declared.fault.CaptureFault.{CaptureFault}
 use Rattle.usb_capture.specs.declared.fault.CaptureFault.TheVariants.{Memory}
 use Rattle.usb_capture.specs.declared.frame.Frame.{Frame}
 use Rattle.usb_capture.specs.declared.reader.CaptureReader.{CaptureReader}
-use Rattle.usb_capture.specs.declared.stage.Stage.{Stage}
 use Rattle.usb_capture.specs.Files.{AreParts, IsPart, IsRefused, State, after_content, bytes_of, content, content_of, frame_list, frames_of, frames_with, last_four, next, start, state_after, whole}
-use Rattle.usb_capture.specs.Reading.{Has, IsKept, IsRead, state_of}
+use Rattle.usb_capture.specs.Reading.{IsKept, IsRead, state_of}
 use Rattle.usb_capture.proofs.Held.{content_held, frames_held}
 use Rattle.usb_capture.proofs.Numbers.{held_more}
 use Rattle.usb_capture.proofs.Whole.{some_bytes, whole_grows, whole_held}
@@ -96,7 +95,7 @@ said old all frames kept =
     ap (λ h. of (state_of old) h old.count old.last) has.held
     ∙ ap (λ n. of (state_of old) (take 65627 part) n old.last) has.count
     ∙ ap (of (state_of old) (take 65627 part) (length part)) has.last
-    ∙ content_held old.stage old.interfaces.items part (last_four part)
+    ∙ content_held old.stage old.interfaces.items part (last_four part) kept.3
     ∙ ap (λ s. content_of s part) has.state
 
 exact : (old : CaptureReader) → whole old.stage old.held.items ≤ old.count → (all : List ℕ) (frames : List Frame) (kept : IsKept all frames old) → length kept.1 ≡ whole (state_after start kept.0).stage kept.1

@@ -1,20 +1,19 @@
 -- The parts of a file are one list.
-use Rattle.std.proofs.Common.{◌≡◌, ℕ, ◌+◌, ◌*◌, ◌^◌, ◌-◌, ◌%◌, ◌<◌, ◌≤◌, List, [], ◌∷◌, ◌++◌, length, take, drop, map, min, nat_lt, Bool, true, false, rules, ◌⊎◌, inl, inr, refl, sym, ◌∙◌, ap, subst, arith, append_assoc, length-append}
-use Rattle.std.proofs.lemmas.List.{append-nil, drop_at, length-drop, take_at, take_min}
+use Rattle.std.proofs.Common.{◌≡◌, ℕ, ◌^◌, ◌-◌, ◌<◌, ◌≤◌, List, [], ◌∷◌, ◌++◌, length, take, drop, map, min, nat_lt, false, rules, ◌⊎◌, inl, inr, refl, sym, ◌∙◌, ap, subst, arith, append_assoc, length-append}
+use Rattle.std.proofs.lemmas.List.{drop_at, length-drop, take_at, take_min}
 use Rattle.std.proofs.lemmas.Bool.Decides.{nat_tests}
 use Rattle.std.specs.List.{AllByRecursion}
-use Rattle.std.specs.Prelude.{Option, Some, None, Result, Ok, Err, IsOk, if◌then◌else◌}
+use Rattle.std.specs.Prelude.{Result, Ok, Err, IsOk, if◌then◌else◌}
 use Rattle.usb_capture.specs.declared.content.Content.{Content}
 use Rattle.usb_capture.specs.declared.content.Content.TheVariants as says
 use Rattle.usb_capture.specs.declared.fault.CaptureFault.{CaptureFault}
 use Rattle.usb_capture.specs.declared.frame.Frame.{Frame}
-use Rattle.usb_capture.specs.declared.interface.Interface.{Interface}
 use Rattle.usb_capture.specs.declared.pcap.Form.{Form}
 use Rattle.usb_capture.specs.declared.reader.CaptureReader.{CaptureReader}
 use Rattle.usb_capture.specs.declared.stage.Stage.TheVariants.{Start, Records}
 use Rattle.usb_capture.specs.Files.{AreParts, IsPart, IsRefused, State, after_content, bytes_of, content_of, first_content, first_length, frame_with, frames_of, frames_with, last_four, record_head, start, state_after, whole}
-use Rattle.usb_capture.specs.Pcap.{IsHeader, IsPartial, IsRecord, form_with, frame_of, record_length, writer_of}
-use Rattle.usb_capture.specs.Reading.{Has, IsRead, state_of}
+use Rattle.usb_capture.specs.Pcap.{IsHeader, IsPartial, IsRecord, frame_of, record_length, writer_of}
+use Rattle.usb_capture.specs.Reading.{IsRead}
 use Rattle.usb_capture.proofs.Numbers.{le_or}
 use Rattle.usb_capture.proofs.Whole.{least_record, whole_steady}
 

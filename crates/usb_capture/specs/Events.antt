@@ -1,6 +1,6 @@
 -- What frames say of transfers: usbmon's header (the kernel's document "usbmon", struct usbmon_packet) and USBPcap's
 -- ("USBPcap capture format specification", USBPCAP_BUFFER_PACKET_HEADER), each field at its place.
-use Rattle.std.specs.Prelude.{◌≡◌, ℕ, ◌+◌, ◌*◌, ◌%◌, ◌≤◌, ◌==◌, ◌&&◌, ◌||◌, ◌⊎◌, Bool, true, false, List, length, take, drop, slice_index, Option, Some, None, is_some, nat_lt, if◌then◌else◌}
+use Rattle.std.specs.Prelude.{◌≡◌, ℕ, ◌+◌, ◌%◌, ◌≤◌, ◌==◌, ◌&&◌, ◌||◌, ◌⊎◌, Bool, false, List, length, take, drop, slice_index, Option, Some, None, is_some, nat_lt, if◌then◌else◌}
 use Rattle.usb_fields.specs.declared.setup.Setup.{Setup}
 use Rattle.usb_fields.specs.Bytes.{little_endian_at}
 use Rattle.usb_set.specs.declared.endpoint.TransferType.{TransferType}

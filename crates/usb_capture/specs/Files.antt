@@ -1,6 +1,6 @@
 -- A capture file: parts, each of which says how the next is read. A part of pcap is the file header or a record, one of
--- pcapng a block.
-use Rattle.std.specs.Prelude.{◌≡◌, ⊤, ℕ, ◌+◌, ◌<◌, List, [], ◌∷◌, ◌++◌, length, take, drop, min, Option, Some, None, Result, Ok, Err, IsOk, nat_lt, if◌then◌else◌}
+-- pcapng a block, one of text a line.
+use Rattle.std.specs.Prelude.{◌≡◌, ⊤, ℕ, List, [], ◌∷◌, ◌++◌, length, take, drop, min, Option, Some, None, Result, Ok, Err, IsOk, nat_lt, if◌then◌else◌}
 use Rattle.std.specs.List.{flat_map}
 use Rattle.usb_capture.specs.declared.content.Content.{Content}
 use Rattle.usb_capture.specs.declared.content.Content.TheVariants as says
@@ -15,10 +15,11 @@ use Rattle.usb_capture.specs.declared.order.ByteOrder.TheVariants.{Little}
 use Rattle.usb_capture.specs.declared.pcap.Form.{Form}
 use Rattle.usb_capture.specs.declared.pcap.Writer.{Writer}
 use Rattle.usb_capture.specs.declared.stage.Stage.{Stage}
-use Rattle.usb_capture.specs.declared.stage.Stage.TheVariants.{Start, Records, Blocks}
+use Rattle.usb_capture.specs.declared.stage.Stage.TheVariants.{Start, Records, Blocks, Lines}
 use Rattle.usb_capture.specs.Numbers.{number_at}
 use Rattle.usb_capture.specs.Pcap.{form_with, record_length, record_time, writer_of}
 use Rattle.usb_capture.specs.Pcapng.{block_content, block_length, is_section}
+use Rattle.usb_capture.specs.UsbmonText.{is_text, line_content, line_frame, line_length}
 
 -- what is known before a part: what it is, and the interfaces of its section
 pub record State : Type 0 where
@@ -31,13 +32,14 @@ start = record { stage = Start; interfaces = [] }
 -- how many bytes the first part of a file has that begins with these: its first four tell what it is
 abbrev pub first_length : Option Writer → List ℕ → ℕ
 first_length (Some writer) b = 24
-first_length None b = if is_section b then block_length Little b else 4
+first_length None b = if is_section b then block_length Little b else if is_text b then line_length b else 4
 
 -- how many bytes the part has that begins with these, as far as they tell
 abbrev pub whole : Stage → List ℕ → ℕ
 whole Start b = if nat_lt (length b) 4 then 4 else first_length (writer_of b) b
 whole (Records form) b = if nat_lt (length b) 16 then 16 else record_length form.writer.order b
 whole (Blocks order) b = block_length order b
+whole Lines b = line_length b
 
 -- what a record says before its data
 abbrev pub record_head : Form → List ℕ → Head
@@ -53,12 +55,14 @@ record_head form b = record {
 -- What a part of n bytes says, that begins with b and has these last four bytes.
 abbrev pub first_content : Option Writer → List ℕ → ℕ → List ℕ → Result Content CaptureFault
 first_content (Some writer) b n last = Ok (says.Header (form_with writer b))
-first_content None b n last = if is_section b then block_content Little [] b n last else Err faults.Magic
+first_content None b n last =
+    if is_section b then block_content Little [] b n last else if is_text b then line_content b else Err faults.Magic
 
 abbrev pub content : Stage → List Interface → List ℕ → ℕ → List ℕ → Result Content CaptureFault
 content Start interfaces b n last = first_content (writer_of b) b n last
 content (Records form) interfaces b n last = Ok (says.Packet (record_head form b))
 content (Blocks order) interfaces b n last = block_content order interfaces b n last
+content Lines interfaces b n last = line_content b
 
 -- the last four bytes, after four zeros
 abbrev pub last_four : List ℕ → List ℕ
@@ -72,6 +76,7 @@ abbrev pub next : State → Content → State
 next s (says.Header form) = record { stage = Records form; interfaces = [] }
 next s (says.Section order) = record { stage = Blocks order; interfaces = [] }
 next s (says.Interface interface) = record { stage = s.stage; interfaces = s.interfaces ++ interface ∷ [] }
+next s (says.Line line) = record { stage = Lines; interfaces = [] }
 next s (says.Packet head) = s
 next s says.Other = s
 
@@ -94,6 +99,7 @@ frame_with head b = record {
 
 abbrev pub frame_list : Content → List ℕ → List Frame
 frame_list (says.Packet head) b = frame_with head b ∷ []
+frame_list (says.Line line) b = line_frame line ∷ []
 frame_list (says.Header form) b = []
 frame_list (says.Section order) b = []
 frame_list (says.Interface interface) b = []

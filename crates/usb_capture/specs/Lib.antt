@@ -6,3 +6,5 @@ pub mod Files
 pub mod Pcap
 pub mod Pcapng
 pub mod Reading
+pub mod UsbmonText
+pub mod Words

@@ -3,7 +3,6 @@ use Rattle.std.specs.Prelude.{ℕ, ◌+◌, ◌*◌, ◌%◌, ◌-◌, ◌==◌,
 use Rattle.usb_capture.specs.declared.clock.Clock.{Clock}
 use Rattle.usb_capture.specs.declared.content.Content.{Content}
 use Rattle.usb_capture.specs.declared.content.Content.TheVariants as says
-use Rattle.usb_capture.specs.declared.content.Head.{Head}
 use Rattle.usb_capture.specs.declared.content.Layout.TheVariants as layouts
 use Rattle.usb_capture.specs.declared.fault.CaptureFault.{CaptureFault}
 use Rattle.usb_capture.specs.declared.fault.CaptureFault.TheVariants as faults

@@ -5,6 +5,7 @@ ghost use Rattle.usb_capture.specs.Files.{data_start};
 use crate::interface::Interface;
 use crate::order::ByteOrder;
 use crate::pcap::Form;
+use crate::text::line::Line;
 
 /// What is said of a packet before its data.
 #[derive(Clone, Copy, Debug)]
@@ -56,6 +57,8 @@ pub(crate) enum Content {
     Section(ByteOrder),
     /// A section has an interface more.
     Interface(Interface),
+    /// A line of text tells of a transfer.
+    Line(Line),
     /// A packet was captured.
     Packet(Head),
     /// Nothing that is read here.

@@ -4,7 +4,7 @@ use std::alloc::{AllocError, AllocFailed};
 /// Why a reader has stopped, at the part of the file that is being read.
 #[derive(Clone, Copy, Debug, PartialEq, Eq, Hash)]
 pub enum CaptureFault {
-    /// The first four bytes are no magic number of a capture file.
+    /// The first four bytes are no magic number of a capture file, nor digits of usbmon's text.
     Magic,
     /// Byte-Order Magic of a section header is 1a2b3c4d in neither order.
     Order,
@@ -24,6 +24,8 @@ pub enum CaptureFault {
     Interface,
     /// The data of a packet run past its block.
     Data,
+    /// A line isn't as usbmon's text has it, or has over 512 bytes.
+    Line,
     /// Out of memory.
     Memory,
 }

@@ -11,7 +11,8 @@ pub const MOST_BYTES: usize = 65_599;
 /// What one record of a capture has.
 #[derive(Clone, Debug, Drop)]
 pub struct Frame {
-    /// When it was captured, in nanoseconds from the beginning of 1970, if the file says it and 64 bits hold it.
+    /// When it was captured, in nanoseconds from the beginning of 1970, if the file says it and 64 bits hold it. Text has
+    /// microseconds from another beginning, again and again from 0 on after 2^32.
     pub time: Option<u64>,
     /// How its bytes are to be read: a number of the registry of link types.
     pub link: u16,

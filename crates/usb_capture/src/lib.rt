@@ -1,8 +1,9 @@
 //! Recordings of a bus, read.
 //!
-//! - [`CaptureReader`] takes the bytes of a capture file in pcap's or pcapng's format, in any pieces, and hands out each
-//!   [`Frame`] that is whole: its time, its link type and its bytes. It holds at most [`MOST_HELD`] bytes and what is said
-//!   of interfaces, however long the file is.
+//! - [`CaptureReader`] takes the bytes of a capture file in pcap's or pcapng's format or in usbmon's text, in any pieces,
+//!   and hands out each [`Frame`] that is whole: its time, its link type and its bytes. Of a line of text it makes the frame
+//!   of link type 220 that says the same. It holds at most [`MOST_HELD`] bytes and what is said of interfaces, however long
+//!   the file is.
 //! - [`Event::of_frame`] reads what a frame says of a transfer, where its link type is that of usbmon or of USBPcap: whose
 //!   transfer it is, its setup packet, its status and its data.
 //! - [`packet_of`] reads a frame that is a packet of the bus.
@@ -26,6 +27,7 @@ mod order;
 mod pcap;
 mod reader;
 mod stage;
+mod text;
 mod usbmon;
 mod usbpcap;
 

@@ -27,7 +27,7 @@ pub struct Step {
     pub frame: Option<Frame>,
 }
 
-/// Reads a capture file from pieces of any length: pcap, or pcapng.
+/// Reads a capture file from pieces of any length: pcap, pcapng, or usbmon's text.
 ///
 /// It takes a part of the file at a time, so a piece is fed until it is used up. A reader that failed answers the same
 /// fault from then on.
@@ -201,6 +201,10 @@ impl CaptureReader {
                 let frame = self.frame_with(head)?;
                 Ok(Some(frame))
             }
+            Content::Line(line) => {
+                let frame = line.to_frame(self.alloc)?;
+                Ok(Some(frame))
+            }
             _ => Ok(None),
         }
     }
@@ -235,6 +239,10 @@ impl CaptureReader {
             }
             Content::Section(order) => {
                 self.stage = Stage::Blocks(order);
+                self.interfaces.clear();
+            }
+            Content::Line(_) => {
+                self.stage = Stage::Lines;
                 self.interfaces.clear();
             }
             Content::Interface(interface) => self.interfaces.push(interface)?,

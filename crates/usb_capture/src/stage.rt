@@ -1,6 +1,7 @@
 //! What a part of a capture file is.
 ghost use Rattle.std.specs.Prelude.{◌≡◌};
 ghost use Rattle.usb_capture.specs.Files.{content, first_content, first_length, record_head, whole};
+ghost use Rattle.usb_capture.specs.UsbmonText.{is_text, line_content, line_length};
 
 use crate::block;
 use crate::content::{Content, Head, Layout};
@@ -8,6 +9,12 @@ use crate::fault::CaptureFault;
 use crate::interface::Interface;
 use crate::order::ByteOrder;
 use crate::pcap::{Form, Writer};
+use crate::text::line::Line;
+use crate::text::words::{digit, place_of};
+use usb_fields::{byte_at, prefix};
+
+/// The most bytes of a line.
+const MOST_LINE: usize = 512;
 
 /// What is being read.
 #[derive(Clone, Copy, Debug)]
@@ -18,6 +25,8 @@ pub(crate) enum Stage {
     Records(Form),
     /// A block of pcapng.
     Blocks(ByteOrder),
+    /// A line of usbmon's text.
+    Lines,
 }
 
 impl Stage {
@@ -31,6 +40,7 @@ impl Stage {
             Stage::Records(_) if held.len() < 16 => 16,
             Stage::Records(form) => 16 + u64::from(form.writer.order.number_at(held, 8)),
             Stage::Blocks(order) => u64::from(block::block_length(order, held)),
+            Stage::Lines => line_length(held),
         }
     }
 
@@ -52,6 +62,7 @@ impl Stage {
             Stage::Start => first_content(Writer::of_magic(held), held, n, last),
             Stage::Records(form) => Ok(Content::Packet(record_head(form, held))),
             Stage::Blocks(order) => block::read(order, interfaces, held, n, last),
+            Stage::Lines => line_content(held),
         }
     }
 }
@@ -63,6 +74,7 @@ fn first_length(writer: Option<Writer>, held: &[u8]) -> u64
     match writer {
         Some(_) => 24,
         None if block::is_section(held) => u64::from(block::block_length(ByteOrder::Little, held)),
+        None if is_text(held) => line_length(held),
         None => 4,
     }
 }
@@ -82,6 +94,7 @@ fn first_content(
             link: (writer.order.number_at(held, 20) % 65_536) as u16,
         })),
         None if block::is_section(held) => block::read(ByteOrder::Little, &[], held, n, last),
+        None if is_text(held) => line_content(held),
         None => Err(CaptureFault::Magic),
     }
 }
@@ -101,5 +114,36 @@ fn record_head(form: Form, held: &[u8]) -> Head
         captured: order.number_at(held, 8),
         original: order.number_at(held, 12),
         layout: Layout::Record,
+    }
+}
+
+/// Whether usbmon's text begins here.
+fn is_text(held: &[u8]) -> bool
+    ensures { result ≡ is_text held.now }
+{
+    digit(byte_at(held, 0)).is_some()
+        && digit(byte_at(held, 1)).is_some()
+        && digit(byte_at(held, 2)).is_some()
+        && digit(byte_at(held, 3)).is_some()
+}
+
+/// How many bytes a line has, as far as these tell.
+fn line_length(held: &[u8]) -> u64
+    ensures { result ≡ line_length held.now }
+{
+    place_of(b'\n', held).min(MOST_LINE - 1) as u64 + 1
+}
+
+/// What a line says.
+fn line_content(held: &[u8]) -> Result<Content, CaptureFault>
+    ensures { result ≡ line_content held.now }
+{
+    let end = place_of(b'\n', held);
+    if end >= held.len() {
+        return Err(CaptureFault::Line);
+    }
+    match Line::of_text(prefix(held, end)) {
+        Some(line) => Ok(Content::Line(line)),
+        None => Err(CaptureFault::Line),
     }
 }

@@ -46,7 +46,7 @@ pub(crate) fn read(order: ByteOrder, header: usize, b: &[u8]) -> Result<Event<'_
 }
 
 /// What the letter of an event says.
-fn kind_of(letter: u8) -> Option<EventKind>
+pub(crate) fn kind_of(letter: u8) -> Option<EventKind>
     ensures { result ≡ kind_of letter }
 {
     match letter {

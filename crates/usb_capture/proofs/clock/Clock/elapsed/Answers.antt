@@ -1,4 +1,4 @@
-use Rattle.std.proofs.Common.{rules, ◌≡◌, ◌<◌, ◌^◌, ℕ, ◌*◌, ◌/◌, arith}
+use Rattle.std.proofs.Common.{arith}
 use Rattle.usb_capture.proofs.Clocks.{some_units}
 use Rattle.usb_capture.proofs.clock.Clock.elapsed.Goals as goal
 

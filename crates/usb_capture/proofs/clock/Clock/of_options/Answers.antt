@@ -1,5 +1,5 @@
-use Rattle.std.proofs.Common.{drop, ◌≡◌, ◌-◌, Some, None, refl, sym, ◌∙◌, ap, arith}
-use Rattle.usb_capture.specs.Clocks.{clock_after, option_length}
+use Rattle.std.proofs.Common.{drop, ◌≡◌, ◌-◌, Some, None, sym, ◌∙◌, ap, arith}
+use Rattle.usb_capture.specs.Clocks.{clock_after}
 use Rattle.usb_capture.proofs.Clocks.{at_end, at_option, at_past}
 use Rattle.usb_capture.proofs.clock.Clock.of_options.Goals as goal
 

@@ -1,4 +1,4 @@
-use Rattle.std.proofs.Common.{◌≡◌, length}
+use Rattle.std.proofs.Common.{◌≡◌}
 use Rattle.usb_capture.specs.Clocks.{clock_after, clock_of}
 use Rattle.usb_capture.proofs.clock.Clock.of_options.Given as goal
 

@@ -1,6 +1,5 @@
-use Rattle.std.proofs.Common.{◌≡◌, ◌<◌, ◌++◌, ◌⊎◌, inl, inr, [], sym, subst, ◌∙◌, ap, arith}
+use Rattle.std.proofs.Common.{inr, sym, ◌∙◌, arith}
 use Rattle.std.proofs.lemmas.Result.{err_from_is_err_and}
-use Rattle.usb_capture.specs.Files.{next}
 use Rattle.usb_capture.proofs.Parts.{ended, refused, still_open}
 use Rattle.usb_capture.proofs.reader.CaptureReader.end_part.Goals as goal
 
