@@ -1,6 +1,7 @@
 //! Files whose bytes are typed from the format's document, each in two pieces, cut at every byte.
 mod pcapng;
 mod text;
+mod transfers;
 
 use std::alloc::Global;
 use usb_capture::{
@@ -175,7 +176,7 @@ const GET_DESCRIPTOR: Setup = Setup {
 };
 
 /// A frame with these bytes.
-fn frame_with(
+pub(crate) fn frame_with(
     alloc: Global,
     link: u16,
     order: ByteOrder,
@@ -225,7 +226,7 @@ fn reads_a_setup_stage_of_usbpcap(rt: HostRuntime) {
     assert!(rt; event.kind == EventKind::Submission && event.transfer == TransferType::Control);
     assert!(rt; (event.bus, event.device, event.endpoint) == (2, 5, 0x80));
     assert!(rt; event.setup == Some(GET_DESCRIPTOR));
-    assert!(rt; (event.status, event.length) == (0, 8));
+    assert!(rt; (event.status, event.length) == (0, 0));
     assert!(rt; event.data.is_empty());
 }
 

@@ -3,6 +3,7 @@ pub mod Held
 pub mod LineLengths
 pub mod Numbers
 pub mod Parts
+pub mod TransferLemmas
 pub mod Unique
 pub mod Whole
 pub mod WordLemmas

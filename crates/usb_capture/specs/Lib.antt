@@ -6,5 +6,6 @@ pub mod Files
 pub mod Pcap
 pub mod Pcapng
 pub mod Reading
+pub mod Transfers
 pub mod UsbmonText
 pub mod Words

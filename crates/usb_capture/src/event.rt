@@ -1,5 +1,5 @@
 //! What a frame says of a transfer.
-ghost use Rattle.std.specs.Prelude.{◌≡◌, Some, IfOk, IfErr};
+ghost use Rattle.std.specs.Prelude.{◌≡◌, Some, IfOk, IfErr, nat_lt};
 ghost use Rattle.usb_capture.specs.Events.{event_fault, transfer_of, IsEvent};
 
 use crate::frame::Frame;
@@ -31,13 +31,28 @@ pub enum EventFault {
     Transfer,
 }
 
+/// The system of a host.
+#[derive(Clone, Copy, Debug, PartialEq, Eq, Hash)]
+pub enum System {
+    /// Linux, of which usbmon tells.
+    Linux,
+    /// Windows, of which USBPcap tells.
+    Windows,
+}
+
 /// What a frame says of a transfer.
 #[derive(Clone, Copy, Debug)]
 pub struct Event<'d> {
+    /// When it was captured, in nanoseconds.
+    pub time: Option<u64>,
+    /// The system of the host.
+    pub system: System,
     /// What a submission and its completion have in common.
     pub id: u64,
     /// What befell it.
     pub kind: EventKind,
+    /// Whether the transfer is over with it: not where USBPcap has the data stage apart.
+    pub ends: bool,
     /// The type of its endpoint.
     pub transfer: TransferType,
     /// The number of its bus.
@@ -50,10 +65,12 @@ pub struct Event<'d> {
     pub setup: Option<Setup>,
     /// How it ended, as the host's system numbers it: 0 is success. Linux has a negative number in two's complement.
     pub status: u32,
-    /// How many bytes were asked for or, at its completion, came or went.
+    /// How many bytes were asked for or, at its completion, came or went. USBPcap has a length for each stage.
     pub length: u32,
     /// Those of them that the frame has.
     pub data: &'d [u8],
+    /// Whether the file has fewer of the frame's bytes than it had.
+    pub is_cut: bool,
 }
 
 impl<'d> Event<'d> {
@@ -64,13 +81,14 @@ impl<'d> Event<'d> {
     /// The first [`EventFault`] that holds.
     pub fn of_frame(frame: &'d Frame) -> Result<Event<'d>, EventFault>
         ensures ok { IfOk result (λ event. IsEvent frame.now.link frame.now.order frame.now.bytes event) }
+        ensures time { IfOk result (λ event. event.time ≡ frame.now.time) }
+        ensures cut { IfOk result (λ event. event.is_cut ≡ nat_lt frame.now.captured frame.now.original) }
         ensures err { IfErr result (λ fault. event_fault frame.now.link frame.now.bytes ≡ Some fault) }
     {
-        let bytes = frame.bytes.as_slice();
         match frame.link {
-            189 => usbmon::read(frame.order, usbmon::OLD_HEADER_LENGTH, bytes),
-            220 => usbmon::read(frame.order, usbmon::HEADER_LENGTH, bytes),
-            249 => usbpcap::read(bytes),
+            189 => usbmon::read(frame, usbmon::OLD_HEADER_LENGTH),
+            220 => usbmon::read(frame, usbmon::HEADER_LENGTH),
+            249 => usbpcap::read(frame),
             _ => Err(EventFault::Link),
         }
     }

@@ -6,6 +6,8 @@
 //!   the file is.
 //! - [`Event::of_frame`] reads what a frame says of a transfer, where its link type is that of usbmon or of USBPcap: whose
 //!   transfer it is, its setup packet, its status and its data.
+//! - [`ControlTransfers`] makes of these, one by one, the control transfers of all devices: what was asked, what was answered
+//!   and how it ended. It holds those whose end hasn't come.
 //! - [`packet_of`] reads a frame that is a packet of the bus.
 //! - [`laws`]: bytes have one list of frames or one fault, so it doesn't matter how they were cut into pieces.
 //!
@@ -18,11 +20,15 @@ mod block;
 mod bus_packet;
 mod clock;
 mod content;
+mod control_transfer;
+mod control_transfers;
+mod ending;
 mod event;
 mod fault;
 mod frame;
 mod interface;
 pub mod laws;
+mod open_transfer;
 mod order;
 mod pcap;
 mod reader;
@@ -33,7 +39,10 @@ mod usbpcap;
 
 pub use bus_packet::{PacketFault, packet_of};
 pub use clock::Clock;
-pub use event::{Event, EventFault, EventKind};
+pub use control_transfer::ControlTransfer;
+pub use control_transfers::ControlTransfers;
+pub use ending::Ending;
+pub use event::{Event, EventFault, EventKind, System};
 pub use fault::CaptureFault;
 pub use frame::{Frame, MOST_BYTES};
 pub use interface::Interface;

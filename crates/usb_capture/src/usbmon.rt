@@ -1,8 +1,9 @@
 //! Frames of usbmon (the kernel's document "usbmon", struct usbmon_packet).
-ghost use Rattle.std.specs.Prelude.{◌≡◌, ◌<◌, Some, IfOk, IfErr};
+ghost use Rattle.std.specs.Prelude.{◌≡◌, ◌<◌, Some, IfOk, IfErr, nat_lt};
 ghost use Rattle.usb_capture.specs.Events.{IsUsbmon, kind_of, setup_at, usbmon_fault};
 
-use crate::event::{Event, EventFault, EventKind, transfer_of};
+use crate::event::{Event, EventFault, EventKind, System, transfer_of};
+use crate::frame::Frame;
 use crate::order::ByteOrder;
 use usb_fields::{Setup, after, byte_at, prefix};
 
@@ -13,10 +14,14 @@ pub(crate) const OLD_HEADER_LENGTH: usize = 48;
 pub(crate) const HEADER_LENGTH: usize = 64;
 
 /// What a frame with a header of this length says.
-pub(crate) fn read(order: ByteOrder, header: usize, b: &[u8]) -> Result<Event<'_>, EventFault>
-    ensures ok { IfOk result (λ event. IsUsbmon order header b.now event) }
-    ensures err { IfErr result (λ fault. usbmon_fault header b.now ≡ Some fault) }
+pub(crate) fn read(frame: &Frame, header: usize) -> Result<Event<'_>, EventFault>
+    ensures ok { IfOk result (λ event. IsUsbmon frame.now.order header frame.now.bytes event) }
+    ensures time { IfOk result (λ event. event.time ≡ frame.now.time) }
+    ensures cut { IfOk result (λ event. event.is_cut ≡ nat_lt frame.now.captured frame.now.original) }
+    ensures err { IfErr result (λ fault. usbmon_fault header frame.now.bytes ≡ Some fault) }
 {
+    let order = frame.order;
+    let b = frame.bytes.as_slice();
     if b.len() < header {
         return Err(EventFault::Short);
     }
@@ -28,8 +33,11 @@ pub(crate) fn read(order: ByteOrder, header: usize, b: &[u8]) -> Result<Event<'_
     };
     let captured = order.number_at(b, 36) as usize;
     Ok(Event {
+        time: frame.time,
+        system: System::Linux,
         id: order.long_at(b, 0),
         kind,
+        ends: kind != EventKind::Submission,
         transfer,
         bus: order.short_at(b, 12),
         device: u16::from(byte_at(b, 11)),
@@ -42,6 +50,7 @@ pub(crate) fn read(order: ByteOrder, header: usize, b: &[u8]) -> Result<Event<'_
         status: order.number_at(b, 28),
         length: order.number_at(b, 32),
         data: prefix(after(b, header), captured),
+        is_cut: frame.is_cut(),
     })
 }
 
