@@ -2,6 +2,7 @@ pub mod Clocks
 pub mod Held
 pub mod LineLengths
 pub mod Numbers
+pub mod OpenTransfers
 pub mod Parts
 pub mod TransferLemmas
 pub mod Unique

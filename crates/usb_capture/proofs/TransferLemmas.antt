@@ -68,7 +68,7 @@ open_push : (opens : List OpenTransfer) (events : List Event) (event : Event) �
 open_push opens [] event = refl
 open_push opens (e ∷ events) event = open_push (seen e opens).held events event
 
-over_push : (opens : List OpenTransfer) (events : List Event) (event : Event)
+pub over_push : (opens : List OpenTransfer) (events : List Event) (event : Event)
     → over_in opens (events ++ event ∷ []) ≡ over_in opens events ++ option_to_list (seen event (open_after opens events)).over
 over_push opens [] event = append-nil (option_to_list (seen event opens).over)
 over_push opens (e ∷ events) event =

@@ -46,7 +46,14 @@ impl ControlTransfers {
         self.step(event)
     }
 
-    /// The same, by what is open.
+    /// Those whose end hasn't come, in the order in which they were last heard of.
+    pub fn unended(&self) -> &[OpenTransfer]
+        ensures { result.now ≡ self.now.held.items }
+    {
+        &self.held
+    }
+
+    /// The same as [`ControlTransfers::take`], by what is open.
     fn step(&mut self, event: &Event<'_>) -> Result<Option<ControlTransfer>, AllocError>
         ensures held { IfOk result (λ over. self.new.held.items ≡ (seen event.now self.old.held.items).held) }
         ensures over { IfOk result (λ over. over ≡ (seen event.now self.old.held.items).over) }

@@ -1,6 +1,8 @@
 //! What holds of every capture file. The functions of these laws do nothing: their contracts are the laws.
-ghost use Rattle.std.specs.Prelude.{◌≡◌, ◌++◌, ◌<◌, ℕ, List, length, map};
+ghost use Rattle.std.specs.Prelude.{◌≡◌, ◌≢◌, ◌++◌, ◌∷◌, ◌<◌, ℕ, List, [], Some, None, true, length, map};
 ghost use Rattle.std.specs.List.{AllByRecursion};
+ghost use Rattle.usb_fields.specs.declared.setup.Setup.{Setup};
+ghost use Rattle.usb_capture.specs.declared.event.Event.{Event};
 ghost use Rattle.usb_capture.specs.declared.fault.CaptureFault.{CaptureFault};
 ghost use Rattle.usb_capture.specs.declared.frame.Frame.{Frame};
 ghost use Rattle.usb_capture.specs.declared.pcap.Form.{Form};
@@ -8,6 +10,7 @@ ghost use Rattle.usb_capture.specs.declared.reader.CaptureReader.{CaptureReader}
 ghost use Rattle.usb_capture.specs.Files.{AreParts, IsRefused, bytes_of, frames_of, start, state_after, whole};
 ghost use Rattle.usb_capture.specs.Pcap.{IsHeader, IsPartial, IsRecord, frame_of};
 ghost use Rattle.usb_capture.specs.Reading.{IsRead};
+ghost use Rattle.usb_capture.specs.Transfers.{begun, ended, is_of_default_pipe, over_in};
 
 /// Whoever has read whole parts, as blocks of pcapng, and less than another has had the frames in these, and has that
 /// rest, however the bytes were cut into pieces.
@@ -36,4 +39,14 @@ pub fn each_record_is_a_frame()
         → (frames ≡ map (frame_of form) records) × (reader.count ≡ length rest) }
     ensures never_refused { (form : Form) (header rest : List ℕ) (fault : CaptureFault) (place : ℕ)
         → IsHeader form header → IsRefused (header ++ rest) fault place → ⊥ }
+{}
+
+/// A setup packet and the event that ends its transfer are a transfer with that packet, the data of both and that end, when
+/// it comes to its end, whatever events of others come between.
+pub fn a_request_and_its_answer_are_a_transfer()
+    ensures { (before between : List Event) (request answer : Event) (setup : Setup)
+        → is_of_default_pipe request ≡ true → request.setup ≡ Some setup
+        → AllByRecursion (λ event. event.id ≢ request.id) between
+        → is_of_default_pipe answer ≡ true → answer.id ≡ request.id → answer.setup ≡ None → answer.ends ≡ true
+        → over_in [] ((before ++ request ∷ between) ++ answer ∷ []) ≡ over_in [] (before ++ request ∷ between) ++ ended answer (begun request setup) ∷ [] }
 {}

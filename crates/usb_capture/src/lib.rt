@@ -9,7 +9,8 @@
 //! - [`ControlTransfers`] makes of these, one by one, the control transfers of all devices: what was asked, what was answered
 //!   and how it ended. It holds those whose end hasn't come.
 //! - [`packet_of`] reads a frame that is a packet of the bus.
-//! - [`laws`]: bytes have one list of frames or one fault, so it doesn't matter how they were cut into pieces.
+//! - [`laws`]: bytes have one list of frames or one fault, so it doesn't matter how they were cut into pieces. A setup packet
+//!   and the event that ends its transfer are a transfer, whatever events of others come between.
 //!
 //! The formats are those of the Internet drafts "PCAP Capture File Format" (draft-ietf-opsawg-pcap) and "PCAP Next
 //! Generation (pcapng) Capture File Format" (draft-ietf-opsawg-pcapng), those of frames the kernel's document "usbmon" and
@@ -46,6 +47,7 @@ pub use event::{Event, EventFault, EventKind, System};
 pub use fault::CaptureFault;
 pub use frame::{Frame, MOST_BYTES};
 pub use interface::Interface;
+pub use open_transfer::OpenTransfer;
 pub use order::ByteOrder;
 pub use pcap::{Form, Precision, Writer};
 pub use reader::{CaptureReader, MOST_HELD, Step};

@@ -3,9 +3,9 @@ use crate::control_transfer::ControlTransfer;
 
 /// A control transfer whose end hasn't come.
 #[derive(Debug, Drop)]
-pub(crate) struct OpenTransfer {
+pub struct OpenTransfer {
     /// What its events have in common.
-    pub(crate) id: u64,
+    pub id: u64,
     /// What is known of it.
-    pub(crate) transfer: ControlTransfer,
+    pub transfer: ControlTransfer,
 }
