@@ -1,5 +1,6 @@
 //! Files whose bytes are typed from the format's document, each in two pieces, cut at every byte.
 mod pcapng;
+mod readings;
 mod text;
 mod transfers;
 

@@ -6,6 +6,7 @@ pub mod Files
 pub mod Pcap
 pub mod Pcapng
 pub mod Reading
+pub mod Readings
 pub mod Transfers
 pub mod UsbmonText
 pub mod Words

@@ -8,6 +8,7 @@
 //!   transfer it is, its setup packet, its status and its data.
 //! - [`ControlTransfers`] makes of these, one by one, the control transfers of all devices: what was asked, what was answered
 //!   and how it ended. It holds those whose end hasn't come.
+//! - [`Readings`] keeps of these the last by which all of a descriptor came, for each descriptor of each device.
 //! - [`packet_of`] reads a frame that is a packet of the bus.
 //! - [`laws`]: bytes have one list of frames or one fault, so it doesn't matter how they were cut into pieces. A setup packet
 //!   and the event that ends its transfer are a transfer, whatever events of others come between.
@@ -33,6 +34,7 @@ mod open_transfer;
 mod order;
 mod pcap;
 mod reader;
+mod readings;
 mod stage;
 mod text;
 mod usbmon;
@@ -51,3 +53,4 @@ pub use open_transfer::OpenTransfer;
 pub use order::ByteOrder;
 pub use pcap::{Form, Precision, Writer};
 pub use reader::{CaptureReader, MOST_HELD, Step};
+pub use readings::Readings;

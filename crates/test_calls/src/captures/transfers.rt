@@ -26,7 +26,10 @@ aaaa1111 15 C Ci:1:005:0 -71 0
 ";
 
 /// The transfers that frames tell of, one after another.
-fn transfers_of(alloc: Global, frames: &[Frame]) -> Result<Vec<ControlTransfer>, CaptureFault> {
+pub(crate) fn transfers_of(
+    alloc: Global,
+    frames: &[Frame],
+) -> Result<Vec<ControlTransfer>, CaptureFault> {
     let mut open = ControlTransfers::new(alloc);
     let mut over = Vec::new(alloc);
     for frame in frames {
