@@ -4,6 +4,7 @@ pub mod LineLengths
 pub mod Numbers
 pub mod OpenTransfers
 pub mod Parts
+pub mod ReadingLaws
 pub mod ReadingLemmas
 pub mod TransferLemmas
 pub mod Unique

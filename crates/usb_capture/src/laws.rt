@@ -1,7 +1,8 @@
 //! What holds of every capture file. The functions of these laws do nothing: their contracts are the laws.
-ghost use Rattle.std.specs.Prelude.{◌≡◌, ◌≢◌, ◌++◌, ◌∷◌, ◌<◌, ℕ, List, [], Some, None, true, length, map};
-ghost use Rattle.std.specs.List.{AllByRecursion};
+ghost use Rattle.std.specs.Prelude.{◌≡◌, ◌≢◌, ◌++◌, ◌∷◌, ◌<◌, ℕ, List, [], Some, None, true, false, length, map};
+ghost use Rattle.std.specs.List.{All, AllByRecursion, Contains, find};
 ghost use Rattle.usb_fields.specs.declared.setup.Setup.{Setup};
+ghost use Rattle.usb_capture.specs.declared.control_transfer.ControlTransfer.{ControlTransfer};
 ghost use Rattle.usb_capture.specs.declared.event.Event.{Event};
 ghost use Rattle.usb_capture.specs.declared.fault.CaptureFault.{CaptureFault};
 ghost use Rattle.usb_capture.specs.declared.frame.Frame.{Frame};
@@ -10,6 +11,7 @@ ghost use Rattle.usb_capture.specs.declared.reader.CaptureReader.{CaptureReader}
 ghost use Rattle.usb_capture.specs.Files.{AreParts, IsRefused, bytes_of, frames_of, start, state_after, whole};
 ghost use Rattle.usb_capture.specs.Pcap.{IsHeader, IsPartial, IsRecord, frame_of};
 ghost use Rattle.usb_capture.specs.Reading.{IsRead};
+ghost use Rattle.usb_capture.specs.Readings.{is_again, is_reading, kept_after};
 ghost use Rattle.usb_capture.specs.Transfers.{begun, ended, is_of_default_pipe, over_in};
 
 /// Whoever has read whole parts, as blocks of pcapng, and less than another has had the frames in these, and has that
@@ -49,4 +51,16 @@ pub fn a_request_and_its_answer_are_a_transfer()
         → AllByRecursion (λ event. event.id ≢ request.id) between
         → is_of_default_pipe answer ≡ true → answer.id ≡ request.id → answer.setup ≡ None → answer.ends ≡ true
         → over_in [] ((before ++ request ∷ between) ++ answer ∷ []) ≡ over_in [] (before ++ request ∷ between) ++ ended answer (begun request setup) ∷ [] }
+{}
+
+/// What is kept of transfers came in them, from that device and whole: each is one of them and a reading.
+pub fn what_is_kept_came()
+    ensures { (transfers : List ControlTransfer) → All (λ t. Contains transfers t × (is_reading t ≡ true)) (kept_after [] transfers) }
+{}
+
+/// Of each descriptor of each device the last reading is kept: it is found there where no later transfer is of the same.
+pub fn the_last_reading_is_kept()
+    ensures { (before later : List ControlTransfer) (t : ControlTransfer) → is_reading t ≡ true
+        → AllByRecursion (λ u. is_again t u ≡ false) later
+        → find (is_again t) (kept_after [] (before ++ t ∷ later)) ≡ Some t }
 {}

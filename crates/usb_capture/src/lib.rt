@@ -11,7 +11,8 @@
 //! - [`Readings`] keeps of these the last by which all of a descriptor came, for each descriptor of each device.
 //! - [`packet_of`] reads a frame that is a packet of the bus.
 //! - [`laws`]: bytes have one list of frames or one fault, so it doesn't matter how they were cut into pieces. A setup packet
-//!   and the event that ends its transfer are a transfer, whatever events of others come between.
+//!   and the event that ends its transfer are a transfer, whatever events of others come between. What is kept of readings
+//!   came, and is the last.
 //!
 //! The formats are those of the Internet drafts "PCAP Capture File Format" (draft-ietf-opsawg-pcap) and "PCAP Next
 //! Generation (pcapng) Capture File Format" (draft-ietf-opsawg-pcapng), those of frames the kernel's document "usbmon" and
