@@ -1,6 +1,6 @@
 -- The strings of the indices that are named by what is asked for: the device has each of them, where the host asks for it.
-use Rattle.std.proofs.Common.{◌≡◌, ℕ, zero, suc, ◌+◌, ◌*◌, ◌/◌, ◌%◌, ◌<◌, ◌==◌, ◌||◌, Bool, true, false, if◌then◌else◌, List, [], ◌∷◌, ◌++◌, length, drop, filter, map, slice_get, Option, Some, None, refl, ap, sym, ◌∙◌, arith, subst, get_or, length-append}
-use Rattle.std.specs.Prelude.{unwrap_or, slice_index, option_and_then, position}
+use Rattle.std.proofs.Common.{◌≡◌, ℕ, zero, suc, ◌+◌, ◌*◌, ◌<◌, ◌==◌, ◌||◌, Bool, true, false, if◌then◌else◌, List, [], ◌∷◌, ◌++◌, length, drop, filter, map, slice_get, Option, Some, None, refl, ap, sym, ◌∙◌, arith, subst, get_or, length-append}
+use Rattle.std.specs.Prelude.{unwrap_or, slice_index, option_and_then}
 use Rattle.std.specs.List.{flat_map, list_any, range_with_len}
 use Rattle.std.proofs.lemmas.Bool.Decides.{nat_tests}
 use Rattle.std.proofs.lemmas.List.{length-map}

@@ -23,7 +23,7 @@ use Rattle.usb_bus.specs.inside.Script.{script}
 use Rattle.usb_bus.proofs.AcceptLemmas.{AreSound, AreStrings, count_is, languages_apart, no_strings_right, other_asked, other_count_is, other_sets_sound, packet_right, sets_sound, strings_right, value_some}
 use Rattle.usb_bus.proofs.AskedTexts.{among_all, short_there, strings_from, texts_count, texts_there}
 use Rattle.usb_bus.proofs.DescribeLemmas.{texts_read}
-use Rattle.usb_bus.proofs.WalkLemmas.{HasStrings, IsReadable, skips, walks_script}
+use Rattle.usb_bus.proofs.WalkLemmas.{HasStrings, IsReadable, walks_script}
 
 -- of the other speed, where it is asked for
 by_speed : (P : Option Other → Type 0) (b : Bool) (o : Option Other) → P o → P None → P (if b then o else None)

@@ -3,7 +3,6 @@ use Rattle.std.proofs.Common.{◌≡◌, ◌≢◌, ℕ, suc, ◌+◌, ◌<◌, 
 use Rattle.std.specs.Prelude.{Option, Some, None, not, ◌&&◌, ◌==◌}
 use Rattle.std.proofs.lemmas.Bool.Decides.{nat_tests, eqb_tells}
 use Rattle.std.proofs.lemmas.List.{append-nil, take_all, take_at}
-use Rattle.usb_fields.specs.declared.packet.Toggle.{Toggle}
 use Rattle.usb_fields.specs.declared.setup.Setup.{Setup as SetupPacket}
 use Rattle.usb_fields.specs.declared.setup.Direction.TheVariants as directions
 use Rattle.usb_fields.specs.Setup.{direction_of}
@@ -126,86 +125,74 @@ module _ (plan : List Reply → Plan) (naks : ℕ) (sends : List Reply → List 
   lost_begins l b a s replies (r ∷ todo) d z ne away moved ok (packet, (q, (planned, front, ends, follows))) =
       rw planned.begins (inr (record { asks = refl; elsewhere = ne; moved = moved; cost = z; todo = r ∷ todo; front = front }))
 
-  -- the transfer of t has ended with the expected reply
-  ended_well : (l b a : ℕ) (replies : List Reply) (h : HostEnd) (d : DeviceView) (r : Reply) (t : TogetherOn plan naks sends answer cut loose all last l b a replies h d) →
-      r ≡ t.r → d.state ≡ carried_out t.s (answer t.s t.q) → Holds l b a (proceed plan naks (replies ++ r ∷ []) d)
-  ended_well l b a replies h d r t er ed =
-      rw er (next_begins l b a (carried_out t.s (answer t.s t.q)) (replies ++ t.r ∷ []) t.todo d ed t.follows)
+  -- both ends are together in a transfer of the plan
+  module _ (l b a : ℕ) (replies : List Reply) (h : HostEnd) (d : DeviceView) (t : TogetherOn plan naks sends answer cut loose all last l b a replies h d) where
+    abbrev brought : Reply
+    brought = reply_from (length (sends replies)) h
 
-  completes : (l b a : ℕ) (replies : List Reply) (h : HostEnd) (d : DeviceView) (t : TogetherOn plan naks sends answer cut loose all last l b a replies h d) →
-      Stages answer cut t.s t.q t.packet naks (sends replies) l b a Completed d.stage h.transfer.awaited h.got h.transfer.kept h.transfer.strikes d.state →
-      Holds l b a (proceed plan naks (replies ++ reply_from (length (sends replies)) h ∷ []) d)
-  completes l b a replies h d t (inl (e, ed)) =
-      let rep = brings t.q (sends replies) t.planned.data_out h t.in_one.stand.request (t.planned.answering.bytes h.got e) ∙ sym (ap (reply_to (sends replies)) e) ∙ t.planned.reply in
-      let st : d.state ≡ carried_out t.s (answer t.s t.q) = rw e ed in
-      ended_well l b a replies h d (reply_from (length (sends replies)) h) t rep st
-  completes l b a replies h d t (inr (inr (accepted, ed))) =
-      let some = (t.planned.answering.takes accepted.judge accepted.answered).0 in
-      let rep = sent_all t.q (sends replies) t.planned.data_out h t.in_one.stand.request accepted some in
-      let as_r = sym (ap (reply_to (sends replies)) accepted.answered) ∙ t.planned.reply in
-      let st : d.state ≡ carried_out t.s (answer t.s t.q) = ed ∙ sym (ap (carried_out t.s) accepted.answered) in
-      ended_well l b a replies h d (reply_from (length (sends replies)) h) t (rep ∙ as_r) st
-  completes l b a replies h d t (inr (inl (next, (e, moved)))) =
-      let none : t.q.length ≡ 0 = t.planned.answering.done next e in
-      let rep : reply_from (length (sends replies)) h ≡ t.r =
-      is_done t.q (sends replies) t.planned.data_out h t.in_one.stand.request none ∙ sym (ap (reply_to (sends replies)) e) ∙ t.planned.reply in
-      let after : carried_out t.s (answer t.s t.q) ≡ next = rw e refl in
-      elim moved [
-        | inl ed ↦ ended_well l b a replies h d (reply_from (length (sends replies)) h) t rep (ed ∙ sym after)
-        | inr (ed, is, z) ↦
-            let away : next ≡ record d.state { address = next.address } = rw ed (t.planned.address next e is) in
-            (elim (eqb_tells next.address t.s.address) [
-              | inl here ↦
-                  let here' : next.address ≡ d.state.address = here.1 ∙ ap (λ x. x.address) (sym ed) in
-                  let st : next ≡ d.state = away ∙ ap (λ x. record d.state { address = x }) here' in
-                  ended_well l b a replies h d (reply_from (length (sends replies)) h) t rep (sym st ∙ sym after)
-              | inr there ↦
-                  let off : next.address ≢ d.state.address = rw ed there.1 in
-                  let moved : HasMoved plan naks sends answer cut (replies ++ t.r ∷ []) d = record {
-                    s = t.s;
-                    packet = t.packet;
-                    q = t.q;
-                    earlier = replies;
-                    begins = t.planned.begins;
-                    is_address = is;
-                    done = ap (λ r. replies ++ r ∷ []) (sym t.planned.reply ∙ ap (reply_to (sends replies)) e);
-                    stays = ed;
-                  } in
-                  rw rep (lost_begins l b a (carried_out t.s (answer t.s t.q)) (replies ++ t.r ∷ []) t.todo d z (rw after off) (rw after away) moved (t.ends is) t.follows)
-            ])
-      ]
+    abbrev At : TransferStage → Type 0
+    At stage = Stages answer cut t.s t.q t.packet naks (sends replies) l b a stage d.stage h.transfer.awaited h.got h.transfer.kept h.transfer.strikes d.state
 
-  stalls : (l b a : ℕ) (replies : List Reply) (h : HostEnd) (d : DeviceView) (t : TogetherOn plan naks sends answer cut loose all last l b a replies h d) →
-      (answer t.s t.q ≡ Refused) ⊎ IsDeclined (answer t.s t.q) t.q (sends replies) → d.state ≡ t.s → Holds l b a (proceed plan naks (replies ++ replied.Refused ∷ []) d)
-  stalls l b a replies h d t (inl e) ed =
-      ended_well l b a replies h d replied.Refused t (sym (ap (reply_to (sends replies)) e) ∙ t.planned.reply) (ed ∙ sym (ap (λ o. carried_out t.s o) e))
-  stalls l b a replies h d t (inr is) ed =
-      ended_well l b a replies h d replied.Refused t
-      (sym (ap (reply_to (sends replies)) is.answered ∙ is_refused t.q (sends replies) t.planned.data_out is) ∙ t.planned.reply) (ed ∙ sym (ap (λ o. carried_out t.s o) is.answered))
+    -- it has ended with the expected reply
+    ended_well : (r : Reply) → r ≡ t.r → d.state ≡ carried_out t.s (answer t.s t.q) → Holds l b a (proceed plan naks (replies ++ r ∷ []) d)
+    ended_well r er ed = rw er (next_begins l b a (carried_out t.s (answer t.s t.q)) (replies ++ t.r ∷ []) t.todo d ed t.follows)
 
-  together_at : (l b a : ℕ) (replies : List Reply) (h : HostEnd) (hs : TransferStage) (d : DeviceView) → h.transfer.stage ≡ hs →
-      TogetherOn plan naks sends answer cut loose all last l b a replies h d → Holds l b a (advance plan naks sends replies h hs d)
-  together_at l b a replies h Completed d e t =
-      completes l b a replies h d t
-      (subst (λ x. Stages answer cut t.s t.q t.packet naks (sends replies) l b a x d.stage h.transfer.awaited h.got h.transfer.kept h.transfer.strikes d.state) e t.in_one.stand.stages)
-  together_at l b a replies h (Failed NoAnswer) d e t =
-      let st = subst (λ x. Stages answer cut t.s t.q t.packet naks (sends replies) l b a x d.stage h.transfer.awaited h.got h.transfer.kept h.transfer.strikes d.state) e t.in_one.stand.stages in
-      (inl st, (t.r ∷ t.todo, t.front))
-  together_at l b a replies h (Failed Busy) d e t =
-      let st = subst (λ x. Stages answer cut t.s t.q t.packet naks (sends replies) l b a x d.stage h.transfer.awaited h.got h.transfer.kept h.transfer.strikes d.state) e t.in_one.stand.stages in
-      (st, (t.r ∷ t.todo, t.front))
-  together_at l b a replies h (Failed Stalled) d e t =
-      let st = subst (λ x. Stages answer cut t.s t.q t.packet naks (sends replies) l b a x d.stage h.transfer.awaited h.got h.transfer.kept h.transfer.strikes d.state) e t.in_one.stand.stages in
-      stalls l b a replies h d t st.0 st.1
-  together_at l b a replies h (Failed TooLong) d e t =
-      absurd (subst (λ x. Stages answer cut t.s t.q t.packet naks (sends replies) l b a x d.stage h.transfer.awaited h.got h.transfer.kept h.transfer.strikes d.state) e t.in_one.stand.stages)
-  together_at l b a replies h (Failed Unexpected) d e t =
-      absurd (subst (λ x. Stages answer cut t.s t.q t.packet naks (sends replies) l b a x d.stage h.transfer.awaited h.got h.transfer.kept h.transfer.strikes d.state) e t.in_one.stand.stages)
-  together_at l b a replies h (Failed Malformed) d e t =
-      absurd (subst (λ x. Stages answer cut t.s t.q t.packet naks (sends replies) l b a x d.stage h.transfer.awaited h.got h.transfer.kept h.transfer.strikes d.state) e t.in_one.stand.stages)
-  together_at l b a replies h (Failed Memory) d e t =
-      absurd (subst (λ x. Stages answer cut t.s t.q t.packet naks (sends replies) l b a x d.stage h.transfer.awaited h.got h.transfer.kept h.transfer.strikes d.state) e t.in_one.stand.stages)
-  together_at l b a replies h _ d e t = inl t
+    completes : At Completed → Holds l b a (proceed plan naks (replies ++ brought ∷ []) d)
+    completes (inl (e, ed)) =
+        let rep = brings t.q (sends replies) t.planned.data_out h t.in_one.stand.request (t.planned.answering.bytes h.got e) ∙ sym (ap (reply_to (sends replies)) e) ∙ t.planned.reply in
+        let st : d.state ≡ carried_out t.s (answer t.s t.q) = rw e ed in
+        ended_well brought rep st
+    completes (inr (inr (accepted, ed))) =
+        let some = (t.planned.answering.takes accepted.judge accepted.answered).0 in
+        let rep = sent_all t.q (sends replies) t.planned.data_out h t.in_one.stand.request accepted some in
+        let as_r = sym (ap (reply_to (sends replies)) accepted.answered) ∙ t.planned.reply in
+        let st : d.state ≡ carried_out t.s (answer t.s t.q) = ed ∙ sym (ap (carried_out t.s) accepted.answered) in
+        ended_well brought (rep ∙ as_r) st
+    completes (inr (inl (next, (e, moved)))) =
+        let none : t.q.length ≡ 0 = t.planned.answering.done next e in
+        let rep : brought ≡ t.r = is_done t.q (sends replies) t.planned.data_out h t.in_one.stand.request none ∙ sym (ap (reply_to (sends replies)) e) ∙ t.planned.reply in
+        let after : carried_out t.s (answer t.s t.q) ≡ next = rw e refl in
+        elim moved [
+          | inl ed ↦ ended_well brought rep (ed ∙ sym after)
+          | inr (ed, is, z) ↦
+              let away : next ≡ record d.state { address = next.address } = rw ed (t.planned.address next e is) in
+              (elim (eqb_tells next.address t.s.address) [
+                | inl here ↦
+                    let here' : next.address ≡ d.state.address = here.1 ∙ ap (λ x. x.address) (sym ed) in
+                    let st : next ≡ d.state = away ∙ ap (λ x. record d.state { address = x }) here' in
+                    ended_well brought rep (sym st ∙ sym after)
+                | inr there ↦
+                    let off : next.address ≢ d.state.address = rw ed there.1 in
+                    let moved : HasMoved plan naks sends answer cut (replies ++ t.r ∷ []) d = record {
+                      s = t.s;
+                      packet = t.packet;
+                      q = t.q;
+                      earlier = replies;
+                      begins = t.planned.begins;
+                      is_address = is;
+                      done = ap (λ r. replies ++ r ∷ []) (sym t.planned.reply ∙ ap (reply_to (sends replies)) e);
+                      stays = ed;
+                    } in
+                    rw rep (lost_begins l b a (carried_out t.s (answer t.s t.q)) (replies ++ t.r ∷ []) t.todo d z (rw after off) (rw after away) moved (t.ends is) t.follows)
+              ])
+        ]
+
+    stalls : (answer t.s t.q ≡ Refused) ⊎ IsDeclined (answer t.s t.q) t.q (sends replies) → d.state ≡ t.s → Holds l b a (proceed plan naks (replies ++ replied.Refused ∷ []) d)
+    stalls (inl e) ed = ended_well replied.Refused (sym (ap (reply_to (sends replies)) e) ∙ t.planned.reply) (ed ∙ sym (ap (λ o. carried_out t.s o) e))
+    stalls (inr is) ed =
+        ended_well replied.Refused (sym (ap (reply_to (sends replies)) is.answered ∙ is_refused t.q (sends replies) t.planned.data_out is) ∙ t.planned.reply)
+        (ed ∙ sym (ap (λ o. carried_out t.s o) is.answered))
+
+    together_at : (stage : TransferStage) → At stage → Holds l b a (advance plan naks sends replies h stage d)
+    together_at Completed st = completes st
+    together_at (Failed NoAnswer) st = (inl st, (t.r ∷ t.todo, t.front))
+    together_at (Failed Busy) st = (st, (t.r ∷ t.todo, t.front))
+    together_at (Failed Stalled) st = stalls st.0 st.1
+    together_at (Failed TooLong) st = absurd st
+    together_at (Failed Unexpected) st = absurd st
+    together_at (Failed Malformed) st = absurd st
+    together_at (Failed Memory) st = absurd st
+    together_at _ st = inl t
 
   silent_after : (l b a : ℕ) (replies : List Reply) (h : HostEnd) (hs : TransferStage) (d : DeviceView) (t todo : List Reply) →
       h.transfer.stage ≡ hs → (hs ≡ Setup) ⊎ (hs ≡ Failed NoAnswer) → h.transfer.address ≢ d.state.address →
@@ -215,23 +202,9 @@ module _ (plan : List Reply → Plan) (naks : ℕ) (sends : List Reply → List 
   silent_after l b a replies h (Failed NoAnswer) d t todo e w ne moved z front = (inr z, (todo, front))
   silent_after l b a replies h _ d t todo e w ne moved z front = absurd (grind arith)
 
-  -- the host's end in the stage Setup
-  abbrev asking : ℕ → ℕ → ℕ → SetupPacket → TransferStage → Toggle → ℕ → ℕ → ℕ → List ℕ → HostEnd
-  asking address packet nk q stage awaited kept strikes nak_count got =
-      record {
-        transfer = record {
-          address = address;
-          packet = packet;
-          naks = nk;
-          request = q;
-          stage = stage;
-          awaited = awaited;
-          kept = kept;
-          strikes = strikes;
-          nak_count = nak_count;
-        };
-        got = got;
-      }
+  -- the host's end in this stage
+  abbrev in_stage : TransferStage → HostEnd → HostEnd
+  in_stage stage h = record { transfer = record h.transfer { stage = stage }; got = h.got }
 
   -- it goes on asking or gives up, at the same address, and the device's state stays
   abbrev IsQuiet : List ℕ → Fate → HostEnd → DeviceView → Type 0
@@ -240,15 +213,11 @@ module _ (plan : List Reply → Plan) (naks : ℕ) (sends : List Reply → List 
       ((e.host.transfer.stage ≡ Setup) ⊎ (e.host.transfer.stage ≡ Failed NoAnswer)) × (e.host.transfer.address ≡ h.transfer.address) × (e.device.state ≡ d.state)
 
   -- while nothing at the host's address answers
-  silent_at : (bytes : List ℕ) (fate : Fate) (address packet nk : ℕ) (q : SetupPacket) (awaited : Toggle) (kept strikes nak_count : ℕ) (got : List ℕ) (d : DeviceView) →
-      address ≢ d.state.address → IsQuiet bytes fate (asking address packet nk q Setup awaited kept strikes nak_count got) d
-  silent_at bytes fate address packet nk q awaited kept strikes nak_count got d ne = grind (arith, nat_tests)
+  silent_at : (bytes : List ℕ) (fate : Fate) (h : HostEnd) (d : DeviceView) → h.transfer.address ≢ d.state.address → IsQuiet bytes fate (in_stage Setup h) d
+  silent_at bytes fate h d ne = grind (arith, nat_tests)
 
   silent_step : (bytes : List ℕ) (fate : Fate) (h : HostEnd) (d : DeviceView) → h.transfer.stage ≡ Setup → h.transfer.address ≢ d.state.address → IsQuiet bytes fate h d
-  silent_step bytes fate h d is ne =
-      let t = h.transfer in
-      subst (λ x. IsQuiet bytes fate (asking t.address t.packet t.naks t.request x t.awaited t.kept t.strikes t.nak_count h.got) d) (sym is)
-      (silent_at bytes fate t.address t.packet t.naks t.request t.awaited t.kept t.strikes t.nak_count h.got d ne)
+  silent_step bytes fate h d is ne = subst (λ x. IsQuiet bytes fate (in_stage x h) d) (sym is) (silent_at bytes fate h d ne)
 
   -- the host asks where no device is, or has given up
   abbrev IsAway : Phase → DeviceView → Type 0
@@ -322,8 +291,7 @@ module _ (plan : List Reply → Plan) (naks : ℕ) (sends : List Reply → List 
       Holds (l + lost fate) (b + busy fate) (a + ack_lost fate) (attempt_step plan naks sends answer cut fate replies phase d)
   attempt_keeps l b a fate replies (Running h) d (inl t) =
       let e = step_of answer cut (sends replies) fate (record { host = h; device = d }) in
-      together_at (l + lost fate) (b + busy fate) (a + ack_lost fate) replies e.host e.host.transfer.stage e.device refl
-      (record {
+      let on : TogetherOn plan naks sends answer cut loose all last (l + lost fate) (b + busy fate) (a + ack_lost fate) replies e.host e.device = record {
         s = t.s;
         r = t.r;
         todo = t.todo;
@@ -336,7 +304,8 @@ module _ (plan : List Reply → Plan) (naks : ℕ) (sends : List Reply → List 
         in_one = keeps answer cut t.s t.q t.packet naks (sends replies) t.planned.answering
             (λ bytes e. alike_cut cut t.packet t.q.length bytes (t.planned.is_cut bytes e) (t.planned.answering.bytes bytes e).0)
             t.planned.sizes l b a fate (record { host = h; device = d }) t.in_one;
-      })
+      } in
+      together_at (l + lost fate) (b + busy fate) (a + ack_lost fate) replies e.host e.device on e.host.transfer.stage on.in_one.stand.stages
   attempt_keeps l b a fate replies (Running h) d (inr t) =
       let e = step_of answer cut (sends replies) fate (record { host = h; device = d }) in
       let quiet = silent_step (sends replies) fate h d t.asks t.elsewhere in

@@ -178,218 +178,214 @@ module _ (room : ℕ) (table : State → SetupPacket → Outcome) (packet : ℕ)
     at_stage r r' fate e Completed other out status i = subst (λ x. Alike r r' fate e (due_at e x)) (sym i) refl
     at_stage r r' fate e (Failed why) other out status i = subst (λ x. Alike r r' fate e (due_at e x)) (sym i) refl
 
-    abbrev After : Responds → Moment → ℕ → ℕ → ℕ → Ends → Type 0
-    After r m l b a e =
-        (r' : Responds) × ((r' ≡ r) ⊎ (r' ≡ m.respond))
-        × Both r' (l + lost m.fate) (b + busy m.fate) (a + ack_lost m.fate) (next m.respond m.fate e)
+    module _ (r : Responds) (m : Moment) (l b a : ℕ) (e : Ends) (c : Both r l b a e) where
+      abbrev After : Type 0
+      After =
+          (r' : Responds) × ((r' ≡ r) ⊎ (r' ≡ m.respond))
+          × Both r' (l + lost m.fate) (b + busy m.fate) (a + ack_lost m.fate) (next m.respond m.fate e)
 
-    goes_on : (r : Responds) (m : Moment) (l b a : ℕ) (e : Ends) → next m.respond m.fate e ≡ next r m.fate e → Both r l b a e → After r m l b a e
-    goes_on r m l b a e same c =
-        (r, inl refl, subst (λ x. Both r (l + lost m.fate) (b + busy m.fate) (a + ack_lost m.fate) x) (sym same) (kept_on r l b a m.fate e c))
+      stays : (st : TransferStage) → e.host.transfer.stage ≡ st → (st ≡ Setup → ⊥) → (st ≡ DataOut → IsElsewhere e.device.stage) → (st ≡ StatusOut → IsElsewhere e.device.stage) →
+          After
+      stays st at other out status =
+          let same = at_stage r m.respond m.fate e st other out status at in
+          (r, inl refl, subst (λ x. Both r (l + lost m.fate) (b + busy m.fate) (a + ack_lost m.fate) x) (sym same) (kept_on r l b a m.fate e c))
 
-    stays : (r : Responds) (m : Moment) (l b a : ℕ) (e : Ends) (st : TransferStage) → e.host.transfer.stage ≡ st → (st ≡ Setup → ⊥) →
-        (st ≡ DataOut → IsElsewhere e.device.stage) → (st ≡ StatusOut → IsElsewhere e.device.stage) → Both r l b a e → After r m l b a e
-    stays r m l b a e st at other out status c = goes_on r m l b a e (at_stage r m.respond m.fate e st other out status at) c
+      -- The data stage of a write, by what the responder of this moment answers to the request.
+      module _ (at : e.host.transfer.stage ≡ DataOut) (asked : SetupPacket) (came : List ℕ) (here : e.device.stage ≡ device.Receiving asked came)
+          (w : IsWriting (both r) packet s q packet naks data_out l asked came e.host.transfer.awaited e.host.transfer.kept e.host.transfer.strikes e.device.state) where
+        -- he takes the data too: so he judges them
+        judges : (judge : List ℕ → Bool) → both m.respond s q ≡ Takes judge → After
+        judges judge takes =
+            let other : IsWriting (both m.respond) packet s q packet naks data_out l asked came e.host.transfer.awaited e.host.transfer.kept e.host.transfer.strikes e.device.state = record {
+              same_state = w.same_state;
+              asked_is = w.asked_is;
+              judge = judge;
+              answered = takes;
+              acknowledged = w.acknowledged;
+              count_is = w.count_is;
+              next_is = w.next_is;
+              kept = w.kept;
+              counted = w.counted;
+              came_is = w.came_is;
+              whole = w.whole;
+              more = w.more;
+              owed = w.owed;
+            } in (
+              m.respond,
+              inr refl,
+              kept_on m.respond l b a m.fate e (with_stages r m.respond l b a e c
+                  (subst (λ st. StagesOf m.respond l b a st e.device.stage e) (sym at)
+                  (subst (λ x. StagesOf m.respond l b a DataOut x e) (sym here) other))),
+            )
 
-    -- The data stage of a write, by what the responder of this moment answers to the request.
-    module _ (r : Responds) (m : Moment) (l b a : ℕ) (e : Ends) (at : e.host.transfer.stage ≡ DataOut) (asked : SetupPacket) (came : List ℕ)
-        (here : e.device.stage ≡ device.Receiving asked came) (c : Both r l b a e)
-        (w : IsWriting (both r) packet s q packet naks data_out l asked came e.host.transfer.awaited e.host.transfer.kept e.host.transfer.strikes e.device.state) where
-      -- he takes the data too: so he judges them
-      judges : (judge : List ℕ → Bool) → both m.respond s q ≡ Takes judge → After r m l b a e
-      judges judge takes =
-          let other : IsWriting (both m.respond) packet s q packet naks data_out l asked came e.host.transfer.awaited e.host.transfer.kept e.host.transfer.strikes e.device.state = record {
-            same_state = w.same_state;
-            asked_is = w.asked_is;
-            judge = judge;
-            answered = takes;
-            acknowledged = w.acknowledged;
-            count_is = w.count_is;
-            next_is = w.next_is;
-            kept = w.kept;
-            counted = w.counted;
-            came_is = w.came_is;
-            whole = w.whole;
-            more = w.more;
-            owed = w.owed;
-          } in (
-            m.respond,
-            inr refl,
-            kept_on m.respond l b a m.fate e (with_stages r m.respond l b a e c
-                (subst (λ st. StagesOf m.respond l b a st e.device.stage e) (sym at)
-                (subst (λ x. StagesOf m.respond l b a DataOut x e) (sym here) other))),
+        module _ (refuses : both m.respond s q ≡ Refused) where
+          abbrev sent : Sent
+          sent = record { address = e.host.transfer.address; token = OutToken e.host.transfer.awaited (packet_due e.host.transfer data_out) }
+
+          abbrev all : List ℕ
+          all = came ++ packet_due e.host.transfer data_out
+
+          abbrev done : DeviceView
+          done = record { state = e.device.state; stage = device.Written asked all; pending = false }
+
+          refused : (l' strikes : ℕ) → strikes ≤ l' → IsRefused (both m.respond) packet s q packet naks data_out l' strikes e.device.state
+          refused l' strikes owed = record { same_state = w.same_state; answered = inl refuses; owed = owed }
+
+          abbrev Then : ℕ → HostEnd → Type 0
+          Then l' h = (b' a' : ℕ) → b ≤ b' → Both m.respond l' b' a' (record { host = h; device = done })
+
+          hears_ack : has_data data_out ≡ true → (l' : ℕ) → Then l' (hears (has_data data_out) e.host AckReply)
+          hears_ack sends l' b' a' few =
+              subst (λ st. Both m.respond l' b' a' (record { host = host_after e.host.got (taken_by (has_data data_out) e.host.transfer st AckReply); device = done })) (sym at)
+              (subst (λ x. Both m.respond l' b' a' (record { host = host_after e.host.got (if x then write.acknowledged e.host.transfer else failed e.host.transfer Unexpected); device = done })) (sym sends)
+              (record {
+                address = c.address;
+                request = c.request;
+                packet = c.packet;
+                naks_are = c.naks_are;
+                nak_count = omega arith;
+                stages = by_count (e.host.transfer.kept + packet_length e.host.transfer == e.host.transfer.request.length) _ _;
+              }))
+            where
+              by_count : (last : Bool) (t : Toggle) (n : ℕ) →
+                  Stages (both m.respond) packet s q packet naks data_out l' b' a' (if last then StatusIn else DataOut) (device.Written asked all) t e.host.got n 0 e.device.state
+              by_count true t n = refused l' 0 (omega arith)
+              by_count false t n = (refused l' 0 (omega arith), sends)
+
+          hears_none : has_data data_out ≡ true → (l' : ℕ) → l + 1 ≤ l' → Then l' (hears (has_data data_out) e.host NoReply)
+          hears_none sends l' more b' a' few =
+              subst (λ st. Both m.respond l' b' a' (record { host = host_after e.host.got (taken_by (has_data data_out) e.host.transfer st NoReply); device = done })) (sym at)
+              (by_strikes (nat_lt e.host.transfer.strikes 2) refl)
+            where
+              by_strikes : (few : Bool) → nat_lt e.host.transfer.strikes 2 ≡ few →
+                  Both m.respond l' b' a' (record {
+                    host = host_after e.host.got (if few then record { heard = Goes; transfer = record e.host.transfer { strikes = suc e.host.transfer.strikes } } else failed e.host.transfer NoAnswer);
+                    device = done;
+                  })
+              by_strikes true i =
+                  let owed = w.owed in
+                  record {
+                    address = c.address;
+                    request = c.request;
+                    packet = c.packet;
+                    naks_are = c.naks_are;
+                    nak_count = (let n = c.nak_count in omega arith);
+                    stages = subst (λ st. Stages (both m.respond) packet s q packet naks data_out l' b' a' st (device.Written asked all) e.host.transfer.awaited e.host.got e.host.transfer.kept (suc e.host.transfer.strikes) e.device.state) (sym at)
+                        (refused l' (suc e.host.transfer.strikes) (omega arith), sends);
+                  }
+              by_strikes false i =
+                  let owed = w.owed in
+                  let three : 3 ≤ l' = (let two : 2 ≤ e.host.transfer.strikes = grind (arith, nat_tests) in omega arith) in
+                  record {
+                    address = c.address;
+                    request = c.request;
+                    packet = c.packet;
+                    naks_are = c.naks_are;
+                    nak_count = (let n = c.nak_count in omega arith);
+                    stages = three;
+                  }
+
+          out_due : due_of e.host.transfer data_out ≡ Some sent
+          out_due = ap (λ st. addressed e.host.transfer.address (token_due e.host.transfer data_out st)) at
+
+          abbrev Now : Fate → Type 0
+          Now fate =
+              (r' : Responds) × ((r' ≡ r) ⊎ (r' ≡ m.respond))
+              × Both r' (l + lost fate) (b + busy fate) (a + ack_lost fate) (exchanged (both m.respond) packet (has_data data_out) e.host e.device (Some sent) fate)
+
+          -- nothing depends on him
+          same_now : (fate : Fate) → Alike r m.respond fate e (Some sent) → Now fate
+          same_now fate same = (
+            r,
+            inl refl,
+            subst (λ x. Both r (l + lost fate) (b + busy fate) (a + ack_lost fate) x) (ap (λ o. exchanged (both r) packet (has_data data_out) e.host e.device o fate) out_due ∙ sym same)
+                (kept_on r l b a fate e c),
           )
 
-      module _ (refuses : both m.respond s q ≡ Refused) where
-        abbrev sent : Sent
-        sent = record { address = e.host.transfer.address; token = OutToken e.host.transfer.awaited (packet_due e.host.transfer data_out) }
+          not_ready : served (both m.respond) packet e.device sent false ≡ served (both r) packet e.device sent false
+          not_ready = refl
 
-        abbrev all : List ℕ
-        all = came ++ packet_due e.host.transfer data_out
+          abbrev IsDue_now : Type 0
+          IsDue_now = (length (packet_due e.host.transfer data_out) == min packet (asked.length - length came)) ≡ true
 
-        abbrev done : DeviceView
-        done = record { state = e.device.state; stage = device.Written asked all; pending = false }
+          -- a packet that is due has data
+          sends_data : IsDue_now → has_data data_out ≡ true
+          sends_data due =
+              let right : length (packet_due e.host.transfer data_out) ≡ min packet (asked.length - length came) = grind (arith, nat_tests) in
+              let asks = ap (λ x. x.length) w.asked_is in
+              let whole = w.whole in
+              let more = w.more in
+              packet_data e.host.transfer data_out (omega (arith, right, asks, whole, more, pos))
 
-        refused : (l' strikes : ℕ) → strikes ≤ l' → IsRefused (both m.respond) packet s q packet naks data_out l' strikes e.device.state
-        refused l' strikes owed = record { same_state = w.same_state; answered = inl refuses; owed = owed }
+          by_case : (fate : Fate) → (served (both m.respond) packet e.device sent true ≡ served (both r) packet e.device sent true)
+              ⊎ ((served (both m.respond) packet e.device sent true ≡ replies AckReply e.device.state (device.Written asked all) false) × IsDue_now) → Now fate
+          by_case fate (inl same) = same_now fate (exchanged_alike r m.respond (has_data data_out) e.host e.device sent fate by_ready)
+            where
+              by_ready : (ready : Bool) → served (both m.respond) packet e.device sent ready ≡ served (both r) packet e.device sent ready
+              by_ready true = same
+              by_ready false = not_ready
+          by_case Pass (inr (last, due)) = (
+            m.respond,
+            inr refl,
+            subst (λ x. Both m.respond (l + 0) (b + 0) (a + 0) (let y = acknowledged (both m.respond) packet Pass x in record { host = hears (has_data data_out) e.host y.reply; device = y.device })) (sym last)
+                (hears_ack (sends_data due) (l + 0) (b + 0) (a + 0) (omega arith)),
+          )
+          by_case LostAck (inr (last, due)) = (
+            m.respond,
+            inr refl,
+            subst (λ x. Both m.respond (l + 1) (b + 0) (a + 1) (record { host = hears (has_data data_out) e.host x.reply; device = x.device })) (sym last)
+                (hears_ack (sends_data due) (l + 1) (b + 0) (a + 1) (omega arith)),
+          )
+          by_case LostUp (inr (last, due)) = (
+            m.respond,
+            inr refl,
+            subst (λ x. Both m.respond (l + 1) (b + 0) (a + 0) (record { host = hears (has_data data_out) e.host NoReply; device = x.device })) (sym last)
+                (hears_none (sends_data due) (l + 1) (omega arith) (b + 0) (a + 0) (omega arith)),
+          )
+          by_case LostDown (inr last) = same_now LostDown refl
+          by_case Busy (inr last) =
+              same_now Busy (ap (λ x. record { host = hears (has_data data_out) e.host x.reply; device = x.device }) (acks_alike r m.respond (served (both r) packet e.device sent false)))
 
-        abbrev Then : ℕ → HostEnd → Type 0
-        Then l' h = (b' a' : ℕ) → b ≤ b' → Both m.respond l' b' a' (record { host = h; device = done })
+          declines : After
+          declines =
+              let request : both m.respond e.device.state asked ≡ Refused = ap (λ x. both m.respond x asked) w.same_state ∙ ap (λ x. both m.respond s x) w.asked_is ∙ refuses in
+              let case = last_out r m.respond e.device.state asked came request e.host.transfer.awaited (packet_due e.host.transfer data_out) e.host.transfer.address e.device.pending in
+              let now = by_case m.fate (subst (λ x. (let d : DeviceView = record { state = e.device.state; stage = x; pending = e.device.pending } in
+              (served (both m.respond) packet d sent true ≡ served (both r) packet d sent true)
+              ⊎ ((served (both m.respond) packet d sent true ≡ replies AckReply e.device.state (device.Written asked all) false) × IsDue_now))) (sym here) case) in
+              (now.0, now.1, subst (λ o. Both now.0 (l + lost m.fate) (b + busy m.fate) (a + ack_lost m.fate) (exchanged (both m.respond) packet (has_data data_out) e.host e.device o m.fate)) (sym out_due) now.2)
 
-        hears_ack : has_data data_out ≡ true → (l' : ℕ) → Then l' (hears (has_data data_out) e.host AckReply)
-        hears_ack sends l' b' a' few =
-            subst (λ st. Both m.respond l' b' a' (record { host = host_after e.host.got (taken_by (has_data data_out) e.host.transfer st AckReply); device = done })) (sym at)
-            (subst (λ x. Both m.respond l' b' a' (record { host = host_after e.host.got (if x then write.acknowledged e.host.transfer else failed e.host.transfer Unexpected); device = done })) (sym sends)
-            (record {
-              address = c.address;
-              request = c.request;
-              packet = c.packet;
-              naks_are = c.naks_are;
-              nak_count = omega arith;
-              stages = by_count (e.host.transfer.kept + packet_length e.host.transfer == e.host.transfer.request.length) _ _;
-            }))
-          where
-            by_count : (last : Bool) (t : Toggle) (n : ℕ) →
-                Stages (both m.respond) packet s q packet naks data_out l' b' a' (if last then StatusIn else DataOut) (device.Written asked all) t e.host.got n 0 e.device.state
-            by_count true t n = refused l' 0 (omega arith)
-            by_count false t n = (refused l' 0 (omega arith), sends)
+        receiving : (o : Outcome) → both m.respond s q ≡ o → After
+        receiving (Takes judge) i = judges judge i
+        receiving Refused i = declines i
+        receiving (Bytes bytes) i =
+            let asks = ((beside_kept room table r is).answering s q).takes w.judge w.answered in
+            let gives = ((beside_kept room table m.respond is).answering s q).bytes bytes i in
+            absurd (let z = sym gives.1 ∙ asks.1 in cc)
+        receiving (Done t) i =
+            let asks = ((beside_kept room table r is).answering s q).takes w.judge w.answered in
+            let none = ((beside_kept room table m.respond is).answering s q).done t i in
+            absurd (let some = asks.0 in omega arith)
 
-        hears_none : has_data data_out ≡ true → (l' : ℕ) → l + 1 ≤ l' → Then l' (hears (has_data data_out) e.host NoReply)
-        hears_none sends l' more b' a' few =
-            subst (λ st. Both m.respond l' b' a' (record { host = host_after e.host.got (taken_by (has_data data_out) e.host.transfer st NoReply); device = done })) (sym at)
-            (by_strikes (nat_lt e.host.transfer.strikes 2) refl)
-          where
-            by_strikes : (few : Bool) → nat_lt e.host.transfer.strikes 2 ≡ few →
-                Both m.respond l' b' a' (record {
-                  host = host_after e.host.got (if few then record { heard = Goes; transfer = record e.host.transfer { strikes = suc e.host.transfer.strikes } } else failed e.host.transfer NoAnswer);
-                  device = done;
-                })
-            by_strikes true i =
-                let owed = w.owed in
-                record {
-                  address = c.address;
-                  request = c.request;
-                  packet = c.packet;
-                  naks_are = c.naks_are;
-                  nak_count = (let n = c.nak_count in omega arith);
-                  stages = subst (λ st. Stages (both m.respond) packet s q packet naks data_out l' b' a' st (device.Written asked all) e.host.transfer.awaited e.host.got e.host.transfer.kept (suc e.host.transfer.strikes) e.device.state) (sym at)
-                      (refused l' (suc e.host.transfer.strikes) (omega arith), sends);
-                }
-            by_strikes false i =
-                let owed = w.owed in
-                let three : 3 ≤ l' = (let two : 2 ≤ e.host.transfer.strikes = grind (arith, nat_tests) in omega arith) in
-                record {
-                  address = c.address;
-                  request = c.request;
-                  packet = c.packet;
-                  naks_are = c.naks_are;
-                  nak_count = (let n = c.nak_count in omega arith);
-                  stages = three;
-                }
+      in_data_out : (x : DeviceStage) → e.device.stage ≡ x → e.host.transfer.stage ≡ DataOut → After
+      in_data_out (device.Receiving asked came) here at =
+          receiving at asked came here
+          (subst (λ x. StagesOf r l b a DataOut x e) here (subst (λ st. StagesOf r l b a st e.device.stage e) at c.stages)) (both m.respond s q) refl
+      in_data_out x here at = stays DataOut at (λ i. absurd (cc)) (λ i. subst (λ y. IsElsewhere y) (sym here) tt) (λ i. absurd (cc))
 
-        out_due : due_of e.host.transfer data_out ≡ Some sent
-        out_due = ap (λ st. addressed e.host.transfer.address (token_due e.host.transfer data_out st)) at
+      in_status_out : (x : DeviceStage) → e.device.stage ≡ x → e.host.transfer.stage ≡ StatusOut → After
+      in_status_out (device.Receiving asked came) here at =
+          absurd (subst (λ x. StagesOf r l b a StatusOut x e) here (subst (λ st. StagesOf r l b a st e.device.stage e) at c.stages))
+      in_status_out x here at = stays StatusOut at (λ i. absurd (cc)) (λ i. absurd (cc)) (λ i. subst (λ y. IsElsewhere y) (sym here) tt)
 
-        abbrev Now : Fate → Type 0
-        Now fate =
-            (r' : Responds) × ((r' ≡ r) ⊎ (r' ≡ m.respond))
-            × Both r' (l + lost fate) (b + busy fate) (a + ack_lost fate) (exchanged (both m.respond) packet (has_data data_out) e.host e.device (Some sent) fate)
-
-        -- nothing depends on him
-        same_now : (fate : Fate) → Alike r m.respond fate e (Some sent) → Now fate
-        same_now fate same = (
-          r,
-          inl refl,
-          subst (λ x. Both r (l + lost fate) (b + busy fate) (a + ack_lost fate) x) (ap (λ o. exchanged (both r) packet (has_data data_out) e.host e.device o fate) out_due ∙ sym same)
-              (kept_on r l b a fate e c),
-        )
-
-        not_ready : served (both m.respond) packet e.device sent false ≡ served (both r) packet e.device sent false
-        not_ready = refl
-
-        abbrev IsDue_now : Type 0
-        IsDue_now = (length (packet_due e.host.transfer data_out) == min packet (asked.length - length came)) ≡ true
-
-        -- a packet that is due has data
-        sends_data : IsDue_now → has_data data_out ≡ true
-        sends_data due =
-            let right : length (packet_due e.host.transfer data_out) ≡ min packet (asked.length - length came) = grind (arith, nat_tests) in
-            let asks = ap (λ x. x.length) w.asked_is in
-            let whole = w.whole in
-            let more = w.more in
-            packet_data e.host.transfer data_out (omega (arith, right, asks, whole, more, pos))
-
-        by_case : (fate : Fate) → (served (both m.respond) packet e.device sent true ≡ served (both r) packet e.device sent true)
-            ⊎ ((served (both m.respond) packet e.device sent true ≡ replies AckReply e.device.state (device.Written asked all) false) × IsDue_now) → Now fate
-        by_case fate (inl same) = same_now fate (exchanged_alike r m.respond (has_data data_out) e.host e.device sent fate by_ready)
-          where
-            by_ready : (ready : Bool) → served (both m.respond) packet e.device sent ready ≡ served (both r) packet e.device sent ready
-            by_ready true = same
-            by_ready false = not_ready
-        by_case Pass (inr (last, due)) = (
-          m.respond,
-          inr refl,
-          subst (λ x. Both m.respond (l + 0) (b + 0) (a + 0) (let y = acknowledged (both m.respond) packet Pass x in record { host = hears (has_data data_out) e.host y.reply; device = y.device })) (sym last)
-              (hears_ack (sends_data due) (l + 0) (b + 0) (a + 0) (omega arith)),
-        )
-        by_case LostAck (inr (last, due)) = (
-          m.respond,
-          inr refl,
-          subst (λ x. Both m.respond (l + 1) (b + 0) (a + 1) (record { host = hears (has_data data_out) e.host x.reply; device = x.device })) (sym last)
-              (hears_ack (sends_data due) (l + 1) (b + 0) (a + 1) (omega arith)),
-        )
-        by_case LostUp (inr (last, due)) = (
-          m.respond,
-          inr refl,
-          subst (λ x. Both m.respond (l + 1) (b + 0) (a + 0) (record { host = hears (has_data data_out) e.host NoReply; device = x.device })) (sym last)
-              (hears_none (sends_data due) (l + 1) (omega arith) (b + 0) (a + 0) (omega arith)),
-        )
-        by_case LostDown (inr last) = same_now LostDown refl
-        by_case Busy (inr last) =
-            same_now Busy (ap (λ x. record { host = hears (has_data data_out) e.host x.reply; device = x.device }) (acks_alike r m.respond (served (both r) packet e.device sent false)))
-
-        declines : After r m l b a e
-        declines =
-            let request : both m.respond e.device.state asked ≡ Refused = ap (λ x. both m.respond x asked) w.same_state ∙ ap (λ x. both m.respond s x) w.asked_is ∙ refuses in
-            let case = last_out r m.respond e.device.state asked came request e.host.transfer.awaited (packet_due e.host.transfer data_out) e.host.transfer.address e.device.pending in
-            let now = by_case m.fate (subst (λ x. (let d : DeviceView = record { state = e.device.state; stage = x; pending = e.device.pending } in
-            (served (both m.respond) packet d sent true ≡ served (both r) packet d sent true)
-            ⊎ ((served (both m.respond) packet d sent true ≡ replies AckReply e.device.state (device.Written asked all) false) × IsDue_now))) (sym here) case) in
-            (now.0, now.1, subst (λ o. Both now.0 (l + lost m.fate) (b + busy m.fate) (a + ack_lost m.fate) (exchanged (both m.respond) packet (has_data data_out) e.host e.device o m.fate)) (sym out_due) now.2)
-
-      receiving : (o : Outcome) → both m.respond s q ≡ o → After r m l b a e
-      receiving (Takes judge) i = judges judge i
-      receiving Refused i = declines i
-      receiving (Bytes bytes) i =
-          let asks = ((beside_kept room table r is).answering s q).takes w.judge w.answered in
-          let gives = ((beside_kept room table m.respond is).answering s q).bytes bytes i in
-          absurd (let z = sym gives.1 ∙ asks.1 in cc)
-      receiving (Done t) i =
-          let asks = ((beside_kept room table r is).answering s q).takes w.judge w.answered in
-          let none = ((beside_kept room table m.respond is).answering s q).done t i in
-          absurd (let some = asks.0 in omega arith)
-
-    in_data_out : (r : Responds) (m : Moment) (l b a : ℕ) (e : Ends) (x : DeviceStage) → e.device.stage ≡ x → e.host.transfer.stage ≡ DataOut → Both r l b a e → After r m l b a e
-    in_data_out r m l b a e (device.Receiving asked came) here at c =
-        receiving r m l b a e at asked came here c
-        (subst (λ x. StagesOf r l b a DataOut x e) here (subst (λ st. StagesOf r l b a st e.device.stage e) at c.stages)) (both m.respond s q) refl
-    in_data_out r m l b a e x here at c =
-        stays r m l b a e DataOut at (λ i. absurd (cc)) (λ i. subst (λ y. IsElsewhere y) (sym here) tt) (λ i. absurd (cc)) c
-
-    in_status_out : (r : Responds) (m : Moment) (l b a : ℕ) (e : Ends) (x : DeviceStage) → e.device.stage ≡ x → e.host.transfer.stage ≡ StatusOut → Both r l b a e → After r m l b a e
-    in_status_out r m l b a e (device.Receiving asked came) here at c =
-        absurd (subst (λ x. StagesOf r l b a StatusOut x e) here (subst (λ st. StagesOf r l b a st e.device.stage e) at c.stages))
-    in_status_out r m l b a e x here at c =
-        stays r m l b a e StatusOut at (λ i. absurd (cc)) (λ i. absurd (cc)) (λ i. subst (λ y. IsElsewhere y) (sym here) tt) c
-
-    one_more : (r : Responds) (m : Moment) (l b a : ℕ) (e : Ends) (st : TransferStage) → e.host.transfer.stage ≡ st → Both r l b a e → After r m l b a e
-    one_more r m l b a e Setup at c = (m.respond, inr refl, kept_on m.respond l b a m.fate e (begins_anew r m.respond l b a e at c))
-    one_more r m l b a e DataOut at c = in_data_out r m l b a e e.device.stage refl at c
-    one_more r m l b a e StatusOut at c = in_status_out r m l b a e e.device.stage refl at c
-    one_more r m l b a e DataIn at c = stays r m l b a e DataIn at (λ i. absurd (cc)) (λ i. absurd (cc)) (λ i. absurd (cc)) c
-    one_more r m l b a e StatusIn at c = stays r m l b a e StatusIn at (λ i. absurd (cc)) (λ i. absurd (cc)) (λ i. absurd (cc)) c
-    one_more r m l b a e Completed at c = stays r m l b a e Completed at (λ i. absurd (cc)) (λ i. absurd (cc)) (λ i. absurd (cc)) c
-    one_more r m l b a e (Failed why) at c = stays r m l b a e (Failed why) at (λ i. absurd (cc)) (λ i. absurd (cc)) (λ i. absurd (cc)) c
+      one_more : (st : TransferStage) → e.host.transfer.stage ≡ st → After
+      one_more Setup at = (m.respond, inr refl, kept_on m.respond l b a m.fate e (begins_anew r m.respond l b a e at c))
+      one_more DataOut at = in_data_out e.device.stage refl at
+      one_more StatusOut at = in_status_out e.device.stage refl at
+      one_more DataIn at = stays DataIn at (λ i. absurd (cc)) (λ i. absurd (cc)) (λ i. absurd (cc))
+      one_more StatusIn at = stays StatusIn at (λ i. absurd (cc)) (λ i. absurd (cc)) (λ i. absurd (cc))
+      one_more Completed at = stays Completed at (λ i. absurd (cc)) (λ i. absurd (cc)) (λ i. absurd (cc))
+      one_more (Failed why) at = stays (Failed why) at (λ i. absurd (cc)) (λ i. absurd (cc)) (λ i. absurd (cc))
 
     among : (r r' r'' : Responds) (m : Moment) (ms : List Moment) → (r' ≡ r) ⊎ (r' ≡ m.respond) → (r'' ≡ r') ⊎ IsAmong r'' ms → (r'' ≡ r) ⊎ IsAmong r'' (m ∷ ms)
     among r r' r'' m ms x (inr later) = inr (inr later)
@@ -401,7 +397,7 @@ module _ (room : ℕ) (table : State → SetupPacket → Outcome) (packet : ℕ)
         × Both r' (l + losses (fates_of ms)) (b + busies (fates_of ms)) (a + acks_lost (fates_of ms)) (run_moments room table packet data_out ms e)
     all_moments [] r l b a e c = (r, inl refl, rw (add-zero l, add-zero b, add-zero a) c)
     all_moments (m ∷ ms) r l b a e c =
-        let (r1, which, c1) = one_more r m l b a e e.host.transfer.stage refl c in
+        let (r1, which, c1) = one_more r m l b a e c e.host.transfer.stage refl in
         let (r2, whence, c2) = all_moments ms r1 (l + lost m.fate) (b + busy m.fate) (a + ack_lost m.fate) (next m.respond m.fate e) c1 in
         (r2, among r r1 r2 m ms which whence, rw (← add_assoc l (lost m.fate) (losses (fates_of ms)), ← add_assoc b (busy m.fate) (busies (fates_of ms)), ← add_assoc a (ack_lost m.fate) (acks_lost (fates_of ms))) c2)
 

@@ -23,7 +23,7 @@ use Rattle.usb_host.specs.Place.{Place, First, Address, Device, Header, Set, Qua
 use Rattle.usb_host.proofs.ReadLemmas.{same_self, device_read}
 use Rattle.usb_file_data.specs.Front.{with_set, with_strings}
 use Rattle.usb_bus.specs.inside.Following.{WalksScript}
-use Rattle.usb_host.specs.Order.{stopped, other_declared, is_first_zero, first_value, index_due, language_due, sets_of, declared_sets, texts_due, strings_due, after_sets, sets_due, device_leads, header_leads, set_leads, qualifier_leads, languages_lead, text_leads}
+use Rattle.usb_host.specs.Order.{stopped, is_first_zero, first_value, index_due, language_due, sets_of, declared_sets, texts_due, strings_due, after_sets, sets_due, device_leads, header_leads, set_leads, qualifier_leads, languages_lead, text_leads}
 use Rattle.usb_bus.specs.inside.Described.{EachIsRead, TextsAreRead, OtherIsRead, StringsAreRead}
 use Rattle.usb_bus.specs.inside.Script.{Exchange, exchange, set_script, text_script, string_script, other_script, last_script, named_script, second_script, script}
 use Rattle.usb_bus.proofs.AcceptLemmas.{AreSound, AreStrings}

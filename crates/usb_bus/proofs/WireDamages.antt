@@ -1,5 +1,5 @@
 -- Slight changes of bits: a transaction with them is one over a bus of bytes that changes few bits, and so is a run.
-use Rattle.std.proofs.Common.{◌≡◌, ◌≤◌, ◌⊎◌, inl, inr, ◌==◌, ◌||◌, ◌&&◌, ◌+◌, ℕ, zero, suc, List, [], ◌∷◌, Bool, true, false, if◌then◌else◌, Option, Some, None, refl, ap, sym, ◌∙◌, subst, arith}
+use Rattle.std.proofs.Common.{◌≡◌, ◌⊎◌, inl, inr, ◌==◌, ◌||◌, ◌&&◌, ◌+◌, ℕ, zero, suc, List, [], ◌∷◌, Bool, true, false, if◌then◌else◌, Option, Some, None, refl, ap, sym, ◌∙◌, subst}
 use Rattle.usb_wire.specs.Packets.{PacketView, IsLegal, packet_bytes}
 use Rattle.usb_wire.specs.Damages.{damage_of}
 use Rattle.usb_wire.proofs.RoundTrip.{packet_taken, same_packet}

@@ -1,7 +1,6 @@
 use Rattle.std.proofs.Common.{arith, subst}
 use Rattle.usb_host.specs.Terms.{everything}
 use Rattle.usb_device.specs.Requests.{answer}
-use Rattle.usb_bus.specs.Asked.{asked_of}
 use Rattle.usb_bus.specs.DamagedLaws.{AnySlightDamageEndsWell, IsSlightFrom}
 use Rattle.usb_bus.specs.DamagedRuns.{counts_of}
 use Rattle.usb_bus.specs.Enumerate.{chosen_pair, new_pair}
