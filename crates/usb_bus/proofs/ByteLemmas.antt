@@ -26,6 +26,7 @@ use Rattle.usb_file_data.specs.declared.file.Other.{Other as SecondSpeed}
 use Rattle.usb_file_data.specs.declared.file.Strings.{Strings}
 use Rattle.usb_file_data.specs.File.{whole_set, sets_bytes, other_bytes, each_string_bytes, strings_bytes, file_bytes, named_indices, string_place}
 use Rattle.usb_device.specs.Descriptors.{set_at, other_set_at, qualifier_of, string_at, descriptor}
+use Rattle.usb_device.specs.Offers.{offer_of}
 use Rattle.usb_host.specs.Limits.{LimitView}
 use Rattle.usb_device.specs.declared.state.State.{State}
 use Rattle.usb_device.specs.States.{first_alternates, has_address, is_configured, halt_of, halt_place, without_halt}
@@ -169,31 +170,31 @@ last_of true false c e = cc
 last_of false b c e = cc
 
 module _ (f : DescriptorFile) (bytes : AreBytes (file_bytes f)) (s : State) (state : HasBytes s) (q : SetupPacket) where
-  status_fits : (r : Recipient) → IsOfBytes (status_of r f s q)
+  status_fits : (r : Recipient) → IsOfBytes (status_of r (offer_of f) s q)
   status_fits Device =
       let one = one_small s.wakeup in
-      when_fits (has_address s && (q.index == 0)) (tells q ((shown_attributes f s / 64 % 2 + 2 * one_if s.wakeup) ∷ 0 ∷ []))
-      (λ e. tells_fits q ((shown_attributes f s / 64 % 2 + 2 * one_if s.wakeup) ∷ 0 ∷ []) (omega arith, (lit< tt, tt)))
+      when_fits (has_address s && (q.index == 0)) (tells q ((shown_attributes (offer_of f) s / 64 % 2 + 2 * one_if s.wakeup) ∷ 0 ∷ []))
+      (λ e. tells_fits q ((shown_attributes (offer_of f) s / 64 % 2 + 2 * one_if s.wakeup) ∷ 0 ∷ []) (omega arith, (lit< tt, tt)))
   status_fits Interface =
-      when_fits (is_configured s && names_interface f s q.index) (tells q (0 ∷ 0 ∷ [])) (λ e. tells_fits q (0 ∷ 0 ∷ []) (lit< tt, (lit< tt, tt)))
+      when_fits (is_configured s && names_interface (offer_of f) s q.index) (tells q (0 ∷ 0 ∷ [])) (λ e. tells_fits q (0 ∷ 0 ∷ []) (lit< tt, (lit< tt, tt)))
   status_fits Endpoint =
       let bit = bit_at-lt s.halts (halt_place q.index) in
       if_fits (names_endpoint_zero q.index) (when (has_address s) (tells q (0 ∷ 0 ∷ [])))
-      (when (is_configured s && names_endpoint f s q.index) (tells q (halt_of s.halts q.index ∷ 0 ∷ [])))
+      (when (is_configured s && names_endpoint (offer_of f) s q.index) (tells q (halt_of s.halts q.index ∷ 0 ∷ [])))
       (when_fits (has_address s) (tells q (0 ∷ 0 ∷ [])) (λ e. tells_fits q (0 ∷ 0 ∷ []) (lit< tt, (lit< tt, tt))))
-      (when_fits (is_configured s && names_endpoint f s q.index) (tells q (halt_of s.halts q.index ∷ 0 ∷ []))
+      (when_fits (is_configured s && names_endpoint (offer_of f) s q.index) (tells q (halt_of s.halts q.index ∷ 0 ∷ []))
       (λ e. tells_fits q (halt_of s.halts q.index ∷ 0 ∷ []) (omega arith, (lit< tt, tt))))
   status_fits Other = tt
   status_fits Reserved = tt
 
-  feature_fits : (on : Bool) (r : Recipient) → IsOfBytes (feature_of r on f s q)
+  feature_fits : (on : Bool) (r : Recipient) → IsOfBytes (feature_of r on (offer_of f) s q)
   feature_fits on Device =
-      when_fits (has_address s && (q.value == 1) && (q.index == 0) && list_any can_wake f.sets) (does q (record s { wakeup = on }))
+      when_fits (has_address s && (q.value == 1) && (q.index == 0) && list_any can_wake (offer_of f).sets) (does q (record s { wakeup = on }))
       (λ e. does_fits q (record s { wakeup = on }) state)
   feature_fits on Interface = tt
   feature_fits on Endpoint =
       let next : State = record s { halts = changed_halts on s.halts q.index } in
-      when_fits (is_configured s && (q.value == 0) && not (names_endpoint_zero q.index) && names_endpoint f s q.index) (does q next)
+      when_fits (is_configured s && (q.value == 0) && not (names_endpoint_zero q.index) && names_endpoint (offer_of f) s q.index) (does q next)
       (λ e. does_fits q next state)
   feature_fits on Other = tt
   feature_fits on Reserved = tt
@@ -202,53 +203,53 @@ module _ (f : DescriptorFile) (bytes : AreBytes (file_bytes f)) (s : State) (sta
   unfolding first_alternates
   first_fit = zeros_fit 256
 
-  address_fits : IsOfBytes (set_address f s q)
+  address_fits : IsOfBytes (set_address (offer_of f) s q)
   address_fits =
       let next : State = record s { address = q.value } in
       when_fits (is_device (recipient_of q.request_type) && not (is_configured s) && nat_lt q.value 128 && (q.index == 0)) (does q next)
       (λ e. does_fits q next state)
 
-  descriptor_fits : IsOfBytes (get_descriptor f s q)
+  descriptor_fits : IsOfBytes (get_descriptor (offer_of f) s q)
   descriptor_fits =
       let there = descriptor f (q.value / 256) (q.value % 256) q.index in
       when_fits (is_device (recipient_of q.request_type)) (gives s q there)
       (λ e. gives_fits s q there state (descriptor_fit f (q.value / 256) (q.value % 256) q.index bytes))
 
-  configuration_told : IsOfBytes (get_configuration f s q)
+  configuration_told : IsOfBytes (get_configuration (offer_of f) s q)
   configuration_told =
       when_fits (is_device (recipient_of q.request_type) && has_address s && (q.value == 0) && (q.index == 0)) (tells q (s.selected ∷ []))
       (λ e. tells_fits q (s.selected ∷ []) (state.0, tt))
 
-  configuration_fits : IsOfBytes (set_configuration f s q)
+  configuration_fits : IsOfBytes (set_configuration (offer_of f) s q)
   configuration_fits =
       let next : State = record s { selected = q.value; alternates = first_alternates; halts = 0 } in
-      let known = (q.value == 0) || list_any (has_value q.value) f.sets in
+      let known = (q.value == 0) || list_any (has_value q.value) (offer_of f).sets in
       when_fits (is_device (recipient_of q.request_type) && has_address s && (q.index == 0) && nat_lt q.value 256 && known) (does q next)
       (λ e. does_fits q next
       (value_small (is_device (recipient_of q.request_type)) (has_address s) (q.index == 0) q.value known e, first_fit))
 
-  interface_told : IsOfBytes (get_interface f s q)
+  interface_told : IsOfBytes (get_interface (offer_of f) s q)
   interface_told =
       let setting = slice_index s.alternates q.index in
-      when_fits (is_interface (recipient_of q.request_type) && is_configured s && (q.value == 0) && names_interface f s q.index) (tells q (setting ∷ []))
+      when_fits (is_interface (recipient_of q.request_type) && is_configured s && (q.value == 0) && names_interface (offer_of f) s q.index) (tells q (setting ∷ []))
       (λ e. tells_fits q (setting ∷ []) (byte_at s.alternates q.index state.1, tt))
 
-  interface_fits : IsOfBytes (set_interface f s q)
+  interface_fits : IsOfBytes (set_interface (offer_of f) s q)
   interface_fits =
       let next : State = record s {
         alternates = slice_set s.alternates q.index q.value;
-        halts = fold without_halt s.halts (interface_addresses (selected_settings f s) q.index);
+        halts = fold without_halt s.halts (interface_addresses (selected_settings (offer_of f) s) q.index);
       } in
       let there = is_interface (recipient_of q.request_type) in
-      when_fits (there && is_configured s && names_alternate f s q.index q.value) (does q next)
+      when_fits (there && is_configured s && names_alternate (offer_of f) s q.index q.value) (does q next)
       (λ e. does_fits q next (
         state.0,
         set_fit s.alternates q.index q.value state.1
-            (alternate_small q.index q.value (list_any (is_alternate q.index q.value) (selected_settings f s))
-            (last_of there (is_configured s) (names_alternate f s q.index q.value) e)),
+            (alternate_small q.index q.value (list_any (is_alternate q.index q.value) (selected_settings (offer_of f) s))
+            (last_of there (is_configured s) (names_alternate (offer_of f) s q.index q.value) e)),
       ))
 
-  row_fits : IsOfBytes (row f s q)
+  row_fits : IsOfBytes (row (offer_of f) s q)
   row_fits =
       if_fits (q.request == 0) _ _ (when_fits (q.value == 0) _ (λ e. status_fits (recipient_of q.request_type)))
       (if_fits (q.request == 1) _ _ (feature_fits false (recipient_of q.request_type))
@@ -260,7 +261,7 @@ module _ (f : DescriptorFile) (bytes : AreBytes (file_bytes f)) (s : State) (sta
       (if_fits (q.request == 10) _ _ interface_told
       (if_fits (q.request == 11) _ Refused interface_fits tt))))))))
 
-  answer_of_fits : (c : Class) → IsOfBytes (answer_of c f s q)
+  answer_of_fits : (c : Class) → IsOfBytes (answer_of c (offer_of f) s q)
   unfolding answer_of
   answer_of_fits classes.Standard = row_fits
   answer_of_fits classes.Class = tt

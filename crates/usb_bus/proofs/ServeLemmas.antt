@@ -1,5 +1,5 @@
 -- A described device serves the script of its enumeration.
-use Rattle.std.proofs.Common.{◌≡◌, ℕ, suc, ◌+◌, ◌<◌, ◌≤◌, ◌==◌, ◌&&◌, Bool, true, false, if◌then◌else◌, nat_lt, List, [], ◌∷◌, length, take, drop, refl, ap, sym, ◌∙◌, arith, subst, length-take, lit<}
+use Rattle.std.proofs.Common.{◌≡◌, ℕ, suc, ◌+◌, ◌<◌, ◌≤◌, ◌==◌, ◌&&◌, Bool, true, false, if◌then◌else◌, nat_lt, List, [], ◌∷◌, length, take, drop, map, refl, ap, sym, ◌∙◌, arith, subst, length-take, lit<}
 use Rattle.std.specs.Prelude.{Option, Some, None}
 use Rattle.std.specs.Option.{option_map}
 use Rattle.std.specs.List.{list_any}
@@ -22,6 +22,7 @@ use Rattle.usb_file_data.specs.File.{whole_set, is_long_string, named_indices, o
 use Rattle.usb_device.specs.Descriptors.{descriptor, set_at, string_at, qualifier_of, other_set_at}
 use Rattle.usb_device.specs.declared.state.State.{State}
 use Rattle.usb_device.specs.States.{zero as zero_state}
+use Rattle.usb_device.specs.Offers.{set_offer}
 use Rattle.usb_device.specs.Requests.{Bytes, Done, Refused, answer, answer_of, has_value}
 use Rattle.usb_device.specs.Step.{carried_out, is_set_address}
 use Rattle.usb_host.specs.declared.reply.Reply.TheVariants as replied
@@ -174,7 +175,7 @@ addressed_done f address small =
     let fits : nat_lt address 128 ≡ true = grind (arith, nat_tests) in
     rw fits refl
 
-has_first : (sets : List Configuration) → (first_value sets == 0) ≡ false → list_any (has_value (first_value sets)) sets ≡ true
+has_first : (sets : List Configuration) → (first_value sets == 0) ≡ false → list_any (has_value (first_value sets)) (map set_offer sets) ≡ true
 has_first [] e = absurd (cc)
 has_first (c ∷ cs) e = grind (arith, nat_tests)
 

@@ -11,7 +11,7 @@ use Rattle.usb_fields.specs.declared.setup.Recipient.{Recipient}
 use Rattle.usb_fields.specs.declared.setup.Recipient.TheVariants.{Device, Interface, Endpoint, Other, Reserved}
 use Rattle.usb_fields.specs.Setup.{direction_of, class_of, recipient_of}
 use Rattle.usb_file_data.specs.declared.file.DescriptorFile.{DescriptorFile}
-use Rattle.usb_device.specs.Descriptors.{descriptor}
+use Rattle.usb_device.specs.Offers.{Offer, offer_of}
 use Rattle.usb_device.specs.declared.state.State.{State}
 use Rattle.usb_device.specs.States.{first_alternates, has_address, is_configured, halt_of, without_halt}
 use Rattle.usb_device.specs.Requests.{Outcome, Bytes, Done, Refused, Takes, when, bytes_in, gives, tells, does, is_device, is_interface, names_interface, names_alternate, names_endpoint, names_endpoint_zero, selected_settings, interface_addresses, shown_attributes, one_if, can_wake, has_value, changed_halts, status_of, status_of_endpoint, feature_of, set_configuration, set_interface, row, answer_of, answer}
@@ -101,55 +101,55 @@ first_by a b v c e = grind (arith, nat_tests)
 below_by : (a b : Bool) (v : ℕ) (c : Bool) → (a && b && nat_lt v 128 && c) ≡ true → v < 128
 below_by a b v c e = grind (arith, nat_tests)
 
-module _ (f : DescriptorFile) (s : State) (q : Setup) where
-  status_endpoint_kept : Kept s q (status_of_endpoint f s q)
+module _ (o : Offer) (s : State) (q : Setup) where
+  status_endpoint_kept : Kept s q (status_of_endpoint o s q)
   status_endpoint_kept =
       if_kept s q (names_endpoint_zero q.index) (when (has_address s) (tells q (0 ∷ 0 ∷ [])))
-      (when (is_configured s && names_endpoint f s q.index) (tells q (halt_of s.halts q.index ∷ 0 ∷ [])))
+      (when (is_configured s && names_endpoint o s q.index) (tells q (halt_of s.halts q.index ∷ 0 ∷ [])))
       (λ e. when_kept s q (has_address s) (tells q (0 ∷ 0 ∷ [])) (λ i. tells_kept s q 0 (0 ∷ [])))
-      (λ e. when_kept s q (is_configured s && names_endpoint f s q.index) (tells q (halt_of s.halts q.index ∷ 0 ∷ []))
+      (λ e. when_kept s q (is_configured s && names_endpoint o s q.index) (tells q (halt_of s.halts q.index ∷ 0 ∷ []))
       (λ i. tells_kept s q (halt_of s.halts q.index) (0 ∷ [])))
 
-  status_kept : (r : Recipient) → Kept s q (status_of r f s q)
+  status_kept : (r : Recipient) → Kept s q (status_of r o s q)
   status_kept Device =
-      when_kept s q (has_address s && (q.index == 0)) (tells q ((shown_attributes f s / 64 % 2 + 2 * one_if s.wakeup) ∷ 0 ∷ []))
-      (λ e. tells_kept s q (shown_attributes f s / 64 % 2 + 2 * one_if s.wakeup) (0 ∷ []))
+      when_kept s q (has_address s && (q.index == 0)) (tells q ((shown_attributes o s / 64 % 2 + 2 * one_if s.wakeup) ∷ 0 ∷ []))
+      (λ e. tells_kept s q (shown_attributes o s / 64 % 2 + 2 * one_if s.wakeup) (0 ∷ []))
   status_kept Interface =
-      when_kept s q (is_configured s && names_interface f s q.index) (tells q (0 ∷ 0 ∷ [])) (λ e. tells_kept s q 0 (0 ∷ []))
+      when_kept s q (is_configured s && names_interface o s q.index) (tells q (0 ∷ 0 ∷ [])) (λ e. tells_kept s q 0 (0 ∷ []))
   status_kept Endpoint = status_endpoint_kept
   status_kept Other = tt
   status_kept Reserved = tt
 
-  feature_kept : (on : Bool) (r : Recipient) → (is_set_address q ≡ true → ⊥) → Kept s q (feature_of r on f s q)
+  feature_kept : (on : Bool) (r : Recipient) → (is_set_address q ≡ true → ⊥) → Kept s q (feature_of r on o s q)
   feature_kept on Device other =
-      when_kept s q (has_address s && (q.value == 1) && (q.index == 0) && list_any can_wake f.sets) (does q (record s { wakeup = on }))
+      when_kept s q (has_address s && (q.value == 1) && (q.index == 0) && list_any can_wake o.sets) (does q (record s { wakeup = on }))
       (λ e. does_kept s q (record s { wakeup = on }) refl other)
   feature_kept on Interface other = tt
   feature_kept on Endpoint other =
-      when_kept s q (is_configured s && (q.value == 0) && not (names_endpoint_zero q.index) && names_endpoint f s q.index)
+      when_kept s q (is_configured s && (q.value == 0) && not (names_endpoint_zero q.index) && names_endpoint o s q.index)
       (does q (record s { halts = changed_halts on s.halts q.index }))
       (λ e. does_kept s q (record s { halts = changed_halts on s.halts q.index }) refl other)
   feature_kept on Other other = tt
   feature_kept on Reserved other = tt
 
-  configuration_kept : (is_set_address q ≡ true → ⊥) → Kept s q (set_configuration f s q)
+  configuration_kept : (is_set_address q ≡ true → ⊥) → Kept s q (set_configuration o s q)
   configuration_kept other =
       when_kept s q
       (is_device (recipient_of q.request_type) && has_address s && (q.index == 0) && nat_lt q.value 256
-      && ((q.value == 0) || list_any (has_value q.value) f.sets))
+      && ((q.value == 0) || list_any (has_value q.value) o.sets))
       (does q (record s { selected = q.value; alternates = first_alternates; halts = 0 }))
       (λ e. does_kept s q (record s { selected = q.value; alternates = first_alternates; halts = 0 }) refl other)
 
-  interface_kept : (is_set_address q ≡ true → ⊥) → Kept s q (set_interface f s q)
+  interface_kept : (is_set_address q ≡ true → ⊥) → Kept s q (set_interface o s q)
   interface_kept other =
       let next : State = record s {
         alternates = slice_set s.alternates q.index q.value;
-        halts = fold without_halt s.halts (interface_addresses (selected_settings f s) q.index);
+        halts = fold without_halt s.halts (interface_addresses (selected_settings o s) q.index);
       } in
-      when_kept s q (is_interface (recipient_of q.request_type) && is_configured s && names_alternate f s q.index q.value) (does q next)
+      when_kept s q (is_interface (recipient_of q.request_type) && is_configured s && names_alternate o s q.index q.value) (does q next)
       (λ e. does_kept s q next refl other)
 
-  row_kept : class_of q.request_type ≡ classes.Standard → Kept s q (row f s q)
+  row_kept : class_of q.request_type ≡ classes.Standard → Kept s q (row o s q)
   row_kept standard =
       if_kept s q (q.request == 0) _ _ (λ e. when_kept s q (q.value == 0) _ (λ i. status_kept (recipient_of q.request_type)))
       (λ n0. if_kept s q (q.request == 1) _ _ (λ e. feature_kept false (recipient_of q.request_type) (other_code q 1 e refl))
@@ -161,23 +161,23 @@ module _ (f : DescriptorFile) (s : State) (q : Setup) where
       (below_by (is_device (recipient_of q.request_type)) (not (is_configured s)) q.value (q.index == 0) i)))
       (λ n5. if_kept s q (q.request == 6) _ _
       (λ e. when_kept s q (is_device (recipient_of q.request_type)) _
-      (λ i. gives_kept s q (descriptor f (q.value / 256) (q.value % 256) q.index) (other_code q 6 e refl)))
+      (λ i. gives_kept s q (o.descriptor (q.value / 256) (q.value % 256) q.index) (other_code q 6 e refl)))
       (λ n6. if_kept s q (q.request == 8) _ _ (λ e. when_kept s q _ _ (λ i. tells_kept s q s.selected []))
       (λ n8. if_kept s q (q.request == 9) _ _ (λ e. configuration_kept (other_code q 9 e refl))
       (λ n9. if_kept s q (q.request == 10) _ _ (λ e. when_kept s q _ _ (λ i. tells_kept s q (slice_index s.alternates q.index) []))
       (λ n10. if_kept s q (q.request == 11) _ _ (λ e. interface_kept (other_code q 11 e refl))
       (λ n11. tt)))))))))
 
-  answer_of_kept : (c : Class) → class_of q.request_type ≡ c → Kept s q (answer_of c f s q)
+  answer_of_kept : (c : Class) → class_of q.request_type ≡ c → Kept s q (answer_of c o s q)
   unfolding answer_of
   answer_of_kept classes.Standard e = row_kept e
   answer_of_kept classes.Class e = tt
   answer_of_kept classes.Vendor e = tt
   answer_of_kept classes.Reserved e = tt
 
-  answer_kept : Kept s q (answer f s q)
-  unfolding answer
-  answer_kept = answer_of_kept (class_of q.request_type) refl
+answer_kept : (f : DescriptorFile) (s : State) (q : Setup) → Kept s q (answer f s q)
+unfolding answer
+answer_kept f s q = answer_of_kept (offer_of f) s q (class_of q.request_type) refl
 
 -- the table of requests is one that the laws are about
 pub table_kept : (f : DescriptorFile) → IsTable (answer f)

@@ -9,6 +9,8 @@ use Rattle.usb_fields.specs.Device.{device_bytes}
 use Rattle.usb_file_data.specs.File.{named_indices, whole_set}
 use Rattle.usb_device.specs.Images.{Piece, descriptor_in, image_bytes, piece_in}
 use Rattle.usb_device.specs.Offers.{endpoint_offer, endpoints_in, offer_in, offer_of, set_in, set_offer, setting_in, setting_offer, sets_in}
+use Rattle.usb_fields.specs.Setup.{class_of}
+use Rattle.usb_device.specs.Requests.{answer, answer_of, answer_to}
 use Rattle.usb_device.specs.FileImages.{endpoint_bytes, file_pieces, image_of, indexed, keyed, other_pieces, set_piece, setting_piece, string_pieces}
 use Rattle.usb_device.proofs.PieceLemmas.{read_back, read_piece}
 use Rattle.usb_device.proofs.FoundLemmas.{offers_descriptor}
@@ -43,3 +45,8 @@ pub same_offer : (f : DescriptorFile) → offer_in (image_of f) ≡ offer_of f
 same_offer f =
     ap (λ ps. record { packet = (piece_in (image_of f)).number; descriptor = descriptor_in ps; sets = sets_in ps }) (read_back (file_pieces f))
     ∙ (λ i. record { packet = head_back f i; descriptor = λ kind index language. offers_descriptor f kind index language i; sets = sets_found f i })
+
+-- so a device answers over the image as over the file
+pub same_answers : (f : DescriptorFile) → answer_to (offer_in (image_of f)) ≡ answer f
+unfolding answer answer_to
+same_answers f = λ i s q. answer_of (class_of q.request_type) (same_offer f i) s q

@@ -17,6 +17,7 @@ use Rattle.usb_fields.specs.Packets.{flipped, is_same_toggle}
 use Rattle.usb_file_data.specs.declared.file.DescriptorFile.{DescriptorFile}
 use Rattle.usb_device.specs.declared.state.State.{State}
 use Rattle.usb_device.specs.declared.stage.DataStage.{DataStage}
+use Rattle.usb_device.specs.Offers.{offer_of}
 use Rattle.usb_device.specs.Requests.{Outcome, Refused, when, bytes_in, gives, does, status_of, feature_of, get_status, set_address, get_descriptor, get_configuration, set_configuration, get_interface, set_interface, row, answer_of, answer}
 use Rattle.usb_device.specs.Beside.{brings_bytes, is_in}
 use Rattle.usb_device.specs.Step.{Written, awaited, gathered}
@@ -66,42 +67,42 @@ module _ (f : DescriptorFile) (s : State) (q : Setup) (write : brings_bytes q �
   gives_refused None = refl
   gives_refused (Some b) = rw long (out _)
 
-  status_refused : (r : Recipient) → status_of r f s q ≡ Refused
+  status_refused : (r : Recipient) → status_of r (offer_of f) s q ≡ Refused
   status_refused Device = when_refused _ _ (tells_refused _ _)
   status_refused Interface = when_refused _ _ (tells_refused _ _)
   status_refused Endpoint = if_refused _ _ _ (when_refused _ _ (tells_refused _ _)) (when_refused _ _ (tells_refused _ _))
   status_refused Other = refl
   status_refused Reserved = refl
 
-  feature_refused : (on : Bool) (r : Recipient) → feature_of r on f s q ≡ Refused
+  feature_refused : (on : Bool) (r : Recipient) → feature_of r on (offer_of f) s q ≡ Refused
   feature_refused on Device = when_refused _ _ (does_refused _)
   feature_refused on Interface = refl
   feature_refused on Endpoint = when_refused _ _ (does_refused _)
   feature_refused on Other = refl
   feature_refused on Reserved = refl
 
-  get_status_refused : get_status f s q ≡ Refused
+  get_status_refused : get_status (offer_of f) s q ≡ Refused
   get_status_refused = when_refused _ _ (status_refused (recipient_of q.request_type))
 
-  set_address_refused : set_address f s q ≡ Refused
+  set_address_refused : set_address (offer_of f) s q ≡ Refused
   set_address_refused = when_refused _ _ (does_refused _)
 
-  get_descriptor_refused : get_descriptor f s q ≡ Refused
+  get_descriptor_refused : get_descriptor (offer_of f) s q ≡ Refused
   get_descriptor_refused = when_refused _ _ (gives_refused _)
 
-  get_configuration_refused : get_configuration f s q ≡ Refused
+  get_configuration_refused : get_configuration (offer_of f) s q ≡ Refused
   get_configuration_refused = when_refused _ _ (tells_refused _ _)
 
-  set_configuration_refused : set_configuration f s q ≡ Refused
+  set_configuration_refused : set_configuration (offer_of f) s q ≡ Refused
   set_configuration_refused = when_refused _ _ (does_refused _)
 
-  get_interface_refused : get_interface f s q ≡ Refused
+  get_interface_refused : get_interface (offer_of f) s q ≡ Refused
   get_interface_refused = when_refused _ _ (tells_refused _ _)
 
-  set_interface_refused : set_interface f s q ≡ Refused
+  set_interface_refused : set_interface (offer_of f) s q ≡ Refused
   set_interface_refused = when_refused _ _ (does_refused _)
 
-  row_refused : row f s q ≡ Refused
+  row_refused : row (offer_of f) s q ≡ Refused
   row_refused =
       if_refused (q.request == 0) _ _ get_status_refused
       (if_refused (q.request == 1) _ _ (feature_refused false (recipient_of q.request_type))
@@ -113,7 +114,7 @@ module _ (f : DescriptorFile) (s : State) (q : Setup) (write : brings_bytes q �
       (if_refused (q.request == 10) _ _ get_interface_refused
       (if_refused (q.request == 11) _ _ set_interface_refused refl))))))))
 
-  class_refused : (c : Class) → answer_of c f s q ≡ Refused
+  class_refused : (c : Class) → answer_of c (offer_of f) s q ≡ Refused
   unfolding answer_of
   class_refused classes.Standard = row_refused
   class_refused classes.Class = refl

@@ -1,7 +1,8 @@
 //! The descriptors of a device, ready to be sent: a description without the tree.
-ghost use Rattle.std.specs.Prelude.{◌≡◌, ◌<◌, ◌*◌, ◌^◌, ◌==◌, length, position, IfErr, IfOk, IfSome, MatchOption, OnOk, None};
+ghost use Rattle.std.specs.Prelude.{◌≡◌, ◌<◌, ◌*◌, ◌^◌, ◌==◌, length, map, position, IfErr, IfOk, IfSome, MatchOption, OnOk, None};
 ghost use Rattle.usb_fields.specs.Bytes.{AreBytes};
 ghost use Rattle.usb_file_data.specs.File.{file_bytes};
+ghost use Rattle.usb_device.specs.Offers.{set_offer};
 ghost use Rattle.usb_device.specs.inside.Descriptions.{languages_of, other_count, place_in};
 
 use crate::acceptance::{DescriptionFault, examine};
@@ -141,7 +142,7 @@ impl Encoded {
 
     /// The sets, as requests name them.
     pub(crate) fn sets(&self) -> &[Outline]
-        ensures { result.now ≡ self.now.file.sets }
+        ensures { result.now ≡ map set_offer self.now.file.sets }
     {
         &self.sets
     }
@@ -248,7 +249,7 @@ fn place_of(languages: &[u16], language: u16) -> Option<usize>
 }
 
 fn outlines_of(alloc: Global, sets: &[Configuration]) -> Result<Sequence<Outline>, AllocError>
-    ensures { IfOk result (λ them. them ≡ sets.now) }
+    ensures { IfOk result (λ them. them ≡ map set_offer sets.now) }
 {
     let mut them = Vec::with_capacity(alloc, sets.len())?;
     for c in sets {

@@ -6,6 +6,7 @@ ghost use Rattle.usb_file_data.specs.declared.file.DescriptorFile.{DescriptorFil
 ghost use Rattle.usb_device.specs.FileImages.{image_of};
 ghost use Rattle.usb_device.specs.Images.{image_bytes, pieces_of, Piece};
 ghost use Rattle.usb_device.specs.Offers.{offer_in, offer_of};
+ghost use Rattle.usb_device.specs.Requests.{answer, answer_to};
 ghost use Rattle.usb_device.specs.States.{is_halted, is_same_endpoint, with_halt, without_halt};
 
 /// The 32 bits of [`State::halts`](crate::State::halts) are a set of endpoints, of those OUT and those IN alike (USB
@@ -23,8 +24,9 @@ pub fn halts_are_a_set()
 
 /// A device image is read as the pieces that it was written of, and so offers what the file does that it was written of: a
 /// device answers over an image what it answers over its file.
-#[tactic(auto, using(crate::proofs::PieceLemmas::read_back, crate::proofs::OfferLemmas::same_offer))]
+#[tactic(auto, using(crate::proofs::PieceLemmas::read_back, crate::proofs::OfferLemmas::same_offer, crate::proofs::OfferLemmas::same_answers))]
 pub fn an_image_is_read_back()
     ensures pieces { (pieces : List Piece) → pieces_of (image_bytes pieces) ≡ pieces }
     ensures offer { (f : DescriptorFile) → offer_in (image_of f) ≡ offer_of f }
+    ensures answers { (f : DescriptorFile) → answer_to (offer_in (image_of f)) ≡ answer f }
 {}

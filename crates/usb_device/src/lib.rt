@@ -22,7 +22,7 @@
 //! - The format of an image is `specs/Images.antt`, that of a file `specs/FileImages.antt`, and what a device offers its
 //!   host, by either, `specs/Offers.antt`.
 //! - What comes of each request is `specs/Requests.antt`, a definition for each row of the table, over
-//!   `specs/States.antt`; what may be answered beside the table is `specs/Beside.antt`, and
+//!   `specs/Offers.antt` and `specs/States.antt`; what may be answered beside the table is `specs/Beside.antt`, and
 //!   what is allowed of a device under test `specs/Conformance.antt` and `specs/OpenTransfers.antt`.
 //! - How a device goes through a control transfer is `specs/Step.antt`, whatever the table is.
 //! - What the parts of a device mean is `specs/View.antt` and `specs/Stages.antt`: the code has an offset and a toggle

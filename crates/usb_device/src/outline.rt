@@ -2,6 +2,7 @@
 ghost use Rattle.std.specs.Prelude.{◌≡◌, ◌++◌, fold, map, IfOk, OnOk};
 ghost use Rattle.std.specs.List.{list_any, flat_map};
 ghost use Rattle.usb_device.specs.Requests.{has_endpoint, interface_addresses, is_alternate, is_of_interface};
+ghost use Rattle.usb_device.specs.Offers.{set_offer};
 ghost use Rattle.usb_device.specs.States.{without_halt};
 ghost use Rattle.usb_device.specs.inside.Outlines.{alternate_of, endpoint_in, endpoints_in, is_chosen, is_chosen_isochronous, is_named, is_numbered, is_other_named};
 ghost use Rattle.usb_device.specs.Freedoms.{has_isochronous, is_other_setting};
@@ -28,7 +29,7 @@ pub(crate) struct EndpointIn {
     pub(crate) isochronous: bool,
 }
 
-/// A set, of which only so much is kept as a request can name. Proofs see all of it.
+/// A set, of which only so much is kept as a request can name.
 #[derive(Drop)]
 pub(crate) struct Outline {
     set: Snapshot<Configuration>,
@@ -39,9 +40,9 @@ pub(crate) struct Outline {
 }
 
 impl Model for Outline {
-    ghost use Rattle.usb_set.specs.declared.tree.Configuration.{Configuration};
+    ghost use Rattle.usb_device.specs.Offers.{SetOffer};
 
-    ghost Value = { Configuration };
+    ghost Value = { SetOffer };
 
     ghost use Rattle.usb_device.specs.inside.Outlines.{set_of, IsOutline};
 
@@ -53,7 +54,7 @@ impl Model for Outline {
 impl Outline {
     /// That of a set.
     pub(crate) fn new(alloc: Global, c: &Configuration) -> Result<Outline, AllocError>
-        ensures { IfOk result (λ o. o ≡ c.now) }
+        ensures { IfOk result (λ o. o ≡ set_offer c.now) }
     {
         Ok(Outline {
             set: Snapshot::of(c),

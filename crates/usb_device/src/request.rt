@@ -24,6 +24,7 @@ pub(crate) struct Request<'r> {
 
 impl<'r> Request<'r> {
     ghost use Rattle.usb_device.specs.Requests.{answer, does, feature_of, get_configuration, get_descriptor, get_interface, get_status, halt_feature, has_value, is_device, is_interface, names_endpoint, names_endpoint_zero, names_interface, row, set_address, set_configuration, set_interface, status_of_device, status_of_endpoint, status_of_interface, tells, wakeup_feature};
+    ghost use Rattle.usb_device.specs.Offers.{offer_of};
     ghost use Rattle.usb_fields.specs.Setup.{recipient_of};
     ghost use Rattle.usb_device.specs.inside.Reactions.{changed, says, AsksFor};
 
@@ -43,7 +44,7 @@ impl<'r> Request<'r> {
     /// The answer to a standard request, by bRequest (table 9-4).
     #[inline(always)]
     fn by_request(&self) -> Decision
-        ensures answer { says self.now result ≡ row self.now.description.now.file self.now.state.now self.now.setup }
+        ensures answer { says self.now result ≡ row (offer_of self.now.description.now.file) self.now.state.now self.now.setup }
         ensures asked { AsksFor self.now result }
     {
         match self.setup.request {
@@ -63,7 +64,7 @@ impl<'r> Request<'r> {
     /// GET_STATUS (9.4.5).
     #[inline(always)]
     fn get_status(&self) -> Decision
-        ensures answer { says self.now result ≡ get_status self.now.description.now.file self.now.state.now self.now.setup }
+        ensures answer { says self.now result ≡ get_status (offer_of self.now.description.now.file) self.now.state.now self.now.setup }
         ensures asked { AsksFor self.now result }
     {
         if self.setup.value != 0 {
@@ -80,7 +81,7 @@ impl<'r> Request<'r> {
     /// Bit 0 self-powered, bit 1 remote wakeup (figure 9-4).
     #[inline(always)]
     fn status_of_device(&self) -> Decision
-        ensures answer { says self.now result ≡ status_of_device self.now.description.now.file self.now.state.now self.now.setup }
+        ensures answer { says self.now result ≡ status_of_device (offer_of self.now.description.now.file) self.now.state.now self.now.setup }
         ensures asked { AsksFor self.now result }
     {
         if !self.state.has_address() || self.setup.index != 0 {
@@ -93,7 +94,7 @@ impl<'r> Request<'r> {
     /// Two zero bytes (figure 9-5).
     #[inline(always)]
     fn status_of_interface(&self) -> Decision
-        ensures answer { says self.now result ≡ status_of_interface self.now.description.now.file self.now.state.now self.now.setup }
+        ensures answer { says self.now result ≡ status_of_interface (offer_of self.now.description.now.file) self.now.state.now self.now.setup }
         ensures asked { AsksFor self.now result }
     {
         if self.state.is_configured() && self.names_interface() {
@@ -106,7 +107,7 @@ impl<'r> Request<'r> {
     /// Bit 0 the endpoint's halt (figure 9-6).
     #[inline(always)]
     fn status_of_endpoint(&self) -> Decision
-        ensures answer { says self.now result ≡ status_of_endpoint self.now.description.now.file self.now.state.now self.now.setup }
+        ensures answer { says self.now result ≡ status_of_endpoint (offer_of self.now.description.now.file) self.now.state.now self.now.setup }
         ensures asked { AsksFor self.now result }
     {
         if self.names_endpoint_zero() {
@@ -128,7 +129,7 @@ impl<'r> Request<'r> {
     /// CLEAR_FEATURE and SET_FEATURE (9.4.1 and 9.4.9).
     #[inline(always)]
     fn change_feature(&self, on: bool) -> Decision
-        ensures answer { says self.now result ≡ feature_of (recipient_of self.now.setup.request_type) on self.now.description.now.file self.now.state.now self.now.setup }
+        ensures answer { says self.now result ≡ feature_of (recipient_of self.now.setup.request_type) on (offer_of self.now.description.now.file) self.now.state.now self.now.setup }
         ensures asked { AsksFor self.now result }
     {
         match self.setup.recipient() {
@@ -141,7 +142,7 @@ impl<'r> Request<'r> {
     /// DEVICE_REMOTE_WAKEUP (table 9-6).
     #[inline(always)]
     fn change_wakeup(&self, on: bool) -> Decision
-        ensures answer { says self.now result ≡ wakeup_feature on self.now.description.now.file self.now.state.now self.now.setup }
+        ensures answer { says self.now result ≡ wakeup_feature on (offer_of self.now.description.now.file) self.now.state.now self.now.setup }
         ensures asked { AsksFor self.now result }
     {
         if self.state.has_address()
@@ -158,7 +159,7 @@ impl<'r> Request<'r> {
     /// ENDPOINT_HALT (table 9-6).
     #[inline(always)]
     fn change_halt(&self, on: bool) -> Decision
-        ensures answer { says self.now result ≡ halt_feature on self.now.description.now.file self.now.state.now self.now.setup }
+        ensures answer { says self.now result ≡ halt_feature on (offer_of self.now.description.now.file) self.now.state.now self.now.setup }
         ensures asked { AsksFor self.now result }
     {
         if !self.state.is_configured()
@@ -180,7 +181,7 @@ impl<'r> Request<'r> {
     /// SET_ADDRESS (9.4.6).
     #[inline(always)]
     fn set_address(&self) -> Decision
-        ensures answer { says self.now result ≡ set_address self.now.description.now.file self.now.state.now self.now.setup }
+        ensures answer { says self.now result ≡ set_address (offer_of self.now.description.now.file) self.now.state.now self.now.setup }
         ensures asked { AsksFor self.now result }
     {
         if self.is_to_device()
@@ -197,7 +198,7 @@ impl<'r> Request<'r> {
     /// GET_DESCRIPTOR (9.4.3).
     #[inline(always)]
     fn get_descriptor(&self) -> Decision
-        ensures answer { says self.now result ≡ get_descriptor self.now.description.now.file self.now.state.now self.now.setup }
+        ensures answer { says self.now result ≡ get_descriptor (offer_of self.now.description.now.file) self.now.state.now self.now.setup }
         ensures asked { AsksFor self.now result }
     {
         if !self.is_to_device() {
@@ -217,7 +218,7 @@ impl<'r> Request<'r> {
     /// GET_CONFIGURATION (9.4.2).
     #[inline(always)]
     fn get_configuration(&self) -> Decision
-        ensures answer { says self.now result ≡ get_configuration self.now.description.now.file self.now.state.now self.now.setup }
+        ensures answer { says self.now result ≡ get_configuration (offer_of self.now.description.now.file) self.now.state.now self.now.setup }
         ensures asked { AsksFor self.now result }
     {
         if self.is_to_device()
@@ -234,7 +235,7 @@ impl<'r> Request<'r> {
     /// SET_CONFIGURATION (9.4.7).
     #[inline(always)]
     fn set_configuration(&self) -> Decision
-        ensures answer { says self.now result ≡ set_configuration self.now.description.now.file self.now.state.now self.now.setup }
+        ensures answer { says self.now result ≡ set_configuration (offer_of self.now.description.now.file) self.now.state.now self.now.setup }
         ensures asked { AsksFor self.now result }
     {
         if !self.is_to_device() || !self.state.has_address() || self.setup.index != 0 {
@@ -254,7 +255,7 @@ impl<'r> Request<'r> {
     /// GET_INTERFACE (9.4.4).
     #[inline(always)]
     fn get_interface(&self) -> Decision
-        ensures answer { says self.now result ≡ get_interface self.now.description.now.file self.now.state.now self.now.setup }
+        ensures answer { says self.now result ≡ get_interface (offer_of self.now.description.now.file) self.now.state.now self.now.setup }
         ensures asked { AsksFor self.now result }
     {
         if self.is_to_interface()
@@ -271,7 +272,7 @@ impl<'r> Request<'r> {
     /// SET_INTERFACE (9.4.10).
     #[inline(always)]
     fn set_interface(&self) -> Decision
-        ensures answer { says self.now result ≡ set_interface self.now.description.now.file self.now.state.now self.now.setup }
+        ensures answer { says self.now result ≡ set_interface (offer_of self.now.description.now.file) self.now.state.now self.now.setup }
         ensures asked { AsksFor self.now result }
     {
         if !self.is_to_interface() || !self.state.is_configured() {
@@ -344,21 +345,21 @@ impl<'r> Request<'r> {
 
     /// The selected configuration.
     fn selected(&self) -> Option<&'r Outline>
-        ensures { option_copied result ≡ find (has_value self.now.state.now.selected) self.now.description.now.file.sets }
+        ensures { option_copied result ≡ find (has_value self.now.state.now.selected) (offer_of self.now.description.now.file).sets }
     {
         selected::with_value(self.sets(), self.state.selected)
     }
 
     /// The sets.
     fn sets(&self) -> &'r [Outline]
-        ensures { result.now ≡ self.now.description.now.file.sets }
+        ensures { result.now ≡ (offer_of self.now.description.now.file).sets }
     {
         self.description.sets()
     }
 
     /// Whether wIndex is an interface of the selected configuration.
     fn names_interface(&self) -> bool
-        ensures { result ≡ names_interface self.now.description.now.file self.now.state.now self.now.setup.index }
+        ensures { result ≡ names_interface (offer_of self.now.description.now.file) self.now.state.now self.now.setup.index }
     {
         match self.selected() {
             Some(c) => self.setup.index < 256 && c.has_interface(self.setup.index as u8),
@@ -375,7 +376,7 @@ impl<'r> Request<'r> {
 
     /// wIndex, where it is an endpoint of a setting that is chosen in the selected configuration.
     fn endpoint(&self) -> Option<u8>
-        ensures { result ≡ (if names_endpoint self.now.description.now.file self.now.state.now self.now.setup.index then Some self.now.setup.index else None) }
+        ensures { result ≡ (if names_endpoint (offer_of self.now.description.now.file) self.now.state.now self.now.setup.index then Some self.now.setup.index else None) }
     {
         if self.setup.index >= 256 {
             return None;

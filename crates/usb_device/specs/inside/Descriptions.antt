@@ -1,11 +1,12 @@
 -- A description, and its part without the tree, as callers see them.
-use Rattle.std.specs.Prelude.{ℕ, ◌≡◌, ◌++◌, List, [], Option, Some, None, length}
+use Rattle.std.specs.Prelude.{ℕ, ◌≡◌, ◌++◌, List, [], Option, Some, None, length, map}
 use Rattle.usb_file_data.specs.declared.file.Other.{Other}
 use Rattle.usb_file_data.specs.declared.file.Strings.{Strings}
 use Rattle.usb_file_data.specs.File.{named_indices, string_place}
 use Rattle.usb_device.specs.declared.description.Description.TheInside.{Inside as WithTree}
 use Rattle.usb_device.specs.declared.encoded.Encoded.TheInside.{Inside}
 use Rattle.usb_device.specs.Accepted.{Accepted}
+use Rattle.usb_device.specs.Offers.{set_offer}
 use Rattle.usb_device.specs.Descriptors.{Described, descriptors, main_descriptors, other_descriptors}
 
 abbrev pub encoded_of : Inside → Described
@@ -28,7 +29,7 @@ place_in languages = string_place (record { languages = languages; texts = [] })
 -- the image holds the descriptors, and the places are those where its parts begin
 pub record IsEncoded (d : Inside) : Type 0 where
   pub packet : d.packet ≡ d.file.value.device.packet
-  pub sets : d.sets ≡ d.file.value.sets
+  pub sets : d.sets ≡ map set_offer d.file.value.sets
   pub other_sets : d.other_sets ≡ other_count d.file.value.other
   pub languages : d.languages ≡ languages_of d.file.value.strings
   pub image : d.image ≡ descriptors d.file.value

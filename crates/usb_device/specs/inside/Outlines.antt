@@ -1,12 +1,12 @@
 -- What is kept of a set, so that requests can name it.
 use Rattle.std.specs.Prelude.{◌≡◌, ℕ, ◌==◌, ◌%◌, ◌&&◌, not, Bool, List, map, slice_index, if◌then◌else◌}
 use Rattle.std.specs.List.{flat_map}
-use Rattle.usb_set.specs.declared.tree.Configuration.{Configuration}
 use Rattle.usb_set.specs.declared.tree.Endpoint.{Endpoint}
 use Rattle.usb_set.specs.declared.tree.Setting.{Setting}
 use Rattle.usb_device.specs.declared.outline.Alternate.{Alternate}
 use Rattle.usb_device.specs.declared.outline.EndpointIn.{EndpointIn}
 use Rattle.usb_device.specs.declared.outline.Outline.TheInside.{Inside}
+use Rattle.usb_device.specs.Offers.{SetOffer, set_offer}
 use Rattle.usb_device.specs.States.{without_halt}
 
 -- of a setting
@@ -44,10 +44,10 @@ is_chosen alternates address e = (slice_index alternates e.setting.number == e.s
 abbrev pub cleared_in : ℕ → ℕ → EndpointIn → ℕ
 cleared_in number halts e = if e.setting.number == number then without_halt halts e.address else halts
 
--- An outline, as callers see it: the whole set.
+-- An outline, as callers see it: what requests can name of the set.
 
-abbrev pub set_of : Inside → Configuration
-set_of o = o.set.value
+abbrev pub set_of : Inside → SetOffer
+set_of o = set_offer o.set.value
 
 -- what is kept is the set's
 pub record IsOutline (o : Inside) : Type 0 where

@@ -5,6 +5,7 @@ use super::Request;
 use usb_fields::{Class, Recipient, feature, request};
 
 impl<'r> Request<'r> {
+    ghost use Rattle.usb_device.specs.Offers.{offer_of};
     ghost use Rattle.usb_fields.specs.Setup.{recipient_of};
     ghost use Rattle.usb_device.specs.Freedoms.{by_code, is_either, is_endpoint, may_halt, may_set, names_isochronous};
 
@@ -16,7 +17,7 @@ impl<'r> Request<'r> {
     }
 
     fn by_code(&self) -> bool
-        ensures { result ≡ by_code self.now.description.now.file self.now.state.now self.now.setup }
+        ensures { result ≡ by_code (offer_of self.now.description.now.file) self.now.state.now self.now.setup }
     {
         match self.setup.request {
             request::SET_INTERFACE => self.may_set(),
@@ -27,7 +28,7 @@ impl<'r> Request<'r> {
 
     /// SET_INTERFACE of the only setting of an interface (9.4.10).
     fn may_set(&self) -> bool
-        ensures { result ≡ may_set self.now.description.now.file self.now.state.now self.now.setup }
+        ensures { result ≡ may_set (offer_of self.now.description.now.file) self.now.state.now self.now.setup }
     {
         if !self.is_to_interface() || !self.state.is_configured() {
             return false;
@@ -45,7 +46,7 @@ impl<'r> Request<'r> {
 
     /// ENDPOINT_HALT of endpoint zero, or of an isochronous endpoint (9.4.5).
     fn may_halt(&self) -> bool
-        ensures { result ≡ may_halt self.now.description.now.file self.now.state.now self.now.setup }
+        ensures { result ≡ may_halt (offer_of self.now.description.now.file) self.now.state.now self.now.setup }
     {
         self.is_to_endpoint()
             && self.setup.value == feature::ENDPOINT_HALT
@@ -60,7 +61,7 @@ impl<'r> Request<'r> {
     }
 
     fn names_isochronous(&self) -> bool
-        ensures { result ≡ names_isochronous self.now.description.now.file self.now.state.now self.now.setup.index }
+        ensures { result ≡ names_isochronous (offer_of self.now.description.now.file) self.now.state.now self.now.setup.index }
     {
         match self.selected() {
             Some(c) => {

@@ -1,5 +1,6 @@
-use Rattle.std.proofs.Common.{◌≡◌, ◌++◌, length, refl, ap, ◌∙◌}
+use Rattle.std.proofs.Common.{◌≡◌, ◌++◌, length, map, refl, ap, ◌∙◌}
 use Rattle.usb_device.specs.Accepted.{Refuses}
+use Rattle.usb_device.specs.Offers.{set_offer}
 use Rattle.usb_device.specs.Descriptors.{descriptors, main_descriptors, other_descriptors, string_descriptors}
 use Rattle.usb_fields.proofs.Exits.{exit_err}
 use Rattle.usb_device.proofs.AcceptedLemmas.{is_encoded}
@@ -12,7 +13,7 @@ invariant_of-result c =
     let other = other_descriptors c.args.f.now.other in
     let both : c.add_speeds.new.image ≡ main ++ other = c.in_ok-others.ensures.descriptors ∙ ap (λ i. i ++ main ++ other) c.in_ok-image.ensures.ok in
     let all : c.add_strings.new.image ≡ main ++ other ++ string_descriptors c.args.f.now.strings = c.in_ok-add_strings.ensures ∙ ap (λ i. i ++ string_descriptors c.args.f.now.strings) both in
-    is_encoded _ c.args.f.now c.of.ensures refl (c.in_ok-outlines_of.ensures ∙ c.deref.ensures) c.set_count.ensures c.in_ok-languages_of.ensures all
+    is_encoded _ c.args.f.now c.of.ensures refl (c.in_ok-outlines_of.ensures ∙ ap (map set_offer) c.deref.ensures) c.set_count.ensures c.in_ok-languages_of.ensures all
     (c.in_ok-others.ensures.others ∙ ap (λ i. length (i ++ main)) c.in_ok-image.ensures.ok)
     (c.len-strings.ensures ∙ ap length both)
     (c.new-named.ensures ∙ c.in_ok-named.ensures.indices)
