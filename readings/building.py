@@ -87,8 +87,8 @@ def text_bytes(units):
 
 class Builder:
     def __init__(self):
-        self.parts = []  # whole parts before the set in work
-        self.set = None  # the descriptors of the set in work
+        self.parts = []  # whole parts before the current set
+        self.set = None  # the descriptors of the current set
         self.interfaces = 0
         self.due = {"configuration": 0, "other_speed": 0}
         self.word_of_sets = "configuration"

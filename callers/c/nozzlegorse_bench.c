@@ -197,7 +197,7 @@ static void note_end(struct run *run, struct nzg_host *host) {
     else if (end.status != NZG_TROUBLE && (end.status != NZG_DONE || end.length != run->bench->len || memcmp(run->file, run->bench->file, end.length))) nzg_bench_note(run, true, "the host read other bytes");
 }
 
-/* The step that is in work, where it is another one than before. */
+/* The current step, where it is another one than before. */
 static void begin_step(struct run *run, struct nzg_host *host) {
     struct nzg_step step = {0};
     nzg_host_step(host, &step);

@@ -9,7 +9,7 @@
 /* What a run shares with the process that waits for it: the run, the counts of its bench, and of its report. */
 struct shared { struct run run; struct nzg_bench bench; struct nzg_bench_text text; };
 
-/* A crash, in the request that was in work, with the transactions before it. */
+/* A crash, in the current request, with the transactions before it. */
 static void note_crash(struct run *run, int status) {
     int signal = WIFSIGNALED(status) ? WTERMSIG(status) : 0;
     const char *why = "it ends the program";

@@ -35,7 +35,7 @@ class Bus:
 
     @property
     def request(self) -> Request:
-        """The request in work."""
+        """The current request."""
         return Request(self._request, NAMES.get(self._request[1], "") if self._request[0] & 0x60 == 0 else "") if self._request else WHOLE
 
     def reset(self) -> None:

@@ -177,7 +177,7 @@ class _Transfer:
         return answer
 
     def take(self, reply: Reply) -> None:
-        """Takes what came back of the transaction that is due."""
+        """Takes what the transaction brought."""
         answer = self._call("take", *_is_a(reply, Reply)._numbers())
         kind = STATUSES[answer.status]
         if kind == "trouble":
@@ -197,7 +197,7 @@ class Transfer(_Transfer):
     _of = "transfer"
 
     def next(self) -> Transaction | None:
-        """The transaction that is due; None once it has ended."""
+        """The next transaction; None once it has ended."""
         due = c.structs["transaction"]()
         return _due(due) if self._call("next", due) else None
 
@@ -208,7 +208,7 @@ class Write(_Transfer):
     _of = "write"
 
     def next(self, data: bytes) -> Transaction | None:
-        """The transaction that is due, where these are the wLength bytes of data; None once it has ended."""
+        """The next transaction, where these are the wLength bytes of data; None once it has ended."""
         (data, length), due = c.lend(data), c.structs["transaction"]()
         answer = done(self._call("next", data, length, due))
         if STATUSES[answer.status] == "open":
@@ -232,7 +232,7 @@ class Host(Handle):
                    c.speed_number(speed), _word(strings, _STRINGS, "strings"), bool(other_speed), by="open_with")
 
     def next(self) -> Transaction | str:
-        """The transaction that is due, or 'reset' or 'ended'."""
+        """The next transaction, or 'reset' or 'ended'."""
         due = c.structs["transaction"]()
         action = ("reset", "send", "ended", "ended")[self._call("next", due)]
         return _due(due) if action == "send" else action
@@ -242,7 +242,7 @@ class Host(Handle):
         self._call("reset_done")
 
     def take(self, reply: Reply) -> None:
-        """Takes what came back of the transaction that is due."""
+        """Takes what the transaction brought."""
         self._call("take", *_is_a(reply, Reply)._numbers())
 
     def step(self) -> str | None:

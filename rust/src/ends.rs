@@ -310,7 +310,7 @@ impl Transfer {
         done(unsafe { sys::nzg_transfer_open(&mut transfer.0, address, packet, naks, &nzg_setup { bytes: request }) })?;
         Ok(transfer)
     }
-    /// The transaction that is due; `None` once it has ended.
+    /// The next transaction; `None` once it has ended.
     pub fn due(&self) -> Option<Transaction<'static>> {
         let mut due = nzg_transaction::default();
         unsafe { sys::nzg_transfer_next(&self.0, &mut due) }.then(|| Transaction::due(due))
@@ -330,7 +330,7 @@ impl Write {
         done(unsafe { sys::nzg_write_open(&mut write.0, address, packet, naks, &nzg_setup { bytes: request }) })?;
         Ok(write)
     }
-    /// The transaction that is due, where these are the wLength bytes of data; `None` once it has ended.
+    /// The next transaction, where these are the wLength bytes of data; `None` once it has ended.
     ///
     /// ```
     /// use nozzlegorse::{Fault, Reply, Stage, Toggle, Transaction, Write};
@@ -444,7 +444,7 @@ impl Host {
     pub fn reset_done(&mut self) {
         unsafe { sys::nzg_host_reset_done(&mut self.0) };
     }
-    /// Takes what came back of the transaction that is due.
+    /// Takes what the transaction brought.
     pub fn take(&mut self, reply: &Reply) {
         let (number, toggle, data) = reply.numbers();
         unsafe { sys::nzg_host_take(&mut self.0, number, toggle, data.as_ptr(), data.len()) };

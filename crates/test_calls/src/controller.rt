@@ -92,7 +92,7 @@ impl<'d> Controller<'d> {
         }
     }
 
-    /// Loads the packet that is due, or sets the stall bit. In Written nothing is loaded.
+    /// Loads the next packet, or sets the stall bit. In Written nothing is loaded.
     fn load(&mut self) {
         self.own();
         let is_due = matches!(

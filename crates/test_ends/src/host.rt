@@ -69,7 +69,7 @@ impl HostInWork {
         })
     }
 
-    /// What the host holds: its attempts, and of the transfer in work the losses and the NAKs in a row, the bytes that
+    /// What the host holds: its attempts, and of the current transfer the losses and the NAKs in a row, the bytes that
     /// came, and the step; the last is `-` where none is in work.
     pub fn state(&self, alloc: Global) -> Result<String, AllocError> {
         let attempts = self.host.attempts();

@@ -73,7 +73,7 @@ impl Bus {
         Ok(Some(Outcome::Word("done")))
     }
 
-    /// The talk in work, or a new one.
+    /// The current talk, or a new one.
     fn talk_in_work<'d>(&self, alloc: Global, target: &mut Target<'d>) -> Conversation<'d> {
         match target.conversation.take() {
             Some(conversation) => conversation,

@@ -68,7 +68,7 @@ impl TransferInWork {
         }))
     }
 
-    /// The transaction that is due.
+    /// The next transaction.
     pub fn due(&self, alloc: Global) -> Result<String, AllocError> {
         let due = match self {
             TransferInWork::Transfer(transfer) => transfer.next(),

@@ -31,7 +31,7 @@ impl HostEnd {
         }
     }
 
-    /// The transaction that is due, where these are the data of a write. None where they are not wLength bytes.
+    /// The next transaction, where these are the data of a write. None where they are not wLength bytes.
     pub(crate) fn next<'a>(&self, data: &'a [u8]) -> Option<Transaction<'a>> {
         match self {
             HostEnd::Transfer(transfer) => transfer.next(),

@@ -44,7 +44,7 @@ pub(crate) fn limits() -> Option<Limits> {
     Limits::new(1, 16, 3).ok()
 }
 
-/// Has a host enumerate a device by hand. Where memory is wanting, it says so at the step that was in work, keeps its
+/// Has a host enumerate a device by hand. Where memory is wanting, it says so at the current step, keeps its
 /// attempts, and has ended.
 pub(crate) fn drive(alloc: Global, description: &Description) -> Answer {
     let Some(limits) = limits() else {

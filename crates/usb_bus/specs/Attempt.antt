@@ -51,7 +51,7 @@ reply_to bytes (Done next) = replied.Done
 reply_to bytes Refused = replied.Refused
 reply_to bytes (Takes judge) = judged_reply judge bytes
 
--- the reply that a transfer that has completed brought, where so many bytes went to the device: bytes, unless all wLength
+-- the reply that a transfer that has completed brought, where `sent` bytes went to the device: bytes, unless all wLength
 -- went there
 abbrev pub reply_from : ℕ → HostEnd → Reply
 reply_from sent h = if h.transfer.request.length == sent then replied.Done else replied.Bytes h.got
@@ -137,7 +137,7 @@ pub record IsDeclined (o : Outcome) (q : SetupPacket) (bytes : List ℕ) : Type 
   pub answered : o ≡ Takes judge
   pub declines : (length bytes ≢ q.length) ⊎ (judge (take q.length bytes) ≡ false)
 
--- One transfer of request q, begun in state s, by its stage after so many losses, Busy and lost ACKs; these were the data to the
+-- One transfer of request q, begun in state s, by its stage after l losses, b Busy and a lost ACKs; these were the data to the
 -- device. Completed, it brought the answer, and the device is in the next state, or the ACK after which it takes its new address
 -- was lost; or the data were accepted. Failed, it had three losses, or more busy transactions than the limit of NAKs, or it
 -- was refused, or its data were. While it goes on there is nothing to say.

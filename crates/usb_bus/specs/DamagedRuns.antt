@@ -32,12 +32,12 @@ module _ (table : State → SetupPacket → Outcome) (packet : ℕ) where
     pub host : Takes x.host brings.reply y.host
     pub device : y.device ≡ brings.device
 
-  -- a reset after n transactions, or the next transaction under its fate; so many transactions there were then
+  -- a reset after n transactions, or the next transaction under its fate; `now` transactions there were then
   abbrev pub DamagedMoves : List Fate → List BitChange → Pair → ℕ → Pair → ℕ → Type 0
   DamagedMoves fates changes x n y now =
       (IsReset x y × (now ≡ n)) ⊎ (IsDamagedAt (fate_at fates n) (bits_of changes now) x y × (now ≡ suc n))
 
-  -- `last` is reached from a pair that is new, by so many transactions under the first fates, and by resets. These are
+  -- `last` is reached from a pair that is new, by n transactions under the first fates, and by resets. These are
   -- the pairs on the way, the newest first.
   abbrev pub DamagedRunsAt : List Fate → List BitChange → Pair → List Pair → ℕ → Pair → Type 0
   DamagedRunsAt fates changes new [] n last = (last ≡ new) × (n ≡ 0)
@@ -76,7 +76,7 @@ is_lossy Pass = false
 is_lossy Busy = false
 is_lossy fate = true
 
--- what happens to a transaction, counted from 0, and to the first so many
+-- what happens to transaction n, counted from 0, and to the first n
 abbrev pub event_at : List Fate → List BitChange → ℕ → Event
 event_at fates changes n =
     record { ready = is_ready (fate_at fates n); damaged = is_lossy (fate_at fates n) || is_changed changes (suc n) }

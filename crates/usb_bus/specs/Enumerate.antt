@@ -54,7 +54,7 @@ module _ (table : State → SetupPacket → Outcome) (packet : ℕ) where
     pub host : Takes x.host (carried table packet x.device sent fate).reply y.host
     pub device : y.device ≡ (carried table packet x.device sent fate).device
 
-  -- `last` is reached from a pair that is new, by so many transactions under the first fates, and by resets. These are
+  -- `last` is reached from a pair that is new, by n transactions under the first fates, and by resets. These are
   -- the pairs on the way, the newest first.
   abbrev pub RunsAt : List Fate → Pair → List Pair → ℕ → Pair → Type 0
   RunsAt fates new [] n last = (last ≡ new) × (n ≡ 0)
@@ -85,7 +85,7 @@ answered_to f d sent (Some ready) = (served_by f d sent ready).reply
 abbrev pub answered : DescriptorFile → DeviceView → Sent → Fate → Reply
 answered f d sent fate = answered_to f d sent (readiness fate)
 
--- a reset after n transactions, or transaction n under its fate; so many transactions there were then
+-- a reset after n transactions, or transaction n under its fate; `now` transactions there were then
 abbrev pub Moves : DescriptorFile → List Fate → Pair → ℕ → Pair → ℕ → Type 0
 Moves f fates x n y now = (IsReset x y × (now ≡ n)) ⊎ (IsTransaction f (fate_at fates n) x y × (now ≡ suc n))
 
@@ -110,7 +110,7 @@ pub record NoneIsLeft (x y : Pair) : Type 0 where
 -- What an enumeration promises.
 
 -- The enumeration is a run of both ends, from a new host and a new device on. Each step is a reset, where one is due, or a
--- transaction, where the host asks for one, under the fates in their order. The run has so many transactions and resets, and
+-- transaction, where the host asks for one, under the fates in their order. The run has as many transactions and resets, and
 -- its last pair has this outcome and this state.
 abbrev pub IsRunFrom : Pair → (State → SetupPacket → Outcome) → ℕ → List Fate → Run → Type 0
 IsRunFrom new table packet fates run =
@@ -163,7 +163,7 @@ HasCause limits used attempts why =
 pub record EndsWell (f : DescriptorFile) (limits : LimitView) (fates : List Fate) (run : Run) : Type 0 where
   -- a success has read the descriptors, and the device is configured
   pub reads : IfOk run.outcome (HasReadAll f limits.address run.state)
-  -- there are at most so many transactions
+  -- there are at most `most` transactions
   pub few : run.transactions ≤ most limits
   -- and at most as many attempts as the limits allow
   pub attempts : run.attempts ≤ limits.attempts

@@ -139,7 +139,7 @@ abbrev pub data_of : Option Sent → Reply → Option (List ℕ)
 data_of None answer = answered_data answer
 data_of (Some sent) answer = token_data sent.token answer
 
--- so many bytes are shown in the line itself, and not in lines below it
+-- n bytes are shown in the line itself, and not in lines below it
 abbrev pub fit_in_line : ℕ → Bool
 fit_in_line n = nat_lt 0 n && nat_lt n 9
 
@@ -190,7 +190,7 @@ host_words t reply heard (Some Memory) = codes "out of memory"
 host_words t reply heard (Some Malformed) = heard_words t reply heard ++ codes ": malformed"
 host_words t reply heard why = heard_words t reply heard
 
--- the stage that a device is in, with so many bytes of its data stage acknowledged
+-- the stage that a device is in, with `sent` bytes of its data stage acknowledged
 abbrev pub stage_words : Stage → ℕ → List ℕ
 stage_words stages.Idle sent = codes "idle"
 stage_words stages.Halted sent = codes "halted"
@@ -207,8 +207,8 @@ device_words packet d =
     decimal d.state.address ++ codes "/" ++ decimal d.state.selected ++ codes " "
     ++ stage_words (stage_kind d.stage) (acknowledged packet d.stage)
 
--- The end of a line, and these bytes in lines below it, 16 a line, under the column of data. The line has room for so many
--- of them.
+-- The end of a line, and these bytes in lines below it, 16 a line, under the column of data. The line has room for
+-- `room` of them.
 unfoldable pub rows_below : ℕ → List ℕ → List ℕ
 rows_below room [] = codes "\n"
 rows_below room (byte ∷ bytes) =

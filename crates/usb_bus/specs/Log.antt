@@ -51,7 +51,7 @@ lines_with brief packet number fate (Some step) (Some t) answer after =
     transfer_part step t ++ exchange_lines packet number fate t answer (brought fate answer) (data_below brief (data_of (due t) answer)) after
 lines_with brief packet number fate step transfer answer after = reset_line after.host.resets
 
--- the same of a step from one pair to the next, after which there were so many transactions
+-- the same of a step from one pair to the next, after which there were n transactions
 abbrev pub step_lines : Bool → DescriptorFile → List Fate → ℕ → Pair → Pair → List ℕ
 step_lines brief f fates n before after =
     let fate = fate_at fates (n - 1) in

@@ -39,12 +39,12 @@ module _ (brief all : Bool) (f : DescriptorFile) (fates : List Fate) (changes : 
     pub made : IsDamagedAt (answer f) f.device.packet fate (bits_of changes now) x y
     pub shown : lines ≡ wire_lines now fate (step_in x.host.phase) (transfer_in x.host.phase) made.answered made.brings.reply y
 
-  -- a reset after n transactions, or the next transaction under its fate, and its lines; so many transactions there were then
+  -- a reset after n transactions, or the next transaction under its fate, and its lines; `now` transactions there were then
   abbrev pub LoggedMoves : Pair → ℕ → Pair → ℕ → List ℕ → Type 0
   LoggedMoves x n y now lines =
       (IsReset x y × (now ≡ n) × (lines ≡ reset_line y.host.resets)) ⊎ (IsLoggedAt (fate_at fates n) x now y lines × (now ≡ suc n))
 
-  -- `last` is reached from a pair that is new, by so many transactions and by resets, and these are the lines of all of them. These
+  -- `last` is reached from a pair that is new, by n transactions and by resets, and these are the lines of all of them. These
   -- are the pairs on the way, the newest first.
   abbrev pub LoggedRuns : Pair → List Pair → ℕ → Pair → List ℕ → Type 0
   LoggedRuns new [] n last log = (last ≡ new) × (n ≡ 0) × (log ≡ [])

@@ -21,7 +21,7 @@ fates_used fates zero = []
 fates_used [] (suc n) = Pass ∷ fates_used [] n
 fates_used (f ∷ fates) (suc n) = f ∷ fates_used fates n
 
--- the transaction that is due, where a transfer is under way with these data to the device; after the end there is none
+-- the next transaction, where a transfer is under way with these data to the device; after the end there is none
 abbrev pub due_in : List ℕ → Phase → Option Sent
 due_in bytes (Running host) = due_of host.transfer bytes
 due_in bytes phase = None

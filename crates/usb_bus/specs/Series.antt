@@ -57,7 +57,7 @@ module _ (plan : List Reply → Plan) (naks limit : ℕ) where
     abbrev pub attempt_under : List Fate → Attempt
     attempt_under used = attempt_run plan naks sends answer cut used after_reset
 
-    -- After so many failed attempts this one was begun. Each began with both ends together again, after a reset, and had the
+    -- After this many failed attempts this one was begun. Each began with both ends together again, after a reset, and had the
     -- next of these fates. One that failed had its cost.
     abbrev pub Attempts : ℕ → List Fate → Attempt → Type 0
     Attempts zero used x =

@@ -27,7 +27,7 @@ HasCounted h = (h.transfer.stage ≢ DataOut) × (h.transfer.kept ≡ length h.g
 -- The device's table and packet size, its state when the transfer began, the request, the host's packet size and limit of
 -- NAKs, and the data to the device.
 module _ (answer : State → SetupPacket → Outcome) (cut : ℕ) (s : State) (q : SetupPacket) (size naks : ℕ) (data_out : List ℕ) where
-  -- In the data stage the host has kept the first so many packets of the answer, and awaits the next one. The device counts
+  -- In the data stage the host has kept the first `kept` packets of the answer, and awaits the next one. The device counts
   -- as many as acknowledged, or one fewer, where the ACK was lost. Each strike has a loss of its own, and so has that ACK: the
   -- packet comes again, which is a strike too.
   pub record IsReading (lost : ℕ) (asked : SetupPacket) (bytes : List ℕ) (acknowledged : ℕ) (awaited : Toggle) (got : List ℕ) (count strikes : ℕ) (d : State) : Type 0 where
@@ -42,7 +42,7 @@ module _ (answer : State → SetupPacket → Outcome) (cut : ℕ) (s : State) (q
     pub more : kept < length (packets bytes cut q.length)
     pub owed : strikes + (kept - acknowledged) ≤ lost
 
-  -- In the data stage of a write the device has the first so many packets of the data, which are whole, and more are to come.
+  -- In the data stage of a write the device has the first `kept` packets of the data, which are whole, and more are to come.
   -- The host counts as many as acknowledged, or one fewer, where the ACK was lost, which was a strike: that packet goes again.
   pub record IsWriting (lost : ℕ) (asked : SetupPacket) (came : List ℕ) (next : Toggle) (count strikes : ℕ) (d : State) : Type 0 where
     pub same_state : d ≡ s
@@ -87,11 +87,11 @@ module _ (answer : State → SetupPacket → Outcome) (cut : ℕ) (s : State) (q
     pub state : d ≡ (if carried_out then (if is_set_address q then s else next) else s)
     pub owed : strikes ≤ lost
 
-  -- the data packet that is due is the last one, after so many bytes
+  -- the data packet that is due is the last one, after `count` bytes
   abbrev pub IsLastPacket : ℕ → Type 0
   IsLastPacket count = count + min size (q.length - count) ≡ q.length
 
-  -- The stages in which both ends may be, after so many losses, Busy and lost ACKs, and what then holds of the host's awaited
+  -- The stages in which both ends may be, after l losses, b Busy and a lost ACKs, and what then holds of the host's awaited
   -- toggle, bytes, count of bytes and strikes and of the device's state.
   abbrev pub Stages : ℕ → ℕ → ℕ → TransferStage → DeviceStage → Toggle → List ℕ → ℕ → ℕ → State → Type 0
   -- the host waits for the ACK of its SETUP, wherever the device is
@@ -147,7 +147,7 @@ module _ (plan : List Reply → Plan) (naks : ℕ) (sends : List Reply → List 
     pub begins : plan replies ≡ Begin s.address packet q
     pub in_one : InOneTransfer answer cut s q packet naks (sends replies) (losses used) (busies used) (acks_lost used) h d
 
-  -- whatever its fate, the transaction that is due brings the host nothing
+  -- whatever its fate, the next transaction brings the host nothing
   abbrev pub IsSilent : Attempt → Type 0
   IsSilent x = (sent : Sent) (fate : Fate) → due_in (sends x.replies) x.phase ≡ Some sent → (carried answer cut x.device sent fate).reply ≡ NoReply
 

@@ -54,8 +54,8 @@ module _ (answer : State → SetupPacket → Outcome) (packet : ℕ) where
     pub host : Takes x.host brings.reply y.host
     pub device : y.device ≡ brings.device
 
--- so many transactions, of which so many had a packet that didn't arrive as it was sent, and so many met a device that
--- wasn't ready
+-- how many transactions there were, how many of them had a packet that didn't arrive as it was sent, and how many met a device
+-- that wasn't ready
 pub record Counts : Type 0 where
   pub transactions : ℕ
   pub damaged : ℕ
@@ -68,7 +68,7 @@ abbrev pub with_one : Event → Counts → Counts
 with_one v n = record { transactions = suc n.transactions; damaged = one_if v.damaged + n.damaged; unready = one_if (not v.ready) + n.unready }
 
 module _ (table : State → SetupPacket → Outcome) (packet : ℕ) where
-  -- `last` is reached from a pair that is new, by so many transactions over the bus, and by resets. These are the pairs on the
+  -- `last` is reached from a pair that is new, by n transactions over the bus, and by resets. These are the pairs on the
   -- way, the newest first.
   abbrev pub WireRunsAt : Pair → List Pair → Counts → Pair → Type 0
   WireRunsAt new [] n last = (last ≡ new) × (n ≡ none_yet)

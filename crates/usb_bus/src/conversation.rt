@@ -100,7 +100,7 @@ impl<'d> Model for Conversation<'d> {
 impl<'d> Conversation<'d> {
     ghost use Rattle.usb_bus.specs.Converse.{AskedView, IsTalk, asked_of, without_data};
 
-    /// Before the first request, with a new device at address 0. A transfer retries so many NAKs without progress.
+    /// Before the first request, with a new device at address 0. A transfer retries `naks` NAKs without progress.
     pub fn new(alloc: Global, d: &'d Description, naks: u16) -> Conversation<'d>
         ensures begins { (fates : List Fate) → IsTalk [] fates result }
         ensures file { result.file ≡ d.now.file }

@@ -41,7 +41,7 @@ pub(crate) fn put_data(text: &mut Text, packet: Option<&[u8]>) -> Result<(), All
     }
 }
 
-/// Whether so many bytes are shown in the line itself.
+/// Whether `count` bytes are shown in the line itself.
 fn fit_in_line(count: usize) -> bool
     ensures { result ≡ fit_in_line count }
 {
@@ -65,7 +65,7 @@ pub(crate) fn put_below(
 /// How many bytes a row has, but for its first one.
 const AFTER_FIRST: u8 = 15;
 
-/// Puts the end of a line, and these bytes in rows below it. The line has room for so many of them.
+/// Puts the end of a line, and these bytes in rows below it. The line has room for `room` of them.
 #[tactic(auto, unfolding(crate::specs::Lines::rows_below))]
 fn put_rows(text: &mut Text, room: u8, bytes: &[u8]) -> Result<(), AllocError>
     ensures { OnOk result (text.new ≡ text.old ++ rows_below room bytes.now) }

@@ -32,7 +32,7 @@ pub struct Run {
 }
 
 /// One step of an enumeration: what the host wants next, done at both ends. That is a bus reset, which has no fate, or
-/// the transaction after so many, under its fate. Answers how many transactions there were then, or `None` where the
+/// transaction `transactions` + 1, under its fate. Answers how many transactions there were then, or `None` where the
 /// host wants nothing more.
 ///
 /// [`enumerate`] goes on by this from a new host and a new device to the end. A caller that does the same walks that

@@ -82,7 +82,7 @@ pub(crate) struct Ended {
     pub(crate) transactions: u128,
 }
 
-/// One transfer with these data to its end, after so many transactions.
+/// One transfer with these data to its end, after `before` transactions.
 pub(crate) fn transfer_over(
     alloc: Global,
     device: &mut Device<'_>,

@@ -40,7 +40,7 @@ impl Sender {
         }
     }
 
-    /// The transaction that is due, where these are the data that are sent.
+    /// The next transaction, where these are the data that are sent.
     pub(crate) fn next<'a>(&self, sent: &'a [u8]) -> Option<Transaction<'a>>
         requires kind { is_write self.now ≡ has_data sent.now }
         requires bytes { AreDataOf (transfer_of self.now).request sent.now }

@@ -49,7 +49,7 @@ pub(crate) trait Steps<W> {
     /// Why a step may end the enumeration.
     type Fault;
 
-    /// What is done at a step from one pair to the next, after which there were so many transactions: the `W` was
+    /// What is done at a step from one pair to the next, after which there were this many transactions: the `W` was
     /// this, and is that then.
     ghost does: { DescriptorFile → List Fate → Pair → Pair → ℕ → W → W → Type 0 };
 

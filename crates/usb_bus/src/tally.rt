@@ -12,7 +12,7 @@ use std::alloc::{AllocError, Global};
 use std::io::Write;
 use usb_text::{OutFault, Text, write_all};
 
-/// Writes the line of so many transactions under these fates.
+/// Writes the line of these transactions under these fates.
 #[tactic(auto, using(crate::proofs::Tallies::cut_off, crate::proofs::Tallies::nothing_put))]
 pub(crate) fn write_tally<W: Write>(
     alloc: Global,
@@ -47,7 +47,7 @@ fn put_tally(text: &mut Text, fates: &[Fate], transactions: u64) -> Result<(), A
     text.put("\n")
 }
 
-/// How many of so many transactions have lost something, and in how many the device was not ready, by their fates.
+/// How many of these transactions have lost something, and in how many the device was not ready, by their fates.
 #[tactic(auto, using(crate::proofs::Tallies::losses_of_used, crate::proofs::Tallies::busies_of_used))]
 fn tallied(fates: &[Fate], transactions: u64) -> (u64, u64)
     ensures losses { result.0 ≡ losses (fates_used fates.now transactions) }
@@ -56,7 +56,7 @@ fn tallied(fates: &[Fate], transactions: u64) -> (u64, u64)
     counted(first(fates, transactions))
 }
 
-/// The fates of so many transactions, but for those after the end of the list, which all pass.
+/// The fates of the first `transactions` transactions, but for those after the end of the list, which all pass.
 fn first(fates: &[Fate], transactions: u64) -> &[Fate]
     ensures { result.now ≡ take transactions fates.now }
 {

@@ -191,7 +191,7 @@ nothing = record {
   position = first_position;
 }
 
--- the descriptors after one, at most so many
+-- the descriptors after one, at most n
 unfoldable pub first_walked : ℕ → List ℕ → NzgDescriptor → List NzgDescriptor
 first_walked zero b was = []
 first_walked (suc n) b was = unwrap_or (option_map (λ d. d ∷ first_walked n b d) (next_of b was)) []

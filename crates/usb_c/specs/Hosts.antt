@@ -145,7 +145,7 @@ asked_numbers step t =
       setup = setup_bytes t.request;
     }
 
--- those that are in work, if any are
+-- those of the current step, if there is one
 abbrev pub asked_in : HostPhase → Option NzgStep
 asked_in ResetDue = None
 asked_in (Reading place t kept) = Some (asked_numbers (step_of place) t)

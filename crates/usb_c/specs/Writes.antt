@@ -18,13 +18,13 @@ abbrev pub bytes_of : Token → ℕ
 bytes_of (OutToken toggle bytes) = length bytes
 bytes_of token = 0
 
--- a transaction that is due after so many bytes were acknowledged: it is told, and where its bytes are in the data
+-- the transaction that follows once this many bytes were acknowledged, if any, and where its bytes are in the data
 abbrev pub TellsDue : ℕ → Option Sent → NzgTransaction → NzgTransaction → Verdict → Type 0
 TellsDue acknowledged None old new verdict = (verdict ≡ verdicts.Open 0) × (new ≡ old)
 TellsDue acknowledged (Some sent) old new verdict =
     (verdict ≡ verdicts.Due acknowledged (bytes_of sent.token)) × (new ≡ transaction_of sent)
 
--- the transaction that is due of a write, where these are its wLength bytes of data; else nothing changes
+-- the next transaction of a write, where these are its wLength bytes of data; else nothing changes
 abbrev pub TellsNext : Option TransferView → List ℕ → NzgTransaction → NzgTransaction → Verdict → Type 0
 TellsNext None bytes old new verdict = (verdict ≡ verdicts.BadArgument 11) × (new ≡ old)
 TellsNext (Some t) bytes old new (verdicts.BadArgument number) = (number ≡ 10) × (length bytes ≢ t.request.length) × (new ≡ old)

@@ -31,7 +31,7 @@ pub struct Answer {
 pub enum Verdict {
     /// All went well, and this many bytes were taken or written.
     Done(usize),
-    /// A transaction of a write is due: a data packet has so many of the data from this place on.
+    /// A transaction of a write is due: a data packet has this many of the data, from this place on.
     Due(usize, usize),
     /// The bytes are an input: 1 a set, 2 a descriptor file, 3 a dump.
     Judged(u8),

@@ -92,7 +92,7 @@ fn put_all(outline: Outline<'_>, out: &mut [NzgFinding])
     }
 }
 
-/// Puts the findings of a descriptor after so many. Answers how many there are then.
+/// Puts the findings of a descriptor after the `filled` first. Answers how many there are then.
 fn put_at(descriptor: &Descriptor, out: &mut [NzgFinding], filled: usize) -> usize
     requires { filled + length (placed_at (described descriptor.now)) ≤ length out.old }
     ensures out { out.new ≡ take filled out.old ++ placed_at (described descriptor.now) ++ drop (filled + length (placed_at (described descriptor.now))) out.old }

@@ -25,7 +25,7 @@ pub struct NzgStep {
     pub setup: [u8; 8],
 }
 
-/// Reports the step that is in work and its transfer. False where none is: what is reported is then as it was.
+/// Reports the current step and its transfer. False where none is: what is reported is then as it was.
 pub(crate) fn tell_step(host: &Host, step: &mut NzgStep) -> bool
     ensures step { step.new ≡ unwrap_or (asked_in host.now.phase) step.old }
     ensures found { result ≡ is_some (asked_in host.now.phase) }

@@ -64,7 +64,7 @@ fn named_at(words: &[u64; 4], number: usize) -> u8
     0
 }
 
-/// The index and the language of a string before which so many came, where the list of languages is at this place.
+/// The index and the language of a string, by how many came before it, where the list of languages is at this place.
 pub(crate) fn string_among(
     words: &[u64; 4],
     bytes: &[u8],

@@ -62,7 +62,7 @@ fn open_at(
     Verdict::Done(0)
 }
 
-/// The transaction that is due. False once the transfer has ended, or where the numbers are none of a transfer: the transaction
+/// The next transaction. False once the transfer has ended, or where the numbers are none of a transfer: the transaction
 /// is then as it was. An OUT has no bytes: of a request with data to the device, `nzg_write_next` has them.
 #[unsafe(no_mangle)]
 pub extern "C" fn nzg_transfer_next(

@@ -66,7 +66,7 @@ fn open_at(numbers: &mut NzgTransfer, address: u8, packet: u8, naks: u16, setup:
     Verdict::Done(0)
 }
 
-/// The transaction that is due, where these are the data: a data packet has so many of them from the place on. Open once the
+/// The next transaction, where these are the data: a data packet has this many of them, from the place on. Open once the
 /// write has ended. Data that are not wLength bytes are argument 10, and numbers that are none of a write are argument 11. Where
 /// none is due the transaction is as it was.
 #[unsafe(no_mangle)]

@@ -39,7 +39,7 @@ abbrev pub with_byte : (ℕ → Bool) → Option ℕ → Bool
 with_byte later None = false
 with_byte later (Some byte) = later byte
 
--- so many bytes are here, of two digits each, and their sum and that of those before is a multiple of 256
+-- this many bytes are here, of two digits each, and their sum and that of those before is a multiple of 256
 unfoldable pub adds_up : ℕ → ℕ → List ℕ → Bool
 adds_up zero sum text = sum == 0
 adds_up (suc left) sum [] = false

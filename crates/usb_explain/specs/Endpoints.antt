@@ -11,13 +11,13 @@ use Rattle.usb_remarks.specs.SetSpeeds.{has_multiple}
 use Rattle.usb_remarks.specs.Power.{milliamperes}
 use Rattle.usb_explain.specs.Speeds.{interval_at, is_periodic}
 
--- so many packets of so many bytes in a microframe, where there are several; `None` is the reserved value of bits 12..11
+-- the packets of a microframe and the bytes of each, where there are several; `None` is the reserved value of bits 12..11
 abbrev pub packets_shown : Option ℕ → ℕ → List Shown
 packets_shown None size = Number size ∷ []
 packets_shown (Some packets) size = if packets == 1 then Number size ∷ [] else Number packets ∷ Number size ∷ []
 
--- bits 12..11 of wMaxPacketSize count packets of periodic endpoints at high speed, and where that is open and their size is one of
--- so many; elsewhere they are reserved
+-- bits 12..11 of wMaxPacketSize count packets of periodic endpoints at high speed, and where that is open and their size is one
+-- that several in a microframe have; elsewhere they are reserved
 abbrev pub has_packets : SetSpeed → TransferType → ℕ → Bool
 has_packets High Isochronous max_packet = true
 has_packets High Interrupt max_packet = true

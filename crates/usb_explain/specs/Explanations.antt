@@ -75,11 +75,11 @@ explanation manner read b =
     let ds = descriptors_of manner read b in
     beginning manner read b ds ++ ending manner read b (length (bytes_of ds))
 
--- a text of so many lines as the explanation has; what each shows is said of the function that puts it
+-- a text of as many lines as the explanation has; what each shows is said of the function that puts it
 abbrev pub IsExplanation : Manner → Reading → List ℕ → List ℕ → Type 0
 IsExplanation manner read b text = AreLines manner.look.utf8 (ends (explanation manner read b)) text
 
--- the writer gained the first line and those of the first so many descriptors, each whole
+-- the writer gained the first line and those of the first `count` descriptors, each whole
 pub record EndsBetween (manner : Manner) (read : Reading) (b : List ℕ) (old new : Held) : Type 0 where
   pub count : ℕ
   pub written : WritesLines manner.look.utf8 (ends (beginning manner read b (take count (descriptors_of manner read b)))) old new

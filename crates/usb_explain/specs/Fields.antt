@@ -27,17 +27,17 @@ placed_of f = record { name = f.name.now; place = f.place; form = f.form; value 
 abbrev pub left_over : List ℕ → ℕ → List Field
 left_over name n = if n == 0 then [] else field_in Bytes n name ∷ []
 
--- a group so many times
+-- a group n times
 abbrev pub repeated : ℕ → List Field → List Field
 repeated zero group = []
 repeated (suc n) group = group ++ repeated n group
 
--- a group as often as all its bytes are there, and what is left of so many bytes
+-- a group as often as all its bytes are there, and what is left of n bytes
 abbrev pub groups_in : List Field → List ℕ → ℕ → List Field
 groups_in group rest n =
     let count = group_count (width_of group) n in repeated count group ++ left_over rest (n - count * width_of group)
 
--- The fields in so many bytes: these while all bytes of the next one are there, and where all are there, the group again
+-- The fields in n bytes: these while all bytes of the next one are there, and where all are there, the group again
 -- and again; then what is left.
 unfoldable pub fields_in_bytes : List Field → List Field → List ℕ → ℕ → List Field
 fields_in_bytes [] group rest n = groups_in group rest n

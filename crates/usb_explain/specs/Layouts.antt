@@ -20,7 +20,7 @@ abbrev pub width_of : List Field → ℕ
 width_of [] = 0
 width_of (field ∷ fields) = field.width + width_of fields
 
--- how many times a group of so many bytes is there
+-- how many times a group of `width` bytes is there
 abbrev pub group_count : ℕ → ℕ → ℕ
 group_count width n = if width == 0 then 0 else n / width
 
@@ -75,7 +75,7 @@ is_audio (Some codes) = codes.class == 1
 abbrev pub further_audio_fields : List Field
 further_audio_fields = field_in Decimal 1 B_REFRESH.now ∷ field_in Hexadecimal 1 B_SYNCH_ADDRESS.now ∷ []
 
--- an endpoint of so many bytes, after an interface of these codes
+-- an endpoint of n bytes, after an interface of these codes
 abbrev pub endpoint_layout : Option ClassCodes → ℕ → Layout
 endpoint_layout interface n =
     if is_audio interface && (n == 9) then with_tail (fields_of_endpoint ++ further_audio_fields)

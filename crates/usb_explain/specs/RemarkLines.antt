@@ -28,7 +28,7 @@ speed_shown (remarks.Packet transfer speed sizes found) = packet_shown sizes fou
 speed_shown (remarks.FirstPacket speed sizes found) = Number found ∷ sizes_shown sizes
 speed_shown _ = []
 
--- those of one on a value: the value, or the size of so many transactions and the least one
+-- those of one on a value: the value, or the size, how many transactions there are, and the least size of these
 abbrev pub value_shown : Remark → List Shown
 value_shown (remarks.SmallMultiple transactions least found) = Number found ∷ Number transactions ∷ Number least ∷ []
 value_shown (remarks.DefaultIsochronous found) = Number found ∷ []

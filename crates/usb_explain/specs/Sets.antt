@@ -27,7 +27,7 @@ unfoldable pub configuration_shown : SetSpeed → List ℕ → List Shown
 configuration_shown speed b =
     Number (slice_index b 5) ∷ Number (slice_index b 4) ∷ Number (milliamperes speed (slice_index b 8)) ∷ []
 
--- the interfaces that an association binds, from this one on so many: the first and the last
+-- the n interfaces that an association binds, from this one on: the first and the last
 unfoldable pub bound_shown : ℕ → ℕ → List Shown
 bound_shown first n =
     if n == 0 then []

@@ -68,11 +68,11 @@ digits_up_to_last n =
     else if n % 10 == 0 then 3
     else 4
 
--- so many ten-thousandths, as the digits after a point, without zeros at their end
+-- n ten-thousandths, as the digits after a point, without zeros at their end
 unfoldable pub fraction : ℕ → List Shown
 fraction n = if n == 0 then [] else Name (take (digits_up_to_last n) (four_digits n)) ∷ []
 
--- so many units of 100 ns in milliseconds: `33.3333` of 333333
+-- n units of 100 ns in milliseconds: `33.3333` of 333333
 unfoldable pub milliseconds : ℕ → List Shown
 milliseconds n = Number (n / 10000) ∷ fraction (n % 10000)
 

@@ -90,7 +90,7 @@ fn is_record(bytes: &[u8]) -> bool
     }
 }
 
-/// Whether so many bytes are here, of two digits each, whose sum with that of those before is a multiple of 256.
+/// Whether `left` bytes are here, of two digits each, whose sum with that of those before is a multiple of 256.
 #[tactic(auto, unfolding(crate::specs::Containers::adds_up))]
 fn adds_up(left: usize, sum: u8, text: &[u8]) -> bool
     ensures { result ≡ adds_up left sum text.now }

@@ -127,7 +127,7 @@ fn put_descriptors<W: Write, P: PassingPage<W>>(
     Ok(DescriptorsPut { end, remarks })
 }
 
-/// Puts what ends an explanation with so many findings, after these descriptors.
+/// Puts what ends an explanation, after these descriptors.
 #[tactic(auto, using(usb_text::proofs::ShownLines::showing_joined))]
 fn put_ending<P: Page>(
     page: &mut P,

@@ -22,8 +22,7 @@ pub(crate) fn fault_place(fault: InputFault) -> usize
     }
 }
 
-/// Puts the line of the fault of these bytes, which were decoded or weren't, and that of what they look like, if they look like
-/// anything.
+/// Puts the fault, and the likeness if there is one. `decoded`: the bytes came from hexadecimal text.
 #[tactic(auto, using(usb_text::proofs::ShownLines::showing_joined), unfolding(crate::specs::Faults::fault_lines))]
 pub(crate) fn put_fault_lines<P: Page>(
     page: &mut P,

@@ -148,7 +148,7 @@ impl<'d> Iterator for Fields<'d> {
     }
 }
 
-/// A field that comes next, of so many bytes.
+/// A field that comes next, and how many bytes it has.
 #[derive(Clone, Copy)]
 struct Piece {
     name: &'static str,
@@ -224,7 +224,7 @@ impl Lists {
         }
     }
 
-    /// The first field of so many bytes, and the lists after it.
+    /// The first field in `count` bytes, and the lists after it.
     fn next(self, count: usize) -> Option<(Piece, Lists)>
         requires { IsTrue (lists_have_words self) }
         ensures first { MatchOption result (left_in self count ≡ []) (λ next. left_in self count ≡ piece_of next.0 ∷ left_in next.1 (count - next.0.width)) }
@@ -256,7 +256,7 @@ impl Lists {
         }
     }
 
-    /// The same fields in so many bytes, of which the first one comes next: where a list is through, the one after it does,
+    /// The same fields in `count` bytes, of which the first one comes next: where a list is through, the one after it does,
     /// or the group where all its bytes are there.
     fn turned(self, count: usize) -> Lists
         requires { IsTrue (lists_have_words self) }
@@ -302,14 +302,14 @@ impl Lists {
     }
 }
 
-/// Whether a group has bytes, and all of them are there in so many.
+/// Whether a group has bytes, and `count` bytes hold all of them.
 fn is_there(group: &[ClassField], count: usize) -> bool
     ensures { result ≡ (nat_lt 0 (width_of (map field_of group.now)) && nat_le (width_of (map field_of group.now)) count) }
 {
     !fit(group, 0) && fit(group, count)
 }
 
-/// Whether all bytes of these fields are there in so many.
+/// Whether `count` bytes hold all of these fields.
 fn fit(fields: &[ClassField], count: usize) -> bool
     ensures { result ≡ nat_le (width_of (map field_of fields.now)) count }
 {

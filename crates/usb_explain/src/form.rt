@@ -83,7 +83,7 @@ pub(crate) fn put_form<P: Page>(
     }
 }
 
-/// The byte so many before a place.
+/// The byte `count` before a place.
 fn byte_before(b: &[u8], place: usize, count: usize) -> u8
     ensures { result ≡ slice_index b.now (place - count) }
 {

@@ -54,7 +54,7 @@ reply_of Silence = NoReply
 
 -- The packets of a data stage, and those that its receiver keeps (USB 2.0, 8.5.3 and 8.6).
 
--- the packets of these bytes, as below, or the first so many of them
+-- the packets of these bytes, as below, or the first `most` of them
 unfoldable pub packets_within : ℕ → List ℕ → ℕ → ℕ → List (List ℕ)
 packets_within zero bytes size limit = []
 packets_within (suc most) bytes size limit =

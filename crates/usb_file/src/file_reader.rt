@@ -148,7 +148,7 @@ pub(crate) fn read_file_or_dump(
     Ok((file, Form::File))
 }
 
-/// Whether nothing follows the sets of a device of one speed, which names so many indices: then the bytes are a
+/// Whether nothing follows the sets of a device of one speed, which names `count` indices: then the bytes are a
 /// dump, if it names one.
 fn ends_as_dump(count: usize, other: &Option<Other>, rest: &[u8]) -> bool
     ensures { result ≡ ends_as_dump count other.now rest.now }

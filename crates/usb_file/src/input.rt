@@ -44,7 +44,7 @@ fn is_one_set(b: &[u8]) -> bool
     matches!(b, [_, CONFIGURATION | OTHER_SPEED_CONFIGURATION, ..])
 }
 
-/// The set that all of the bytes are.
+/// The set, if it is exactly as long as the bytes.
 fn read_whole_set(alloc: Global, b: &[u8]) -> Result<Configuration, InputFault>
     ensures ok { IfOk result (λ set. Layout set b.now) }
     ensures err { IfErr result (λ fault. is_one_set b.now ≡ true → InputRefused b.now fault) }

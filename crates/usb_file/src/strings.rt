@@ -15,7 +15,7 @@ const LEAST_STRING: u8 = descriptor_length::HEAD;
 /// The least bLength of a language list, in bytes: that of one language.
 const LEAST_LANGUAGES: u8 = descriptor_length::HEAD + 2;
 
-/// The language list and the strings, if any of so many indices is named, and where they end.
+/// The language list and the strings, if any index is named, and where they end.
 pub(crate) fn read_strings(
     alloc: Global,
     b: &[u8],
@@ -118,7 +118,7 @@ fn read_string(alloc: Global, least: u8, rest: &[u8]) -> Result<(Sequence<u16>, 
     }
 }
 
-/// Whether two bytes are there, and begin no string descriptor of at least so many bytes.
+/// Whether two bytes are there, and begin no string descriptor of at least `least` bytes.
 fn is_no_string(least: u8, rest: &[u8]) -> bool
     ensures { result ≡ is_no_string least rest.now }
 {

@@ -5,7 +5,7 @@ use Rattle.usb_set.specs.declared.tree.Configuration.{Configuration}
 use Rattle.usb_set.specs.Faults.{Begins}
 use Rattle.usb_find.specs.declared.search.Found.{Found}
 
--- The bytes begin with a whole set of so many: a decoder reads it to its end, and its first descriptor has the 9 bytes that the
+-- The bytes begin with a whole set of n: a decoder reads it to its end, and its first descriptor has the 9 bytes that the
 -- standard gives it (USB 2.0, 9.6.3).
 pub record BeginsSet (b : List ℕ) (n : ℕ) : Type 0 where
   pub set : Configuration
@@ -34,7 +34,7 @@ pub record IsBare (b : List ℕ) (place : ℕ) : Type 0 where
   pub no_set : (n : ℕ) → BeginsSet (drop place b) n → ⊥
   pub no_device : begins_device (drop place b) ≡ false
 
--- A set of so many bytes stands there, and the search goes on after it: what is within a set is listed with it.
+-- A set of this length stands there, and the search goes on after it: what is within a set is listed with it.
 pub record IsSet (b : List ℕ) (f : Found) : Type 0 where
   pub kind : f.kind ≡ 1
   pub begins : BeginsSet (drop f.place b) f.length

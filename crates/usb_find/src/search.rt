@@ -203,7 +203,7 @@ fn set_length<L: Ledger>(
     }
 }
 
-/// wTotalLength, where the first descriptor of a set begins at a place and so many bytes are there.
+/// wTotalLength, where the first descriptor of a set begins at a place and as many bytes are there.
 fn total_at(bytes: &[u8], place: usize) -> Option<usize>
     requires { place < length bytes.now }
     ensures some { IfSome result (λ n. IsTotal bytes.now place n) }

@@ -186,7 +186,7 @@ abbrev pub in_order : Option Bool → Bool → Bool
 in_order None later = later
 in_order (Some is) later = is
 
--- The first visible character, in so many lines at most, is that of its byte, as in those of `xxd` and not of `xxd -e`.
+-- The first visible character, in the first lines, is that of its byte, as in those of `xxd` and not of `xxd -e`.
 unfoldable pub are_in_order : ℕ → List ℕ → Bool
 are_in_order zero text = true
 are_in_order (suc lines) text = in_order (line_order (after_offset text)) (are_in_order lines (next_line text))

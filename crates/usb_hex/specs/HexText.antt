@@ -42,7 +42,7 @@ form_of text =
     else if has_columns text || has_two_readings text || begins_directive (at_start text) then Words
     else Plain
 
--- What is left after the start of a later line, before which are so many bytes. Without columns none begins with what could be
+-- What is left after the start of a later line, before which are `count` bytes. Without columns none begins with what could be
 -- an offset.
 abbrev pub at_line : Form → ℕ → List ℕ → Option (List ℕ)
 at_line Plain count text = if has_offset_after count text then None else Some text
@@ -106,7 +106,7 @@ abbrev pub counted_item : Style → ℕ → List ℕ → Item
 counted_item style count text =
     if (slice_index text 0 == 10) && has_offset_after count (after_one text) then None else source_item style text
 
--- the item at the start of a text, after so many bytes
+-- the item at the start of a text, after `count` bytes
 abbrev pub item : Form → ℕ → List ℕ → Item
 item Plain count text = line_item Plain count text
 item Colons count text = line_item Colons count text
@@ -136,7 +136,7 @@ abbrev pub bytes_of : Option ℕ → List ℕ
 bytes_of None = []
 bytes_of (Some byte) = byte ∷ []
 
--- the items at the start of a text after so many bytes, as many as there are, have these bytes, and this is left
+-- the items at the start of a text after `count` bytes, as many as there are, have these bytes, and this is left
 pub data Reads (form : Form) : ℕ → List ℕ → List ℕ → List ℕ → Type 0 where
   ends : {count : ℕ} {text : List ℕ} → item form count text ≡ None → Reads form count text [] text
   goes_on : {count : ℕ} {text rest bytes left : List ℕ} {byte : Option ℕ} → item form count text ≡ Some (byte, rest)

@@ -39,7 +39,7 @@ abbrev pub first_of : List ℕ → Option ℕ
 first_of [] = None
 first_of (c ∷ rest) = Some c
 
--- the fault after so many characters of a text; lines and columns are counted from 1
+-- the fault at a place of a text; lines and columns are counted from 1
 abbrev pub fault_at : List ℕ → ℕ → HexFault
 fault_at text place =
     let before = take place text in

@@ -4,7 +4,7 @@ use Rattle.hex.specs.Hex.{is_hex_digit}
 use Rattle.usb_hex.specs.Columns.{after_all, after_one, at_start, begins_gap, begins_numbers, is_blank, is_offset, next_line, offset_value}
 use Rattle.usb_hex.specs.Labels.{are_pairs}
 
--- so many digits of a kind are at the start of a text, and no other character but a gap after them
+-- `count` digits of a kind are at the start of a text, and no other character but a gap after them
 abbrev pub begins_group : ℕ → (ℕ → Bool) → List ℕ → Bool
 begins_group count is text =
     let rest = after_all is text in
@@ -36,7 +36,7 @@ abbrev pub is_count : ℕ → List ℕ → Bool
 is_count count text =
     begins_gap (after_all is_hex_digit text) && ((offset_value 16 0 text == count) || (offset_value 10 0 text == count))
 
--- Four digits or more, as an offset has, begin a line after so many bytes of a text without columns: before two bytes alone, or as the
+-- Four digits or more, as an offset has, begin a line after `count` bytes of a text without columns: before two bytes alone, or as the
 -- count of the bytes before.
 abbrev pub has_offset_after : ℕ → List ℕ → Bool
 has_offset_after count text =

@@ -38,7 +38,7 @@ pub enum HexFault {
     Memory,
 }
 
-/// The fault after so many characters of a text.
+/// The fault at a place of a text.
 pub(crate) fn fault_at(text: &[u8], place: usize) -> HexFault
     ensures { result ≡ fault_at text.now place }
 {
@@ -62,7 +62,7 @@ fn front(text: &[u8], count: usize) -> &[u8]
     }
 }
 
-/// What is after so many characters of a text.
+/// What is after `count` characters of a text.
 #[tactic(auto, using(std::proofs::lemmas::List::drop_all))]
 fn after(text: &[u8], count: usize) -> &[u8]
     ensures { result.now ≡ drop count text.now }
@@ -197,7 +197,7 @@ fn is_digit_letter(c: u8) -> bool
     digit(c).is_some() && !is_decimal(c)
 }
 
-/// The item at the start of a text, after so many bytes: the byte that it is, if it is one, and what is left.
+/// The item at the start of a text, after `count` bytes: the byte that it is, if it is one, and what is left.
 #[inline(always)]
 pub(crate) fn item(form: Form, count: usize, text: &[u8]) -> Option<(Option<u8>, &[u8])>
     ensures is { MatchOption result (item form count text.now ≡ None) (λ p. item form count text.now ≡ Some (p.0, p.1.now)) }
@@ -281,7 +281,7 @@ fn mark_or_byte(form: Form, c: u8, text: &[u8]) -> Option<(Option<u8>, &[u8])>
     }
 }
 
-/// What is left after the start of a line that isn't the first, after so many bytes.
+/// What is left after the start of a line that isn't the first, after `count` bytes.
 #[inline(always)]
 fn at_line(form: Form, count: usize, text: &[u8]) -> Option<&[u8]>
     ensures is { MatchOption result (at_line form count text.now ≡ None) (λ rest. at_line form count text.now ≡ Some rest.now) }

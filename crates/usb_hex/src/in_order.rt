@@ -22,7 +22,7 @@ pub(crate) fn colon_form(text: &[u8]) -> Form
     }
 }
 
-/// Whether the first visible character, in so many lines at most, is that of its byte.
+/// Whether the first visible character, in the first `lines` lines, is that of its byte.
 #[tactic(auto, using(crate::proofs::InOrder::next_in_order), unfolding(crate::specs::Columns::are_in_order))]
 fn are_in_order(lines: usize, text: &[u8]) -> bool
     ensures { result ≡ are_in_order lines text.now }

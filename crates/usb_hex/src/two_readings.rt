@@ -31,7 +31,7 @@ fn begins_words(text: &[u8]) -> bool
     begins_digits(4, text) || begins_digits(8, text) || begins_digits(16, text)
 }
 
-/// Whether a group of so many digits is at the start of a text.
+/// Whether a group of `count` digits is at the start of a text.
 fn begins_digits(count: usize, text: &[u8]) -> bool
     ensures { result ≡ begins_group count is_hex_digit text.now }
 {
@@ -100,7 +100,7 @@ fn is_counted(radix: u8, text: &[u8]) -> bool
             == u128::from(offset_value(radix, text)) + count as u128
 }
 
-/// Whether what could be an offset begins a line after so many bytes of a text without columns.
+/// Whether what could be an offset begins a line after `count` bytes of a text without columns.
 #[tactic(auto, using(crate::proofs::ColumnLines::empty_has_no_offset))]
 pub(crate) fn has_offset_after(count: usize, text: &[u8]) -> bool
     ensures { result ≡ has_offset_after count text.now }

@@ -142,7 +142,7 @@ for_memory (Err e) text f l h = want_of_memory text f e.line e.why l h
 
 -- ---- no line behind the first one at fault is reached
 
--- how many lines stand before the one in work, or the one at fault
+-- how many lines stand before the current one, or the one at fault
 abbrev lines_walked : Walk → ℕ
 lines_walked (going s n line) = n
 lines_walked (stopped n why) = n

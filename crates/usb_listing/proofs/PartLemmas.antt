@@ -1,4 +1,4 @@
--- The parts of a file in order: what stands before the sets in work, these sets, and the strings.
+-- The parts of a file in order: what stands before the current sets, these sets, and the strings.
 use Rattle.std.proofs.Common.{◌≡◌, ℕ, ◌≤◌, ◌||◌, Bool, true, false, List, [], ◌∷◌, ◌++◌, Option, Some, None, length, refl, ap, sym, ◌∙◌, append-nil, append_assoc, arith}
 use Rattle.std.specs.List.{AllByRecursion, flat_map, list_any}
 use Rattle.std.proofs.lemmas.Bool.{or_from, or_parts}
@@ -59,7 +59,7 @@ any_parts p xs x e =
 abbrev pub made : DeviceDescriptor → List Configuration → Option Other → Option Strings → DescriptorFile
 made d ss o s = record { device = d; sets = ss; other = o; strings = s }
 
--- the kind of the sets in work
+-- the kind of the current sets
 abbrev pub kind_of : Option Other → SetKind
 kind_of None = kinds.Configuration
 kind_of (Some o) = kinds.OtherSpeed
@@ -71,7 +71,7 @@ pub record Part (kind : SetKind) (count : ℕ) (cs : List Configuration) : Type 
   pub kinds : list_any (is_other_kind kind) cs ≡ false
   pub few : length cs ≤ count
 
--- the descriptors before the sets in work, and what is so of the sets among them
+-- the descriptors before the current sets, and what is so of the sets among them
 abbrev pub head_items : DeviceDescriptor → List Configuration → Option Other → List Item
 head_items d ss None = fields words.Device (device_bytes d) ∷ []
 head_items d ss (Some o) = fields words.Device (device_bytes d) ∷ flat_map set_items ss ++ fields words.Qualifier (qualifier_bytes o.qualifier) ∷ []
@@ -130,7 +130,7 @@ items_open d ss (Some o) cs =
     let q = fields words.Qualifier (qualifier_bytes o.qualifier) in
     append-nil (front ++ q ∷ flat_map set_items cs) ∙ sym (append_assoc front (q ∷ []) (flat_map set_items cs))
 
--- the sets in work as they are
+-- the current sets as they are
 pub same_sets : (d : DeviceDescriptor) (ss : List Configuration) (o : Option Other) → with_sets (open_sets (made d ss o None) o) (made d ss o None) o ≡ made d ss o None
 same_sets d ss None = refl
 same_sets d ss (Some o) = refl

@@ -43,7 +43,7 @@ kept_of line = if is_dropped (without_return line) then [] else without_return l
 abbrev pub uncommented : List ℕ → List ℕ
 uncommented text = flat_map kept_of (whole_lines text) ++ last_piece (pieces text)
 
--- how many of the lines, kept or dropped, are before the one that so many kept ones are before
+-- how many of the lines, kept or dropped, are before the one that `kept` kept ones are before
 abbrev pub lines_before : List (List ℕ) → ℕ → ℕ
 lines_before [] kept = kept
 lines_before (line ∷ lines) zero = if is_dropped (without_return line) then suc (lines_before lines zero) else zero

@@ -180,7 +180,7 @@ fn has_all_other(other: &Option<Other>) -> bool
     }
 }
 
-/// Whether no string is due any more, of so many in all.
+/// Whether no string is due any more, of `total`.
 fn has_all_strings(f: &DescriptorFile, strings: &Option<Strings>, total: usize) -> bool
     ensures { result ≡ has_all_strings f.now strings.now total }
 {

@@ -110,7 +110,7 @@ fn write_before(alloc: Global, f: &mut DescriptorFile, out: &mut Vec<u8>) -> Res
     }
 }
 
-/// Does so where the last line began a part: before it, this was the part, with so many sets.
+/// Does so where the last line began a part: before it, this was the part, with `sets` sets.
 fn write_if_begun(
     alloc: Global,
     draft: &mut Option<Draft>,

@@ -149,7 +149,7 @@ fn add_fields(
     }
 }
 
-/// How many bytes the last set has with a descriptor of this word, of so many bytes.
+/// How many bytes the last set has with a descriptor of this word, of `length` bytes.
 fn work_with(work: usize, word: Word, length: usize) -> usize
     requires work { work ≤ 65535 }
     requires length { length ≤ 255 }

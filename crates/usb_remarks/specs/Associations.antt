@@ -16,12 +16,12 @@ has_association ds = list_any is_association ds
 abbrev pub is_whole : List ℕ → Bool
 is_whole b = let total = little_endian_at b 2 in nat_le 9 total && nat_le total (length b)
 
--- so do they with so many, one after another
+-- so do they with n, one after another
 unfoldable pub are_whole : ℕ → List ℕ → Bool
 are_whole zero b = true
 are_whole (suc n) b = is_whole b && are_whole n (drop (little_endian_at b 2) b)
 
--- the first so many sets have one, as far as they are there; or have none, where they all are
+-- the first `sets` sets have one, as far as they are there; or have none, where they all are
 abbrev pub associations_in : ℕ → List ℕ → Option Bool
 associations_in sets after =
     if has_association (descriptors (sets_ahead sets after)) then Some true

@@ -21,30 +21,38 @@ use Rattle.usb_walk.specs.Roles.{next_role}
 use Rattle.usb_remarks.specs.SetStart.{entered}
 use Rattle.usb_remarks.specs.Standings.{passed, start}
 
--- A descriptor of an input: its place in bytes and among sets, settings and endpoints, its bytes, what it is, how deep and whose,
--- its speed, and what is found there. Then how many associations of its set come before it; the first one of its set that binds an
--- interface of its number; the first interface that it names and its set lacks; whether an interface of its number follows in its
--- set; what the interface is that it follows; how many strings come before it; the bytes of its set after it, where they are all
--- there. Then whether it is an association after an interface that it binds; of a device or a qualifier whether its sets have
--- associations, where that is known; and of a qualifier the speed of the sets before and after it, if both have one.
+-- A descriptor of an input.
 pub record Described : Type 0 where
+  -- where it begins, in bytes and among sets, settings and endpoints
   pub at : ℕ
   pub place : Place
   pub bytes : List ℕ
+  -- what it is, how deep, and whose
   pub role : Role
   pub depth : ℕ
   pub owner : Option DescriptorOwner
+  -- the speed of its set, or its own
   pub speed : SetSpeed
   pub findings : List Found
+  -- how many associations of its set come before it
   pub associations : ℕ
+  -- the first association of its set that binds an interface of its number
   pub association : Option ℕ
+  -- the first interface that it names and its set lacks
   pub missing : Option ℕ
+  -- a later interface of its set has its number
   pub follows : Bool
+  -- the codes of the interface that it follows
   pub interface : Option ClassCodes
+  -- how many strings come before it
   pub string : ℕ
+  -- the bytes of its set after it, where they are all there
   pub rest : Option (List ℕ)
+  -- it is an association, after an interface that it binds
   pub is_late : Bool
+  -- of a device or a qualifier: its sets have associations, where that is known
   pub has_associations : Option Bool
+  -- of a qualifier: the speed of the sets before and after it, if both have one
   pub one_speed : Option SetSpeed
 
 -- that which a descriptor of the code says
@@ -122,7 +130,7 @@ left_next running s found ahead next = drop (length (found_at (here running s ah
 abbrev pub after_next : Option SetSpeed → Standing → List ℕ → Role × ℕ → Standing
 after_next running s ahead next = passed next.0 (take next.1 ahead) (here running s ahead next)
 
--- the descriptors from here on, at most so many
+-- the descriptors from here on, at most n
 unfoldable pub first_entries : ℕ → Option SetSpeed → Standing → List Found → List ℕ → List Entry
 first_entries zero running s found ahead = []
 first_entries (suc n) running s found ahead =

@@ -51,7 +51,7 @@ WholeHasNoRest =
     (running : Option SetSpeed) (input : Input) (b : List ℕ) → IsInput input b →
     end_of running (found_in_order input) b ≡ length b
 
--- of bytes that are no input, the descriptors before the place of the fault come up to it but for so many bytes
+-- of bytes that are no input, the descriptors before the place of the fault come up to it, but for `most_uncovered` bytes at most
 abbrev pub BrokenCoversUpToFault : Type 0
 BrokenCoversUpToFault =
     (running : Option SetSpeed) (fault : InputFault) (b : List ℕ) → AreBytes b → InputRefused b fault →

@@ -100,11 +100,11 @@ counts_transactions FullOrHigh Isochronous = true
 counts_transactions FullOrHigh Interrupt = true
 counts_transactions _ _ = false
 
--- the least size of packets of which a microframe has so many more (table 9-14)
+-- the least size of packets of which a microframe has `more` after the first (table 9-14)
 abbrev pub least_size : ℕ → ℕ
 least_size more = if more == 1 then 513 else if more == 2 then 683 else 0
 
--- where they count, 3 is reserved, and packets have the size of so many
+-- where they count, 3 is reserved, and packets have the size that `more` of them need
 abbrev pub counted_remark : ℕ → ℕ → Option Remark
 counted_remark more size =
     if more == 3 then Some remarks.ReservedMultiple

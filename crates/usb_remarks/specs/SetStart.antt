@@ -57,7 +57,7 @@ speed_after_qualifier b =
 abbrev pub after_own_sets : List ℕ → List ℕ
 after_own_sets ahead = after_sets (slice_index ahead 17) (drop 18 ahead)
 
--- the first so many sets with which bytes begin, as far as they are there
+-- the first n sets with which bytes begin, as far as they are there
 abbrev pub sets_ahead : ℕ → List ℕ → List ℕ
 sets_ahead n b = take (length b - length (after_sets n b)) b
 

@@ -29,7 +29,7 @@ fn is_whole(b: &[u8]) -> bool
     total >= 9 && total <= b.len()
 }
 
-/// Whether they begin with so many such sets, one after another.
+/// Whether they begin with this many such sets, one after another.
 #[tactic(auto, using(crate::proofs::AssociationSteps::whole_none, crate::proofs::AssociationSteps::whole_step))]
 fn are_whole(sets: u8, b: &[u8]) -> bool
     ensures { result ≡ are_whole sets b.now }
@@ -43,7 +43,7 @@ fn are_whole(sets: u8, b: &[u8]) -> bool
     }
 }
 
-/// Whether the first so many sets have an association, as far as they are there; or have none, where they all are.
+/// Whether the first `sets` sets have an association, as far as they are there; or have none, where they all are.
 fn associations_in(sets: u8, behind: &[u8]) -> Option<bool>
     ensures { result ≡ associations_in sets behind.now }
 {

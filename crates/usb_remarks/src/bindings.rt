@@ -62,7 +62,7 @@ impl Bindings {
         }
     }
 
-    /// Adds a descriptor after so many associations, which binds interfaces where it is one. Answers how many there are then.
+    /// Adds a descriptor after `count` associations, which binds interfaces where it is one. Answers how many there are then.
     pub(crate) fn add(&mut self, count: u16, d: &[u8]) -> u16
         requires { count + 1 < 2 ^ 16 }
         ensures cells { length self.old ≡ 256 → length self.new ≡ 256 }
@@ -76,7 +76,7 @@ impl Bindings {
         count + 1
     }
 
-    /// Binds those of so many numbers that no earlier association binds.
+    /// Binds those of `count` numbers that no earlier association binds.
     #[tactic(auto, using(crate::proofs::Tables::cell_at))]
     fn bind(&mut self, association: u16, first: u8, count: u8)
         requires { association + 1 < 2 ^ 16 }
@@ -87,7 +87,7 @@ impl Bindings {
     }
 }
 
-/// Binds those of so many numbers that no earlier association binds, where each number below one is bound. Answers the one
+/// Binds those of `count` numbers that no earlier association binds, where each number below one is bound. Answers the one
 /// below which each is bound then.
 #[tactic(auto, using(crate::proofs::Tables::none_bound, crate::proofs::Tables::cell_bound, crate::proofs::Tables::still_bound, crate::proofs::Tables::now_bound))]
 fn bind_more(cells: &mut [u16; 256], bound: usize, association: u16, first: u8, count: u8) -> usize

@@ -66,7 +66,7 @@ impl InterfaceNumbers {
         }
     }
 
-    /// Whether an interface has one of so many numbers from the first on.
+    /// Whether an interface has one of `count` numbers from the first on.
     #[tactic(auto, using(crate::proofs::NumberSteps::any_none, crate::proofs::NumberSteps::any_step))]
     fn has_any(&self, first: usize, count: u8) -> bool
         requires { first + count < 2 ^ 64 }

@@ -131,7 +131,7 @@ pub enum Remark {
     SmallMultiple {
         /// How many transactions they count.
         transactions: u8,
-        /// The least size of so many.
+        /// The least size of that many.
         least: u16,
         /// Their size.
         found: u16,
@@ -311,7 +311,7 @@ fn counts_transactions(speed: SetSpeed, transfer: TransferType) -> bool
     }
 }
 
-/// The least size of the packets of which bits 12 to 11 of wMaxPacketSize count so many more (USB 2.0, table 9-14).
+/// The least size of the packets of which bits 12 to 11 of wMaxPacketSize count this many more (USB 2.0, table 9-14).
 fn least_size(more: u8) -> u16
     ensures { result ≡ least_size more }
 {
@@ -322,7 +322,7 @@ fn least_size(more: u8) -> u16
     }
 }
 
-/// A remark on a packet of this size, of which a microframe has so many more.
+/// A remark on a packet of this size, of which a microframe has `more` after the first.
 fn counted_remark(more: u8, size: u16) -> Option<Remark>
     requires { more < 4 }
     ensures { result ≡ counted_remark more size }

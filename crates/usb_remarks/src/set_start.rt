@@ -147,7 +147,7 @@ fn own_sets(ahead: &[u8]) -> &[u8]
     sets_ahead(byte_at(ahead, 17), after(ahead, 18))
 }
 
-/// The first so many sets with which bytes begin, as far as they are there.
+/// The first `sets` sets with which bytes begin, as far as they are there.
 pub(crate) fn sets_ahead(sets: u8, b: &[u8]) -> &[u8]
     ensures { result.now ≡ sets_ahead sets b.now }
 {

@@ -198,7 +198,7 @@ grown old tree total place c new item is w some is_new =
     ap (λ (x : Configuration). partial_of (Some x) total (place + length item)) (is_new ∙ ap (λ (z : List ℕ). attach c (record { kind = get_or item 1 0; body = z })) body)
     ∙ sym (ap (λ (r : Reading). past r item) (in_later old tree total place c is w some))
 
--- ---- the descriptor in work, where it is put together
+-- ---- the current descriptor, where it is put together
 
 pub first_is : (current : List ℕ) (d : ℕ) → 0 < length current → get_or current 0 d ≡ first_byte current
 first_is [] d some = absurd (omega arith)

@@ -94,7 +94,7 @@ endpoints_of c = flat_map endpoints_in c.settings
 abbrev pub with_setting : Bor Setting × Bor Endpoint → Setting × Endpoint
 with_setting p = (p.0.now, p.1.now)
 
--- the endpoints of these settings, less so many of the first
+-- the endpoints of these settings, without the first `given` of the first one
 abbrev pub endpoints_from : List Setting → ℕ → List (Setting × Endpoint)
 endpoints_from [] given = []
 endpoints_from (s ∷ later) given = map (λ e. (s, e)) (drop given s.endpoints) ++ flat_map endpoints_in later

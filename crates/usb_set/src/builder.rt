@@ -38,7 +38,7 @@ pub fn begin_set(alloc: Global, header: &[u8]) -> Result<Configuration, AllocErr
     read_configuration(alloc, header)
 }
 
-/// What is wrong with a whole descriptor as the set's next one, where it has room for so many bytes more.
+/// What is wrong with a whole descriptor as the set's next one, where it has room for `room` bytes more.
 ///
 /// ```rust
 /// // An endpoint before any interface.

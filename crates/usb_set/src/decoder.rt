@@ -86,7 +86,7 @@ impl Decoder {
         self.feed_on(piece)
     }
 
-    /// Keeps a piece that neither ends the descriptor in work nor can show a fault. So a short piece costs little.
+    /// Keeps a piece that neither ends the current descriptor nor can show a fault. So a short piece costs little.
     #[inline(always)]
     fn keeps(&mut self, piece: &[u8]) -> bool
         ensures kept { result ≡ true → Answers self.old piece.now (Ok More) self.new }

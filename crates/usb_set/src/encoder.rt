@@ -64,7 +64,7 @@ pub fn encode_onto(c: &Configuration, out: &mut Vec<u8>) -> Result<(), EncodeFau
     Ok(())
 }
 
-/// Adds the bytes of a set that has so many.
+/// Adds the bytes of a set, of which there are `total`.
 fn add_set(out: &mut Vec<u8>, c: &Configuration, total: u16) -> Result<(), AllocError>
     requires { HasLength c.now total }
     ensures ok { OnOk result (out.new.items ≡ out.old.items ++ set_bytes c.now total) }
@@ -76,7 +76,7 @@ fn add_set(out: &mut Vec<u8>, c: &Configuration, total: u16) -> Result<(), Alloc
     Ok(())
 }
 
-/// Adds so many zeros, filled in a stretch at a time.
+/// Adds `count` zeros, filled in a stretch at a time.
 fn add_zeros(out: &mut Vec<u8>, count: usize) -> Result<(), AllocError>
     ensures ok { OnOk result (length out.new.items ≡ length out.old.items + count) }
     ensures front { take (length out.old.items) out.new.items ≡ out.old.items }

@@ -34,7 +34,7 @@ impl<'a> Owner<'a> {
 /// The settings and endpoints of a set in the order of its bytes.
 #[derive(Clone, Copy, Debug)]
 pub(crate) struct Owners<'a> {
-    /// The setting in work.
+    /// The current setting.
     pub(crate) setting: Option<&'a Setting>,
     /// Its endpoints that are still to come.
     pub(crate) endpoints: &'a [Endpoint],
@@ -70,7 +70,7 @@ impl<'a> Iterator for Owners<'a> {
 /// [`Configuration::endpoints`] goes over.
 #[derive(Clone, Copy, Debug)]
 pub struct Endpoints<'a> {
-    /// The settings from the one in work on.
+    /// The settings from the current one on.
     settings: &'a [Setting],
     /// How many endpoints of the first of them were given.
     given: usize,
@@ -122,7 +122,7 @@ impl<'a> Iterator for Endpoints<'a> {
 /// over.
 #[derive(Clone, Copy, Debug)]
 pub struct Extras<'a> {
-    /// The owner in work.
+    /// The current owner.
     owner: Owner<'a>,
     /// Its extras that are still to come.
     extras: &'a [Extra],

@@ -50,7 +50,7 @@ impl Partial {
         self.place == self.total && self.tree.is_some()
     }
 
-    /// Where the descriptor in work starts.
+    /// Where the current descriptor starts.
     pub(crate) fn place(&self) -> usize
         ensures value { result ≡ place_of self.now }
         ensures bound { result ≤ 65535 }
@@ -61,7 +61,7 @@ impl Partial {
         }
     }
 
-    /// Out of memory for the descriptor in work.
+    /// Out of memory for the current descriptor.
     pub(crate) fn out_of_memory(&self) -> SetFault
         ensures { IsWanting (place_of self.now) result }
     {
@@ -71,7 +71,7 @@ impl Partial {
         }
     }
 
-    /// The fault that the bytes of the descriptor in work show, as many as are there.
+    /// The fault that the bytes of the current descriptor show, as many as are there.
     #[inline(always)]
     pub(crate) fn fault_in(&self, bytes: &[u8]) -> Option<SetFault>
         requires { InWork self.now }
@@ -95,7 +95,7 @@ impl Partial {
         }
     }
 
-    /// The same where the first of the bytes, so many, show no fault.
+    /// The same where the first `before` bytes show no fault.
     pub(crate) fn fault_in_more(&self, before: usize, bytes: &[u8]) -> Option<SetFault>
         requires work { InWork self.now }
         requires within { before ≤ length bytes.now }

@@ -13,10 +13,10 @@ use arrayvec::ArrayVec;
 use std::alloc::Global;
 use std::marker::Model;
 
-/// What the descriptor in work met in the bytes that follow.
+/// What the current descriptor met in the bytes that follow.
 #[derive(Clone, Copy, Debug)]
 pub(crate) enum Step {
-    /// Its end, after so many of them.
+    /// Its end, after this many of them.
     Took(u32),
     /// The end of the bytes.
     Cut,
@@ -43,7 +43,7 @@ impl Model for Reader {
     ghost invariant = { λ r. GoesOn (with_current r.partial r.current.items) };
 }
 
-/// Adds bytes of the descriptor in work.
+/// Adds bytes of the current descriptor.
 #[inline(always)]
 fn keep(current: &mut ArrayVec<u8, 255>, bytes: &[u8])
     requires { array_vec_len current.old + length bytes.now ≤ 255 }
@@ -76,7 +76,7 @@ impl Reader {
         self.partial.is_done()
     }
 
-    /// Keeps a piece that ends before the descriptor in work does, where it can show no fault: four
+    /// Keeps a piece that ends before the current descriptor does, where it can show no fault: four
     /// bytes of that descriptor were there. So a single byte costs little.
     #[inline(always)]
     pub(crate) fn keeps(&mut self, piece: &[u8]) -> bool
@@ -111,7 +111,7 @@ impl Reader {
         Ok(Progress::More)
     }
 
-    /// Reads on, to the end of the descriptor in work or to that of the bytes.
+    /// Reads on, to the end of the current descriptor or to that of the bytes.
     #[inline(always)]
     fn step(&mut self, bytes: &[u8]) -> Step
         requires { InWork self.old }

@@ -12,7 +12,7 @@ pub data Shown : Type 0 where
   Units : List ℕ → Shown
   -- a name, or other characters that are not of the line's own words
   Name : List ℕ → Shown
-  -- so many spaces, at the start of a line
+  -- this many spaces, at the start of a line
   Indent : ℕ → Shown
   End : Shown
 

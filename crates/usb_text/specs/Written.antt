@@ -38,7 +38,7 @@ pub record Written : Type 0 where
 abbrev pub written : LineBytes → Written
 written lines = record { utf8 = lines.utf8; ended = count_by is_line_feed lines.bytes }
 
--- with so many lines more
+-- with `count` lines more
 abbrev pub more_lines : ℕ → Written → Written
 more_lines count lines = record { utf8 = lines.utf8; ended = lines.ended + count }
 
@@ -48,13 +48,13 @@ is_whole [] = true
 is_whole (x ∷ []) = is_line_feed x
 is_whole (x ∷ y ∷ rest) = is_whole (y ∷ rest)
 
--- a text of so many lines, each of which has ended
+-- a text of `count` lines, each of which has ended
 pub record AreLines (utf8 : Bool) (count : ℕ) (text : List ℕ) : Type 0 where
   pub characters : list_all (is_of_lines utf8) text ≡ true
   pub ended : count_by is_line_feed text ≡ count
   pub whole : is_whole text ≡ true
 
--- the writer gained so many lines
+-- the writer gained `count` lines
 pub record WritesLines (utf8 : Bool) (count : ℕ) (old new : Held) : Type 0 where
   pub text : List ℕ
   pub lines : AreLines utf8 count text

@@ -16,7 +16,7 @@ use std::io::Write;
 use std::marker::Model;
 use usb_fields::known_bytes;
 
-/// Lines of so many bytes are passed on to the writer.
+/// Lines of this many bytes or more are passed on to the writer.
 const FULL: usize = 32 * 1024;
 
 /// What `with_room` has room for: as many, and the lines of one descriptor more.

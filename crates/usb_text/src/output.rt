@@ -69,7 +69,7 @@ pub fn write_all<W: Write>(w: &mut W, bytes: &[u8]) -> Result<(), OutFault>
     Ok(())
 }
 
-/// A text of so many bytes is passed on to the writer.
+/// A text of this many bytes or more is passed on to the writer.
 const FULL: usize = 32 * 1024;
 
 impl Text {

@@ -49,11 +49,11 @@ pub trait Page {
         requires { IsTrue (is_words characters.now) }
         ensures { OnOk result (seen self.new ≡ showing (Name characters.now) (seen self.old)) };
 
-    /// Puts so many spaces, with which a line begins.
+    /// Puts `count` spaces, with which a line begins.
     fn put_indent(&mut self, count: usize) -> Result<(), AllocError>
         ensures { OnOk result (seen self.new ≡ showing (Indent count) (seen self.old)) };
 
-    /// Puts so many spaces, with which a line begins, and a name in a column of this width.
+    /// Puts `indent` spaces, with which a line begins, and a name in a column of this width.
     fn put_indented_column(
         &mut self,
         indent: usize,

@@ -12,7 +12,7 @@ use std::marker::Model;
 /// As many spaces as the start of a line has.
 const SPACES: [u8; 48] = [b' '; 48];
 
-/// Room is made for so many bytes at least, and for as many as there are up to the most.
+/// Room is made for this many bytes at least, and for as many as there are up to the most.
 const ROOM: usize = 512;
 
 const MOST_ROOM: usize = 8 * 1024;
@@ -54,7 +54,7 @@ impl Text {
         }
     }
 
-    /// An empty text with room for so many bytes.
+    /// An empty text with room for `room` bytes.
     ///
     /// # Errors
     ///
@@ -68,7 +68,7 @@ impl Text {
         })
     }
 
-    /// Makes room for so many bytes more, so that what is put next makes none.
+    /// Makes room for `count` bytes more, so that what is put next makes none.
     pub(crate) fn reserve(&mut self, count: usize) -> Result<(), AllocError>
         ensures { OnOk result (self.new ≡ self.old) }
     {
@@ -139,7 +139,7 @@ impl Text {
         Ok(())
     }
 
-    /// Puts so many spaces.
+    /// Puts `count` spaces.
     #[inline]
     #[tactic(auto, using(crate::proofs::Columns::spaces_behind))]
     pub fn put_spaces(&mut self, count: usize) -> Result<(), AllocError>
@@ -237,7 +237,7 @@ impl Text {
         self.put_indented_column(0, words, width)
     }
 
-    /// Puts so many spaces, and words in a column of this width.
+    /// Puts `indent` spaces, and words in a column of this width.
     ///
     /// ```rust
     /// text.put_indented_column(2, "> IN", 7)?;
@@ -299,7 +299,7 @@ fn digit(number: u64) -> u8
     b'0' + number as u8
 }
 
-/// Makes room for so many bytes behind those that are used.
+/// Makes room for `count` bytes behind those that are used.
 #[inline(always)]
 #[tactic(auto, using(crate::proofs::Columns::still_used))]
 fn make_room(bytes: &mut Vec<u8>, used: usize, count: usize) -> Result<(), AllocError>
@@ -315,7 +315,7 @@ fn make_room(bytes: &mut Vec<u8>, used: usize, count: usize) -> Result<(), Alloc
     }
 }
 
-/// Makes it longer by so many bytes at least, apart since it is seldom called.
+/// Makes it longer by `count` bytes at least, apart since it is seldom called.
 #[cold]
 #[inline(never)]
 fn lengthen(bytes: &mut Vec<u8>, count: usize) -> Result<(), AllocError>

@@ -45,7 +45,7 @@ success_line run =
     codes "success attempts " ++ decimal run.attempts ++ codes " transactions " ++ decimal run.transactions
     ++ codes " address " ++ decimal run.state.address ++ codes " value " ++ decimal run.state.selected ++ 10 ∷ []
 
--- after trouble: the number of its reason, the step that was in work, and how many attempts and transactions there were
+-- after trouble: the number of its reason, the step that it was at, and how many attempts and transactions there were
 unfoldable pub trouble_line : Trouble → Run → List ℕ
 trouble_line trouble run =
     codes "trouble " ++ decimal (why_number trouble.why) ++ codes " " ++ step_text trouble.step

@@ -58,7 +58,7 @@ HasBadSpeed o = running_said o.speed ≡ None
 
 -- What `explain` tells of its input.
 
--- what is before the explanation of so many bytes that were hexadecimal text
+-- what is before the explanation of n bytes that were hexadecimal text
 unfoldable pub hexadecimal_words : ℕ → List ℕ
 hexadecimal_words n = codes "hexadecimal text, " ++ count n (codes "byte") ++ codes ": "
 

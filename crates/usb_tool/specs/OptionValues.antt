@@ -11,7 +11,7 @@ use Rattle.usb_bus.specs.declared.fate.Fate.TheVariants.{Pass, Busy, LostDown, L
 use Rattle.usb_tool.specs.declared.settings.FatesFault.{FatesFault}
 use Rattle.usb_tool.specs.declared.settings.FatesFault.TheVariants as faults
 
--- the number of so many bits that decimal digits write, after one plus or none
+-- the number of `bits` bits that decimal digits write, after one plus or none
 abbrev pub number_of : ℕ → List ℕ → Option ℕ
 number_of bits text =
     let digits = without_leading_plus text in

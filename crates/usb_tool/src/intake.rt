@@ -60,7 +60,7 @@ impl Intake {
         }
     }
 
-    /// The set or the file that all of the `count` bytes are.
+    /// The set or the file, if it is exactly `count` bytes long.
     ///
     /// # Errors
     ///
@@ -127,7 +127,7 @@ impl SetIntake {
         Ok(())
     }
 
-    /// The set that all of the `count` bytes are.
+    /// The set, if it is exactly `count` bytes long.
     ///
     /// # Errors
     ///

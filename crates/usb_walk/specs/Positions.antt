@@ -99,7 +99,7 @@ noted Raw d p = p
 noted Languages d p = record p { has_languages = true }
 noted Text d p = record p { strings = p.strings + 1 }
 
--- so many bytes further on
+-- n bytes further on
 abbrev pub moved : ℕ → Position → Position
 moved n p = record p { at = p.at + n; left = p.left - n }
 

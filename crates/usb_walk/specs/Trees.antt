@@ -26,12 +26,12 @@ use Rattle.usb_walk.specs.Owners.{of_endpoint, of_interface, of_set}
 
 -- Descriptors one after another, each as long as its first byte says (USB 2.0, 9.5).
 
--- bLength of the descriptor that the bytes begin with, where it is 2 at least and so many bytes are there
+-- bLength of the descriptor that the bytes begin with, where it is 2 at least and all of its bytes are there
 abbrev pub descriptor_length : List ℕ → Option ℕ
 descriptor_length [] = None
 descriptor_length (len ∷ rest) = if nat_lt len 2 || nat_lt (length rest + 1) len then None else Some len
 
--- the first descriptors, at most so many
+-- the first descriptors, at most n
 abbrev pub first_descriptors : ℕ → List ℕ → List (List ℕ)
 first_descriptors zero b = []
 first_descriptors (suc n) b =

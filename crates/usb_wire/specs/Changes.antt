@@ -19,7 +19,7 @@ ones (false ∷ u) = ones u
 abbrev pub changed : List ℕ → List ℕ → ℕ
 changed sent received = ones (changes (bits sent) (bits received))
 
--- some bits are changed, and all of these lie among so many in a row
+-- some bits are changed, and all of these lie among `most` in a row
 pub record IsBurst (most : ℕ) (sent received : List ℕ) : Type 0 where
   pub before : List Bool
   pub was : List Bool
@@ -31,7 +31,7 @@ pub record IsBurst (most : ℕ) (sent received : List ℕ) : Type 0 where
   pub short : length was ≤ most
   pub some : was ≢ became
 
--- so many changed bits
+-- at least one changed bit, and at most `most`
 abbrev pub AreFew : ℕ → List ℕ → List ℕ → Type 0
 AreFew most sent received = (0 < changed sent received) × (changed sent received ≤ most)
 

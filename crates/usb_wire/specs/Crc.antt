@@ -13,7 +13,7 @@ differ true true = false
 abbrev pub low_bit : ℕ → Bool
 low_bit n = n % 2 == 1
 
--- so many bits of a number, the lowest first: fields are sent in this order (8.1)
+-- the k lowest bits of a number, the lowest first: fields are sent in this order (8.1)
 abbrev pub low_bits : ℕ → ℕ → List Bool
 low_bits zero n = []
 low_bits (suc k) n = low_bit n ∷ low_bits k (n / 2)
@@ -48,7 +48,7 @@ token_register u = register token_generator 0x1f u
 abbrev pub data_register : List Bool → ℕ
 data_register u = register data_generator 0xffff u
 
--- the 5-bit CRC of a field of so many bits, and the 16-bit CRC of data: the remainder, inverted (8.3.5)
+-- the 5-bit CRC of a field of `width` bits, and the 16-bit CRC of data: the remainder, inverted (8.3.5)
 abbrev pub token_crc : ℕ → ℕ → ℕ
 token_crc width n = 0x1f - token_register (low_bits width n)
 

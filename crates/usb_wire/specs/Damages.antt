@@ -35,7 +35,7 @@ pid_read b = if b / 16 == 15 - b % 16 then pid_numbered (b % 16) else Err damage
 
 -- What follows a PID.
 
--- so many bytes that end in a 5-bit CRC
+-- n bytes that end in a 5-bit CRC
 abbrev pub token_damage : ℕ → List ℕ → Option Damage
 token_damage n b =
     if length b == n then (if token_register (bits b) == token_residual then None else Some damages.Crc5)

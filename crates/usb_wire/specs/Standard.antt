@@ -12,7 +12,7 @@ abbrev pub standard_register : ℕ → ℕ → ℕ → List Bool → ℕ
 standard_register k polynomial r [] = r
 standard_register k polynomial r (b ∷ u) = standard_register k polynomial (standard_step k polynomial r b) u
 
--- so many low bits of a number in the other order
+-- the k lowest bits of a number in the other order
 abbrev pub mirrored : ℕ → ℕ → ℕ
 mirrored zero n = 0
 mirrored (suc k) n = n % 2 * 2 ^ k + mirrored k (n / 2)

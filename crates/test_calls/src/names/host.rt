@@ -54,7 +54,7 @@ fn heard_number(heard: Heard<'_>) -> (u8, usize) {
     }
 }
 
-/// The transaction that is due.
+/// The next transaction.
 fn due(action: Action) -> Option<Transaction<'static>> {
     match action {
         Action::Reset => None,

@@ -35,7 +35,7 @@ use Rattle.usb_bus.specs.inside.Running.{GoesWell}
 
 -- How attempts of a plan end.
 
--- How a series stands after so many losses and so many Busy, with this limit of NAKs and of attempts. A success has all
+-- How a series stands after these many losses and Busy, with this limit of NAKs and of attempts. A success has all
 -- replies and left the device in the last state. A failure has used all attempts, with a loss of its own for each, or a whole
 -- measure of NAKs.
 abbrev pub Verdict : ℕ → ℕ → List Reply → State → ℕ → ℕ → ℕ → Attempt → Phase → Type 0

@@ -32,7 +32,7 @@ use Rattle.usb_bus.specs.Run.{fate_at, due_in}
 
 -- A run, and what is done at each of its steps.
 
--- what is done at a step from one pair to the next, after which there were so many transactions: from this to that
+-- what is done at a step from one pair to the next, after which there were this many transactions: from this to that
 abbrev pub StepWork : Type 0 → Type 1
 StepWork W = Pair → Pair → ℕ → W → W → Type 0
 
@@ -42,7 +42,7 @@ AllWork does [] n last from to = to ≡ from
 AllWork {W} does (x ∷ earlier) n last from to =
     (mid : W) × AllWork does earlier (count_before (wanted x.host.phase) n) x from mid × does x last n mid to
 
--- so many transactions lead from a new pair to this one, and this was done at each step
+-- n transactions lead from a new pair to this one, and this was done at each step
 pub record Leads {W : Type 0} (f : DescriptorFile) (new : Pair) (fates : List Fate) (does : StepWork W) (n : ℕ) (last : Pair) (from to : W) : Type 0 where
   pub earlier : List Pair
   pub runs : Runs f fates new earlier n last
@@ -93,7 +93,7 @@ view_of c = record {
   device = c.device.device;
 }
 
--- the packet size is the device's, and the transactions of so many requests are numbered
+-- the packet size is the device's, and the transactions of all its requests can be counted
 abbrev pub IsConversation : Inside → Type 0
 IsConversation c =
     (c.packet ≡ c.device.description.file.device.packet) × (0 < c.packet)
@@ -124,7 +124,7 @@ abbrev pub AreDue : (List Reply → Plan) → ℕ → (List Reply → List ℕ) 
 AreDue plan naks sends answer cut fates k n x =
     (i : ℕ) → i < n → (sent : Sent) × (let y = point plan naks sends answer cut fates k i x in due_in (sends y.replies) y.phase ≡ Some sent)
 
--- From transaction `before` on, so many transactions lead from these two ends to those, whatever plan the transfer with these
+-- From transaction `before` on, the transactions up to `now` lead from these two ends to those, whatever plan the transfer with these
 -- data is part of, and whatever comes after.
 abbrev pub LeadsTo : (State → SetupPacket → Outcome) → ℕ → List ℕ → List Fate → ℕ → HostEnd → DeviceView → ℕ → HostEnd → DeviceView → Type 0
 LeadsTo answer cut bytes fates before h d now h' d' =
@@ -134,7 +134,7 @@ LeadsTo answer cut bytes fates before h d now h' d' =
     × ((m : ℕ) → point plan naks sends answer cut fates before (n + m) start
     ≡ point plan naks sends answer cut fates now m (advance plan naks sends replies h' h'.transfer.stage d')))
 
--- What a transfer that has ended brings to the talk, where so many of wLength bytes went to the device: a reply, or the
+-- What a transfer that has ended brings to the talk, where `sent` of wLength bytes went to the device: a reply, or the
 -- reason why the talk stops.
 abbrev pub settled : ℕ → ℕ → List ℕ → Option Why → Result Reply Why
 settled length sent got None = Ok (if length == sent then replied.Done else replied.Bytes got)

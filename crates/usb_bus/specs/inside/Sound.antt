@@ -17,7 +17,7 @@ use Rattle.usb_bus.specs.Together.{InOneTransfer}
 
 -- The packets of an answer, and where the host ends the data stage.
 
--- The packets that are still to come, where so many of `limit` bytes came: each but the last is whole and leaves bytes
+-- The packets that are still to come, where `came` of `limit` bytes came: each but the last is whole and leaves bytes
 -- due, and the last one ends the data stage.
 abbrev pub Due : ℕ → ℕ → ℕ → List (List ℕ) → Type 0
 Due size limit came [] = ⊥

@@ -98,7 +98,7 @@ LosesLines from old new = WritesLess from.utf8 (written from).ended old new
 abbrev pub line_count : Subject → List Described → ℕ
 line_count subject ds = ends (flat_map (lines_of subject) ds)
 
--- after the lines that there were, the writer gained those of the first so many descriptors
+-- after the lines that there were, the writer gained those of the first `count` descriptors
 pub record EndsAfter (subject : Subject) (ds : List Described) (before : Written) (old new : Held) : Type 0 where
   pub count : ℕ
   pub written : WritesLines before.utf8 (before.ended + line_count subject (take count ds)) old new

@@ -16,11 +16,11 @@ layout_left l = record { fields = map field_of l.current.now ++ map field_of l.f
 abbrev pub no_layout : Layout
 no_layout = record { fields = []; group = []; rest = [] }
 
--- the fields that are left of these lists in so many bytes
+-- the fields that are left of these lists in n bytes
 abbrev pub left_in : Lists → ℕ → List Field
 left_in l n = let layout = layout_left l in fields_in_bytes layout.fields layout.group layout.rest n
 
--- a field of so many bytes
+-- a field as the code has it
 abbrev pub piece_of : Piece → Field
 piece_of p = record { name = p.name.now; width = p.width; form = p.form }
 

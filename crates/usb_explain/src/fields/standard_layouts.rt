@@ -76,7 +76,7 @@ pub(crate) fn interface_layout() -> &'static DescriptorLayout
     &LAYOUT
 }
 
-/// An endpoint of so many bytes (9.6.6), after an interface of these codes. Two bytes after the fields of an audio endpoint have names.
+/// An endpoint of `length` bytes (9.6.6), after an interface of these codes. Two bytes after the fields of an audio endpoint have names.
 pub(crate) fn endpoint_layout(
     interface: Option<ClassCodes>,
     length: usize,

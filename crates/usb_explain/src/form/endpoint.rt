@@ -96,7 +96,8 @@ fn put_size<P: Page>(
     }
 }
 
-/// Whether bits 12..11 of wMaxPacketSize count packets: at high speed, or where that is open and their size is one of so many.
+/// Whether bits 12..11 of wMaxPacketSize count packets: at high speed, or where that is open and their size is one that
+/// several in a microframe have.
 fn has_packets(speed: SetSpeed, transfer: TransferType, max_packet: u16) -> bool
     ensures { result ≡ has_packets speed transfer max_packet }
 {

@@ -46,7 +46,7 @@ pub(crate) fn put_frame_time<P: Page>(page: &mut P, value: &[u8]) -> Result<(), 
     }
 }
 
-/// Puts so many units of 100 ns in milliseconds.
+/// Puts a time, in units of 100 ns, in milliseconds.
 #[tactic(auto, unfolding(crate::specs::Speeds::milliseconds))]
 fn put_milliseconds<P: Page>(page: &mut P, units: u64) -> Result<(), AllocError>
     ensures { OnOk result (P.seen page.new ≡ showing_all P.showing (milliseconds units) (P.seen page.old)) }
@@ -56,7 +56,7 @@ fn put_milliseconds<P: Page>(page: &mut P, units: u64) -> Result<(), AllocError>
     page.put(" ms")
 }
 
-/// Puts so many ten-thousandths after a point.
+/// Puts ten-thousandths after a point.
 #[tactic(auto, unfolding(crate::specs::Speeds::fraction))]
 fn put_fraction<P: Page>(page: &mut P, parts: u64) -> Result<(), AllocError>
     requires { parts < 10000 }

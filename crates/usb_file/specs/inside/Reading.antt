@@ -27,7 +27,7 @@ use Rattle.usb_file_data.specs.Inputs.{Dump}
 
 -- What comes next after a prefix of a file, as a function of it and of the bytes that are left.
 
--- after all sets, where so many indices are named
+-- after all sets, where `count` indices are named
 abbrev pub next_string : ℕ → Option Strings → NextPart
 next_string count None = if count == 0 then the_end else the_languages
 next_string count (Some s) = if nat_lt (length s.texts) (length s.languages * count) then a_string else the_end
@@ -69,7 +69,7 @@ pub record ReadSoFar (b : List ℕ) (f : DescriptorFile) (place : ℕ) : Type 0 
   pub within : place ≤ length b
   pub fits : AreBytes b
 
--- so many bytes after a place something holds
+-- it holds `count` bytes after a place
 pub record Behind (place : ℕ) (P : ℕ → Type 0) (at : ℕ) : Type 0 where
   pub count : ℕ
   pub holds : P count
@@ -83,7 +83,7 @@ pub record ReadsAll {A : Type 0} (bytes_of : A → List ℕ) (b : List ℕ) (sta
 
 -- ---- sets
 
--- the bytes begin with a set of this kind, of so many bytes
+-- the bytes begin with a set of this kind, of `used` bytes
 pub record ReadsSet (kind : SetKind) (rest : List ℕ) (c : Configuration) (used : ℕ) : Type 0 where
   pub begins : Begins rest c used
   pub kind_is : is_other_kind kind c ≡ false
@@ -112,7 +112,7 @@ pub record ReadsSets (kind : SetKind) (b : List ℕ) (start : ℕ) (sets : List 
   pub kinds : list_any (is_other_kind kind) sets ≡ false
   pub layouts : list_any has_no_layout sets ≡ false
 
--- Of so many sets that are declared the next one after these was refused: *out of memory* is reported where it
+-- Of the declared sets the next one after these was refused: *out of memory* is reported where it
 -- starts.
 pub record SetsRefused (kind : SetKind) (declared : ℕ) (b : List ℕ) (start : ℕ) (sets : List Configuration) (at : ℕ) (why : FileWhy) : Type 0 where
   pub end : ℕ
@@ -159,7 +159,7 @@ pub record SetsRead (b : List ℕ) (f : DescriptorFile) (place : ℕ) : Type 0 w
 
 -- ---- strings
 
--- the bytes begin with a string descriptor of at least so many bytes, which has these units
+-- the bytes begin with a string descriptor of at least `least` bytes, which has these units
 pub record ReadsString (least : ℕ) (rest : List ℕ) (units : List ℕ) (used : ℕ) : Type 0 where
   pub parts : rest ≡ units_bytes units ++ drop used rest
   pub ends : used ≡ 2 + 2 * length units
@@ -167,7 +167,7 @@ pub record ReadsString (least : ℕ) (rest : List ℕ) (units : List ℕ) (used 
   pub enough : least ≤ used
   pub short : is_long_string units ≡ false
 
--- out of memory at the start, or the fault of a string descriptor of at least so many bytes
+-- out of memory at the start, or the fault of a string descriptor of at least `least` bytes
 abbrev pub StringRefused : ℕ → List ℕ → ℕ → FileWhy → Type 0
 StringRefused least rest at files.Memory = at ≡ 0
 StringRefused least rest at why = string_fault least rest ≡ Some (at, why)
@@ -183,7 +183,7 @@ pub record ReadsDueStrings (b : List ℕ) (start : ℕ) (strings : List (List �
   pub all : ReadsAll units_bytes b start strings end
   pub short : list_any is_long_string strings ≡ false
 
--- Of so many strings that are due the next one after these was refused: *out of memory* is reported where it
+-- Of the strings that are due the next one after these was refused: *out of memory* is reported where it
 -- starts.
 pub record DueStringsRefused (due : ℕ) (b : List ℕ) (start : ℕ) (strings : List (List ℕ)) (at : ℕ) (why : FileWhy) : Type 0 where
   pub end : ℕ
@@ -191,7 +191,7 @@ pub record DueStringsRefused (due : ℕ) (b : List ℕ) (start : ℕ) (strings :
   pub few : length strings < due
   pub refused : Behind end (λ n. StringRefused 2 (drop end b) n why) at
 
--- between these places are the language list and one string for each language and each of so many indices
+-- between these places are the language list and one string for each language and each of `count` indices
 pub record ReadsLanguages (count : ℕ) (b : List ℕ) (place : ℕ) (s : Strings) (end : ℕ) : Type 0 where
   pub named : 0 < count
   pub start : ℕ
@@ -199,7 +199,7 @@ pub record ReadsLanguages (count : ℕ) (b : List ℕ) (place : ℕ) (s : String
   pub texts : ReadsDueStrings b start s.texts end
   pub all : length s.texts ≡ length s.languages * count
 
--- the strings, if any of so many indices is named
+-- the strings, if any of `count` indices is named
 abbrev pub ReadsStrings : ℕ → List ℕ → ℕ → Option Strings → ℕ → Type 0
 ReadsStrings count b place None end = (count ≡ 0) × (end ≡ place)
 ReadsStrings count b place (Some s) end = ReadsLanguages count b place s end
@@ -212,7 +212,7 @@ pub data StringsRefused (count : ℕ) (b : List ℕ) (place at : ℕ) (why : Fil
 
 -- ---- all of it
 
--- whether a device that names so many indices and has this other speed is a dump, where these bytes are left
+-- whether a device that names `count` indices and has this other speed is a dump, where these bytes are left
 abbrev pub ends_as_dump : ℕ → Option Other → List ℕ → Bool
 ends_as_dump count None [] = nat_lt 0 count
 ends_as_dump count other rest = false

@@ -4,7 +4,7 @@ use Rattle.usb_find.specs.declared.kept.Kept.{Kept}
 use Rattle.usb_find.specs.inside.Walks.{AreWays, reaches, spot}
 use Rattle.usb_find.specs.inside.Seeking.{set_length}
 
--- What is kept of the bytes is right: the ways of so many places, or none. Fewer bytes than that and a set were walked over.
+-- What is kept of the bytes is right: the ways of 131,000 places, or none. Fewer bytes than that and a set were walked over.
 pub record IsKept (b : List ℕ) (k : Kept) : Type 0 where
   pub ways : AreWays b k.base k.ways.items 0
   pub count : (length k.ways.items ≡ 0) ⊎ ((length k.ways.items ≡ 131000) × (k.base ≤ length b))
@@ -15,7 +15,7 @@ pub record IsKept (b : List ℕ) (k : Kept) : Type 0 where
 abbrev pub paid : Kept → ℕ
 paid k = 9 * k.base + 4 * length k.ways.items + k.walked
 
--- a set of so many bytes begins at the place where its descriptors lead to its end, and none does otherwise
+-- a set of n bytes begins at the place where its descriptors lead to its end, and none does otherwise
 pub record IsTotal (b : List ℕ) (place n : ℕ) : Type 0 where
   pub least : 9 ≤ n
   pub most : n ≤ 65535

@@ -28,7 +28,7 @@ is_item in_setting (len ∷ []) = false
 is_item in_setting (len ∷ kind ∷ rest) =
     nat_le (least_length kind) len && (nat_le len (2 + length rest) && (not (is_set_type kind) && (in_setting || not (kind == 5))))
 
--- after so many bytes they are such descriptors to their end
+-- after `skip` bytes they are such descriptors to their end
 unfoldable pub are_items : ℕ → Bool → List ℕ → Bool
 are_items zero in_setting [] = true
 are_items (suc skip) in_setting [] = false

@@ -79,7 +79,7 @@ Fits words.Endpoint b f = JoinsLast b (open_sets f f.other)
 Fits (words.Extra x) b f = JoinsLast b (open_sets f f.other)
 Fits word b f = ⊥
 
--- how many bytes the last set has with a descriptor of this word, of so many bytes
+-- how many bytes the last set has with a descriptor of this word, of n bytes
 abbrev pub work_with : ℕ → Word → ℕ → ℕ
 work_with work words.Configuration n = n
 work_with work words.OtherSpeed n = n

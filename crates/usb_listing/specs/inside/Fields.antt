@@ -86,7 +86,7 @@ pairs_of [] = Some []
 pairs_of (high ∷ []) = None
 pairs_of (high ∷ low ∷ rest) = before (pair_value high low) (pairs_of rest)
 
--- the bytes of a tail after its space, so many at most: a dash stands for none
+-- the bytes of a tail after its space, `most` at most: a dash stands for none
 abbrev pub tail_behind : ℕ → Option (List ℕ) → Option (List ℕ)
 tail_behind most None = None
 tail_behind most (Some text) =
@@ -182,7 +182,7 @@ abbrev pub values_then : (List ℕ → List ℕ → Option (List ℕ)) → List 
 values_then next done None = None
 values_then next done (Some (value, rest)) = next (done ++ value ∷ []) rest
 
--- so many values at most, to the end of the text, after those that are there
+-- `most` values at most, to the end of the text, after those that are there
 unfoldable pub values_from : Written → ℕ → List ℕ → List ℕ → Option (List ℕ)
 values_from form most done [] = Some done
 values_from form zero done (x ∷ text) = None

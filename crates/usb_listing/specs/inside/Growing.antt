@@ -30,7 +30,7 @@ qualifier_of b = qualifier_of_bytes b
 abbrev pub descriptor_of : List ℕ → Descriptor
 descriptor_of b = record { kind = slice_index b 1; body = drop 2 b }
 
--- ---- the sets in work
+-- ---- the current sets
 
 -- the sets of the speed that the last lines are of, and how many are declared
 abbrev pub open_sets : DescriptorFile → Option Other → List Configuration

@@ -93,7 +93,7 @@ abbrev pub WritesDraft : Option Draft → Option Draft → List ℕ → List ℕ
 WritesDraft None new was is = (new ≡ None) × (is ≡ was)
 WritesDraft (Some d) new was is = (f : DescriptorFile) × (new ≡ Some (record d { file = f })) × Writes d.file f was is
 
--- it is written only where the line began a part: before it, this was the part, with so many sets
+-- it is written only where the line began a part: before it, this was the part, with `sets` sets
 pub record WritesIf (part : Part) (sets : ℕ) (old new : Option Draft) (was is : List ℕ) : Type 0 where
   pub same : part_of old ≡ part → open_count old ≡ sets → (new ≡ old) × (is ≡ was)
   pub begun : (part_of old ≢ part) ⊎ (open_count old ≢ sets) → WritesDraft old new was is

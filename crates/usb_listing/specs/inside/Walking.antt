@@ -1,4 +1,4 @@
--- A listing read byte by byte: the file so far, and the line in work.
+-- A listing read byte by byte: the file so far, and the current line.
 use Rattle.std.specs.Prelude.{◌≡◌, ◌≢◌, ℕ, ◌==◌, List, [], ◌∷◌, ◌++◌, length, Bool, Option, Some, None, if◌then◌else◌, ◌+◌, Result, Ok, Err}
 use Rattle.usb_file_data.specs.declared.file.DescriptorFile.{DescriptorFile}
 use Rattle.usb_file_data.specs.declared.file.Strings.{Strings}
@@ -30,7 +30,7 @@ pub record Cut (c : ℕ) (text line more : List ℕ) : Type 0 where
   pub parts : text ≡ line ++ c ∷ more
   pub none : HasNo c line
 
--- whether no string is due any more, of so many in all where the languages are there
+-- whether no string is due any more, of `total` where the languages are there
 abbrev pub has_all_strings : DescriptorFile → Option Strings → ℕ → Bool
 has_all_strings f None total = length (named_indices f) == 0
 has_all_strings f (Some s) total = length s.texts == total
@@ -47,7 +47,7 @@ abbrev pub line_read : Form → List ℕ → Option (List ℕ)
 line_read forms.Exact line = Some line
 line_read forms.Commented line = if is_dropped (without_return line) then None else Some (without_return line)
 
--- how many lines of the text are before the one that so many read ones are before
+-- how many lines of the text are before the one that `count` read ones are before
 abbrev pub count_before : Form → List ℕ → ℕ → ℕ
 count_before forms.Exact text count = count
 count_before forms.Commented text count = lines_before (whole_lines text) count
@@ -91,9 +91,9 @@ add_line so_far line = add_word so_far (word_in (first_word line)) (item_of_line
 
 -- how far a listing was read
 pub data Walk : Type 0 where
-  -- in this line, after so many lines, which are those of the file so far
+  -- in this line, after this many lines, which are those of the file so far
   going : Option DescriptorFile → ℕ → List ℕ → Walk
-  -- the line after so many lines is at fault
+  -- the line after this many lines is at fault
   stopped : ℕ → ListWhy → Walk
 
 -- after one more line
@@ -114,7 +114,7 @@ abbrev pub walk : Walk → List ℕ → Walk
 walk w [] = w
 walk w (x ∷ text) = walk (walk_byte w x) text
 
--- a fault of the line after so many lines
+-- a fault of the line after `lines` lines
 abbrev pub fault_behind : ℕ → ListWhy → ListFault
 fault_behind lines why = record { line = lines + 1; why = why }
 

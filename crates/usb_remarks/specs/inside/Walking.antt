@@ -41,7 +41,7 @@ AllBound bound cells = (n : ℕ) → n < bound → slice_index cells n ≢ 65535
 abbrev pub bound_first : ℕ → ℕ → ℕ
 bound_first cell association = if cell == 65535 then association else cell
 
--- the association that binds a number, with these descriptors after so many associations
+-- the association that binds a number, with these descriptors after `count` associations
 abbrev pub bound_with : List (Option ℕ) → ℕ → ℕ → List (List ℕ) → Option ℕ
 bound_with table count n ds = option_or (bound_at table n) (binding n count ds)
 

@@ -7,7 +7,7 @@ use Rattle.usb_set.specs.Layout.{set_bytes}
 use Rattle.usb_set.specs.inside.Reading.{Reading, first, later, whole, faulty, reading_of}
 
 -- the bytes taken: those of the tree so far with the first descriptor's total, then those of the
--- descriptor in work
+-- current descriptor
 abbrev pub bytes_in : Reading → List ℕ
 bytes_in (first b) = b
 bytes_in (later c total place b) = set_bytes c total ++ b

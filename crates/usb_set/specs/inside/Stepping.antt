@@ -26,14 +26,14 @@ is_done (later c total place b) = false
 is_done (whole c place) = true
 is_done (faulty place why) = false
 
--- where the descriptor in work starts
+-- where the current descriptor starts
 abbrev pub place_of : Reading → ℕ
 place_of (first b) = 0
 place_of (later c total place b) = place
 place_of (whole c place) = place
 place_of (faulty place why) = place
 
--- the bytes of the descriptor in work
+-- the bytes of the current descriptor
 abbrev pub current_of : Reading → List ℕ
 current_of (first b) = b
 current_of (later c total place b) = b
@@ -44,7 +44,7 @@ current_of (faulty place why) = []
 abbrev pub taken : Reading → ℕ
 taken r = place_of r + length (current_of r)
 
--- the same reading with these bytes of the descriptor in work
+-- the same reading with these bytes of the current descriptor
 abbrev pub with_current : Reading → List ℕ → Reading
 with_current (first b) current = first current
 with_current (later c total place b) current = later c total place current
@@ -56,14 +56,14 @@ abbrev pub partial_of : Option Configuration → ℕ → ℕ → Reading
 partial_of None total place = first []
 partial_of (Some c) total place = if place == total then whole c place else later c total place []
 
--- no byte of the descriptor in work is there
+-- no byte of the current descriptor is there
 abbrev pub IsStart : Reading → Type 0
 IsStart (first b) = b ≡ []
 IsStart (later c total place b) = (b ≡ []) × (place < total) × (total ≤ 65535)
 IsStart (whole c place) = place ≤ 65535
 IsStart (faulty place why) = ⊥
 
--- the bytes of the descriptor in work show no fault, and there are too few
+-- the bytes of the current descriptor show no fault, and there are too few
 abbrev pub GoesOn : Reading → Type 0
 GoesOn (first b) = (header_fault b ≡ None) × (length b < first_byte b) × (length b < 255)
 GoesOn (later c total place b) = (item_fault (total - place) (has_setting c) b ≡ None) × (length b < first_byte b) × (length b < 255)
@@ -79,7 +79,7 @@ abbrev pub item_at : ℕ → Option SetWhy → Option SetFault
 item_at place None = None
 item_at place (Some why) = Some (record { at = place; why = why })
 
--- the fault that these bytes show as those of the descriptor in work
+-- the fault that these bytes show as those of the current descriptor
 abbrev pub fault_at : Reading → List ℕ → Option SetFault
 fault_at (first b) bytes = header_at (header_fault bytes)
 fault_at (later c total place b) bytes = item_at place (item_fault (total - place) (has_setting c) bytes)
@@ -97,14 +97,14 @@ past (faulty place why) item = faulty place why
 abbrev pub IsWanting : ℕ → SetFault → Type 0
 IsWanting place fault = (fault.at ≡ place) × (fault.why ≡ Memory)
 
--- the descriptor in work ends in these bytes
+-- the current descriptor ends in these bytes
 pub record EndsIn (current bytes : List ℕ) : Type 0 where
   pub count : ℕ
   pub within : count ≤ length bytes
   pub some : 0 < count
   pub whole : is_whole (current ++ take count bytes) ≡ true
 
--- out of memory for the descriptor in work, which ends in these bytes
+-- out of memory for the current descriptor, which ends in these bytes
 abbrev pub WantsHere : Reading → List ℕ → SetFault → Type 0
 WantsHere r bytes fault = InWork r × IsWanting (place_of r) fault × EndsIn (current_of r) bytes
 

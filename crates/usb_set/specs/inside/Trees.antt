@@ -57,7 +57,7 @@ pub record HasLength (c : Configuration) (total : ℕ) : Type 0 where
 
 -- What the encoder's pass over a set counts.
 
--- the count of bytes after so many more, or 65536 where that is less, or where one of their descriptors is long or
+-- the count of bytes after `count` more, or 65536 where that is less, or where one of their descriptors is long or
 -- is raw and typed
 abbrev pub measured : ℕ → Bool → Bool → ℕ → ℕ
 measured start long typed count = if long || typed then 65536 else min (start + count) 65536

@@ -43,7 +43,7 @@ pub record ReadsInput (limit : ℕ) (old new : Left) (intake : Intake) (count : 
   pub counted : count ≡ length bytes
   pub kept : IsIntake intake bytes
 
--- Reading is cut short by a failed read, or out of memory, after so many bytes at most.
+-- Reading is cut short by a failed read, or out of memory, after `limit` bytes at most.
 abbrev pub StopsEarly : ℕ → Left → Left → ToolFault → Type 0
 StopsEarly limit old new faults.Read = ReadsSome limit old new
 StopsEarly limit old new faults.Memory = ReadsSome limit old new

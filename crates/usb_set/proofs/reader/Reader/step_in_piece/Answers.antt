@@ -8,7 +8,7 @@ use Rattle.usb_set.proofs.Stepping.{wanting_still, on_ok, work_of, current_with,
 use Rattle.usb_set.proofs.reader.Reader.step_in_piece.Goals as goal
 use Rattle.usb_set.proofs.ByteByByte.{whole_some}
 
--- no byte of the descriptor in work was there
+-- no byte of the current descriptor was there
 nothing : (old p : Reading) (current : List ℕ) → with_current p current ≡ old → InWork old → current_of old ≡ [] → current ≡ []
 nothing old p current is w none = sym (current_with p current (work_of p current (subst InWork (sym is) w))) ∙ ap current_of is ∙ none
 
