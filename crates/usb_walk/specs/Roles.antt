@@ -11,7 +11,7 @@ use Rattle.usb_walk.specs.declared.position.Position.{Position}
 -- What the descriptors of a set are, by bDescriptorType and bLength (USB 2.0, 9.6.5 and 9.6.6, and the ECN on interface
 -- associations, 9.X.Y).
 
--- the type of a descriptor, and that it has these many bytes at least
+-- the type of a descriptor, and that it has this many bytes at least
 abbrev pub is_of_type : ℕ → ℕ → List ℕ → Bool
 is_of_type type least d = (slice_index d 1 == type) && nat_le least (length d)
 
