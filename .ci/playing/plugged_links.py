@@ -7,7 +7,7 @@ import struct
 import threading
 import time
 
-from usbip_client import FIRST, IMPORT, LIST, MOUSE, MOUSE_ANSWERS, Feed, Host, bytes_of, connected, end, ended, reset_by_peer, same, served, taken
+from usbip_client import FIRST, IMPORT, LIST, MOUSE, MOUSE_ANSWERS, SECONDS, Feed, Host, bytes_of, connected, end, ended, reset_by_peer, same, served, taken
 
 DEVICE, OVERFLOW, STALL, UNLINKED = bytes_of(MOUSE)[:18], -75, -32, -104
 SERVED = MOUSE, "--speed", "high", "--answers", MOUSE_ANSWERS
@@ -250,6 +250,7 @@ def never_read():
                 for _ in range(400):
                     link.sendall(message)
             goes_on("beside those who never read", host)
+        deaf[1][0].settimeout(SECONDS)
         same("a line without an end", ended(deaf[1][0]), True)
         same("memory", it.memory() - start < MOST, True)
 

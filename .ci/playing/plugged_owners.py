@@ -190,7 +190,7 @@ def owners():
     it = program.__enter__()
     with file:
         Host(it).submit(2, 1, data=b"1")
-        _, err = it.program.communicate(timeout=20)
+        _, err = it.program.communicate(timeout=60)
         same("an owner's mistake", (it.program.returncode, err.splitlines()[-1]), (1, b"ValueError: mine"))
 
 

@@ -109,7 +109,7 @@ def named_ports():
         same("named ports", Host(it).status, 0)
         same("each line is flushed", it.stdout.readline(), "1-1 attached\n")
         it.send_signal(2)
-        same("Ctrl-C", it.wait(timeout=20), 0)
+        same("Ctrl-C", it.wait(timeout=60), 0)
         it.stdout.close()
 
 
@@ -135,7 +135,7 @@ def readme():
 
 
 def refused(wanted, *words):
-    ran = subprocess.run([*PROGRAM, *words], capture_output=True, text=True, timeout=20)
+    ran = subprocess.run([*PROGRAM, *words], capture_output=True, text=True, timeout=60)
     same("mistakes", (ran.returncode, ran.stdout, bool(re.fullmatch(f"nozzlegorse.usbip: {wanted}\n", ran.stderr)) or ran.stderr), (2, "", True))
 
 
@@ -168,7 +168,7 @@ def nobody_reads():
     with open(read, encoding="ascii") as lines:
         it.port = int(re.search(r"--tcp-port (\d+)", lines.readline())[1])
     Host(it)
-    _, err = it.communicate(timeout=20)
+    _, err = it.communicate(timeout=60)
     same("a closed pipe", (it.returncode, err), (0, b""))
 
 

@@ -19,7 +19,7 @@ signal.signal(signal.SIGINT, signal.default_int_handler)
 MOUSE, MOUSE_ANSWERS = "testdata/files/qemu-usb-mouse.file", "testdata/answers/qemu-usb-mouse.high.txt"
 LIST, IMPORT = bytes.fromhex("01118005 00000000"), bytes.fromhex("01118003 00000000")
 FIRST = "8006000100004000"
-SECONDS = 20
+SECONDS = 60
 counts = {}
 
 
