@@ -1,6 +1,7 @@
 -- What holds of a read in work still holds of the one that an answer leads to.
-use Rattle.std.proofs.Common.{◌≡◌, ℕ, ◌+◌, ◌<◌, ◌≤◌, ◌&&◌, Bool, false, if◌then◌else◌, nat_lt, List, [], ◌++◌, length, refl, ap, sym, ◌∙◌, arith, subst, length-append}
+use Rattle.std.proofs.Common.{◌≡◌, ℕ, ◌+◌, ◌<◌, ◌≤◌, ◌&&◌, Bool, true, false, if◌then◌else◌, nat_lt, List, [], ◌++◌, length, refl, ap, sym, ◌∙◌, arith, subst, length-append}
 use Rattle.std.specs.Prelude.{Some, None, IsSome, Result}
+use Rattle.std.proofs.lemmas.Bool.Decides.{nat_tests}
 use Rattle.usb_fields.specs.Packets.{Reply as Answer}
 use Rattle.usb_host.specs.declared.choice.Terms.{Terms}
 use Rattle.usb_host.specs.declared.step.Trouble.{Trouble}
@@ -121,6 +122,23 @@ takes_end limits terms place t u old k answer ending next new b a is bytes hears
     subst (λ x. TakesHeard limits terms place old (taken t answer) x b a × IsStanding x) (sym goes.enters)
     (hears_end limits terms place t u old k answer ending next b a is.going hears goes.leads, enters_standing limits next good)
 
+-- the same of a place and troubles that an answer has left as they were
+
+pub goes_there : (limits : LimitView) (terms : Terms) (here place : Place) (t u : TransferView) (old k : Kept) (answer : Answer) (before after : List Trouble) →
+    IsReading place t old → BringsBytes answer → Hears old (taken t answer) u k None → here ≡ place → after ≡ before →
+    TakesHeard limits terms place old (taken t answer) (standing here u k) before after × IsStanding (standing here u k)
+goes_there limits terms here place t u old k answer b a is bytes hears there same =
+    subst (λ p. TakesHeard limits terms place old (taken t answer) (standing p u k) b a × IsStanding (standing p u k)) (sym there)
+    (takes_on limits terms place t u old k answer b a is bytes hears same)
+
+pub ends_there : (limits : LimitView) (terms : Terms) (here place : Place) (t u : TransferView) (old k : Kept) (answer : Answer) (ending : Ending) (next : Place)
+    (new : HostPhase) (before between after : List Trouble) → IsReading place t old → BringsBytes answer → Hears old (taken t answer) u k (Some ending) →
+    here ≡ place → between ≡ before → GoesOn limits terms here u k ending next new between after →
+    TakesHeard limits terms place old (taken t answer) new before after × IsStanding new
+ends_there limits terms here place t u old k answer ending next new b m a is bytes hears there same goes =
+    takes_end limits terms place t u old k answer ending next new b a is bytes hears
+    (subst (λ x. GoesOn limits terms place u k ending next new x a) same (subst (λ p. GoesOn limits terms p u k ending next new m a) there goes))
+
 -- ---- what comes of trouble for which the bus is to blame
 
 -- a reset is due, where attempts are left
@@ -138,7 +156,36 @@ settles attempts resets (Configure f) t k = refl
 settles attempts resets (Reported f) t k = refl
 settles attempts resets (Stopped trouble) t k = refl
 
+-- a read in work has told no trouble
+pub no_trouble : (place : Place) → is_end place ≡ false → is_bus_trouble place ≡ false
+no_trouble First reads = refl
+no_trouble (Address first) reads = refl
+no_trouble (Device first) reads = refl
+no_trouble (Header kind f) reads = refl
+no_trouble (Set kind f total) reads = refl
+no_trouble (Qualifier f) reads = refl
+no_trouble (Languages f named) reads = refl
+no_trouble (Text f s named) reads = refl
+no_trouble (Configure f) reads = refl
+no_trouble (Reported f) reads = refl
+no_trouble (Stopped trouble) reads = absurd (let no : true ≡ false = reads in cc)
+
 -- ---- a whole host
+
+-- what stands is what holds of a host, where no reset is due, or attempts are left
+phase_stands : (attempts resets : ℕ) (end : Bool) (place : Place) (t : TransferView) (k : Kept) → IsStanding (if end then Ended place else Reading place t k) →
+    IsPhase attempts resets (if end then Ended place else Reading place t k)
+phase_stands attempts resets true place t k is = tt
+phase_stands attempts resets false place t k is = is
+
+last : (a b : Bool) → true ≡ (a && b) → b ≡ true
+last true b e = sym e
+last false b e = absurd (let no : true ≡ false = e in cc)
+
+pub host_stands : (attempts resets : ℕ) (due : Bool) (place : Place) (t : TransferView) (k : Kept) → due ≡ (is_bus_trouble place && nat_lt resets attempts) →
+    IsStanding (standing place t k) → IsPhase attempts resets (phase_in due place t k)
+host_stands attempts resets false place t k e is = phase_stands attempts resets (is_end place) place t k is
+host_stands attempts resets true place t k e is = (let few = last (is_bus_trouble place) (nat_lt resets attempts) e in grind (arith, nat_tests))
 
 pub reads_here : (due : Bool) (place : Place) (t : TransferView) (k : Kept) → due ≡ false → is_end place ≡ false → phase_in due place t k ≡ Reading place t k
 reads_here due place t k not_due reads =

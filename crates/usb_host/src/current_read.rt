@@ -1,5 +1,5 @@
 //! A read in work.
-ghost use Rattle.std.specs.Prelude.{◌≡◌, ◌<◌, false, true, [], Err};
+ghost use Rattle.std.specs.Prelude.{◌≡◌, ◌<◌, true, [], Err};
 ghost use Rattle.usb_fields.specs.Packets.{reply_of};
 ghost use Rattle.usb_host.specs.Transfer.{left, taken};
 ghost use Rattle.usb_host.specs.Keeping.{nothing_kept, Kept};
@@ -7,11 +7,11 @@ ghost use Rattle.usb_host.specs.Place.{First, Stopped};
 ghost use Rattle.usb_host.specs.declared.why.Why.TheVariants.{Memory};
 ghost use Rattle.usb_host.specs.Cost.{BringsBytes};
 ghost use Rattle.usb_host.specs.inside.Sound.{FitsPlace, IsGood, KeepsBytes};
-ghost use Rattle.usb_host.specs.Steps.{TakesHeard, enter};
+ghost use Rattle.usb_host.specs.Steps.{enter};
 ghost use Rattle.usb_host.specs.Order.{forgives as forgives_at};
 ghost use Rattle.usb_host.specs.declared.draft.Draft.{Draft as DraftView};
-ghost use Rattle.usb_host.specs.inside.Places.{PassesOver, Settles, place_of, is_bus_trouble};
-ghost use Rattle.usb_host.specs.inside.Reads.{GoesOn, Hears, IsReading, IsStanding, LeadsOn, kept_in, place_in, standing, stands};
+ghost use Rattle.usb_host.specs.inside.Places.{PassesOver, Settles, place_of};
+ghost use Rattle.usb_host.specs.inside.Reads.{GoesOn, Hears, IsReading, LeadsOn, kept_in, place_in, standing, stands};
 
 use crate::choice::{NamedStrings, Terms};
 use crate::draft::Draft;
@@ -51,7 +51,7 @@ impl CurrentRead {
     /// Takes an answer into the transfer, and keeps what is new. How the read ended, if it did.
     #[inline(always)]
     #[tactic(auto, using(crate::proofs::TakeLemmas::room, crate::proofs::TakeLemmas::hears_steady, crate::proofs::StandLemmas::going_due))]
-    fn hear(&mut self, answer: Answer<'_>) -> Option<Ending>
+    pub(crate) fn hear(&mut self, answer: Answer<'_>) -> Option<Ending>
         requires reading { IsReading (place_in self.old) self.old.transfer (kept_in self.old) }
         requires bytes { BringsBytes (reply_of answer) }
         ensures place { place_in self.new ≡ place_in self.old }
@@ -77,7 +77,7 @@ impl CurrentRead {
 
     /// Begins the read that follows one that has ended.
     #[inline(never)]
-    fn go_on(&mut self, alloc: Global, limits: &Limits, terms: &Terms, ending: Ending)
+    pub(crate) fn go_on(&mut self, alloc: Global, limits: &Limits, terms: &Terms, ending: Ending)
         requires good { IsGood (place_in self.old) }
         requires fits { FitsPlace (place_in self.old) (kept_in self.old) }
         requires bytes { KeepsBytes (kept_in self.old) }
@@ -153,31 +153,6 @@ impl CurrentRead {
                 Err(_) => out_of_memory(trouble.step),
             },
             Err(_) => out_of_memory(trouble.step),
-        }
-    }
-
-    /// Takes an answer: the read goes on, or the next one begins. Whether the read has ended.
-    #[inline(always)]
-    pub(crate) fn take(
-        &mut self,
-        alloc: Global,
-        limits: &Limits,
-        terms: &Terms,
-        answer: Answer<'_>,
-    ) -> bool
-        requires reading { IsReading (place_in self.old) self.old.transfer (kept_in self.old) }
-        requires bytes { BringsBytes (reply_of answer) }
-        ensures takes { TakesHeard limits.now terms.now (place_in self.old) (kept_in self.old) (taken self.old.transfer (reply_of answer.entry)) (stands self.new) self.old.forgiven self.new.forgiven }
-        ensures fewer { left (taken self.old.transfer (reply_of answer.entry)).transfer < left self.old.transfer }
-        ensures stands { IsStanding (stands self.new) }
-        ensures quiet { result ≡ false → is_bus_trouble (place_in self.new) ≡ false }
-    {
-        match self.hear(answer) {
-            Some(ending) => {
-                self.go_on(alloc, limits, terms, ending);
-                true
-            }
-            None => false,
         }
     }
 }

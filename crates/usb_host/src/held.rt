@@ -47,6 +47,8 @@ impl KeptBytes {
     }
 
     /// Adds new bytes. With those that are there they are at most 255.
+    // Inlined, it has a host save registers at each answer.
+    #[inline(never)]
     pub(crate) fn add(&mut self, bytes: &[u8])
         requires { length self.old + length bytes.now ≤ 255 }
         ensures { self.new ≡ self.old ++ bytes.now }
@@ -68,7 +70,7 @@ pub struct Held {
 
 impl Held {
     ghost use Rattle.usb_host.specs.Keeping.{nothing_kept, set_kept};
-    ghost use Rattle.usb_host.specs.inside.Places.{Adds, HasRoom, kept_of, place_of};
+    ghost use Rattle.usb_host.specs.inside.Places.{Adds, HasRoom, kept_of, kept_set, place_of};
 
     /// What the first read begins with.
     pub(crate) fn new(alloc: Global) -> Held
@@ -102,18 +104,32 @@ impl Held {
         ensures { Adds (kept_of due.now self.old) piece.now result (kept_of due.now self.new) }
     {
         match due {
-            Due::Set { .. } => match self.decoder.feed(piece) {
-                Ok(Progress::More) => false,
-                Ok(Progress::Done { used }) => {
-                    self.over = self.over || used < piece.len();
-                    false
+            Due::Set { .. } => {
+                if self.decoder.keeps(piece) {
+                    return false;
                 }
-                Err(fault) => fault.why == SetWhy::Memory,
-            },
+                self.feed(piece)
+            }
             _ => {
                 self.bytes.add(piece);
                 false
             }
+        }
+    }
+
+    /// Hands new bytes of a set to its decoder, where they may end a descriptor. Whether memory was wanting.
+    // Inlined, it has a host save registers at each answer.
+    #[inline(never)]
+    fn feed(&mut self, piece: &[u8]) -> bool
+        ensures { Adds (kept_set self.old) piece.now result (kept_set self.new) }
+    {
+        match self.decoder.feed(piece) {
+            Ok(Progress::More) => false,
+            Ok(Progress::Done { used }) => {
+                self.over = self.over || used < piece.len();
+                false
+            }
+            Err(fault) => fault.why == SetWhy::Memory,
         }
     }
 

@@ -148,11 +148,13 @@ impl Host {
             return;
         }
         known_answer(answer);
-        let has_ended = self
-            .reading
-            .take(self.alloc, &self.limits, &self.terms, answer);
-        if has_ended {
-            self.reset_due = may_try_again(&self.reading, self.resets, &self.limits);
+        match self.reading.hear(answer) {
+            Some(ending) => {
+                self.reading
+                    .go_on(self.alloc, &self.limits, &self.terms, ending);
+                self.reset_due = may_try_again(&self.reading, self.resets, &self.limits);
+            }
+            None => {}
         }
     }
 

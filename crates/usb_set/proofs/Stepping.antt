@@ -49,6 +49,13 @@ work_with (later c total place b) current w = tt
 work_with (whole c place) current w = w
 work_with (faulty place why) current w = w
 
+-- where bytes of the current descriptor are there, the set goes on
+pub work_there : (p : Reading) (current : List ℕ) → GoesOn (with_current p current) → (is_done p ≡ true → current ≡ []) → 0 < length current → InWork p
+work_there (first b) current on empty some = tt
+work_there (later c total place b) current on empty some = tt
+work_there (whole c place) current on empty some = absurd (omega (arith, some, ap length (empty refl)))
+work_there (faulty place why) current on empty some = on
+
 -- ---- over bytes of one descriptor
 
 pub waits : (p : Reading) (current xs : List ℕ) → InWork p → fault_at p (current ++ xs) ≡ None → length (current ++ xs) < first_byte (current ++ xs) → reads (with_current p current) xs ≡ with_current p (current ++ xs)

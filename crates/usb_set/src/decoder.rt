@@ -86,18 +86,20 @@ impl Decoder {
         self.feed_on(piece)
     }
 
-    /// Keeps a piece that neither ends the current descriptor nor can show a fault. So a short piece costs little.
+    /// Keeps a piece that neither ends the current descriptor nor can show a fault. So a short piece costs little. After the
+    /// set's last byte, or a fault, no bytes are held: so neither is tested here.
+    ///
+    /// This is the first part of [`Decoder::feed`], for a caller that wants only it inline: where it answers false, nothing
+    /// has changed, and the piece is still to be fed.
+    ///
+    /// ```rust
+    /// let more = decoder.keeps(piece) || decoder.feed(piece)? == Progress::More;
+    /// ```
     #[inline(always)]
-    fn keeps(&mut self, piece: &[u8]) -> bool
+    pub fn keeps(&mut self, piece: &[u8]) -> bool
         ensures kept { result ≡ true → Answers self.old piece.now (Ok More) self.new }
         ensures same { result ≡ false → self.new ≡ self.old }
     {
-        if let Some(_fault) = self.fault {
-            return false;
-        }
-        if self.reader.is_done() {
-            return false;
-        }
         known_bytes(piece);
         self.reader.keeps(piece)
     }

@@ -4,7 +4,7 @@ ghost use Rattle.usb_set.specs.Layout.{Refuses, refusal_of, set_length, Layout, 
 ghost use Rattle.usb_set.specs.inside.Trees.{HasLength};
 
 use crate::fault::EncodeFault;
-use crate::lengths::{TOO_LONG, has_long_descriptor, has_typed_raw, set_len};
+use crate::lengths::{has_long_descriptor, has_typed_raw, set_len};
 use crate::parts::put_set;
 use crate::tree::Configuration;
 use std::alloc::{AllocError, Global};
@@ -103,11 +103,10 @@ fn total_length(c: &Configuration) -> Result<u16, EncodeFault>
     ensures ok { IfOk result (HasLength c.now) }
     ensures err { IfErr result (λ fault. refusal_of c.now ≡ Some fault) }
 {
-    let total = set_len(c);
-    if total == TOO_LONG {
-        return Err(reason(c));
+    match set_len(c) {
+        Some(total) => Ok(total as u16),
+        None => Err(reason(c)),
     }
-    Ok(total as u16)
 }
 
 /// The first reason why the set has no bytes, of which there is one.

@@ -3,10 +3,10 @@ ghost use Rattle.std.specs.Prelude.{◌≡◌};
 ghost use Rattle.std.specs.List.{list_any};
 ghost use Rattle.usb_set.specs.Layout.{has_long_descriptor, has_typed_raw, is_typed_raw};
 ghost use Rattle.usb_set.specs.inside.Trees.{is_endpoint_long, is_endpoint_typed, is_extra_long, is_setting_long, is_setting_typed};
-ghost use Rattle.std.specs.Prelude.{◌≡◌, ◌+◌, ◌-◌, ◌≤◌, length, false, nat_lt};
+ghost use Rattle.std.specs.Prelude.{◌≡◌, ◌+◌, ◌-◌, ◌≤◌, IfSome, length, false, nat_lt};
 ghost use Rattle.std.specs.List.{flat_map, list_any};
 ghost use Rattle.usb_set.specs.Layout.{has_long_descriptor, has_typed_raw, is_typed_raw, set_bytes};
-ghost use Rattle.usb_set.specs.inside.Trees.{measured, endpoint_bytes, extra_bytes, is_endpoint_long, is_endpoint_typed, is_extra_long, is_setting_long, is_setting_typed, is_tree_long, is_tree_typed, setting_bytes, tree_bytes};
+ghost use Rattle.usb_set.specs.inside.Trees.{counted, measured, endpoint_bytes, extra_bytes, is_endpoint_long, is_endpoint_typed, is_extra_long, is_setting_long, is_setting_typed, is_tree_long, is_tree_typed, setting_bytes, tree_bytes};
 
 use crate::extra::{Extra, Raw};
 use crate::tree::{Configuration, Endpoint, Setting};
@@ -111,9 +111,6 @@ pub(crate) fn has_typed_raw(c: &Configuration) -> bool
     any_typed_raw(&c.extras) || any_setting_typed(&c.settings)
 }
 
-/// One more than wTotalLength can say: the count of a set that has no bytes.
-pub(crate) const TOO_LONG: usize = Configuration::MOST_BYTES + 1;
-
 /// A part of a set that the pass goes over. All parts are inlined, since one loop nest is the quicker.
 trait Measured {
     ghost use Rattle.std.specs.Prelude.{ℕ, Bool, List};
@@ -127,37 +124,43 @@ trait Measured {
     /// Its bytes.
     ghost bytes: { Self → List ℕ };
 
-    /// The count after it.
-    fn len_after(&self, start: usize) -> usize
-        requires { start ≤ 65536 }
-        ensures { result ≡ measured start (is_long self.now) (is_typed self.now) (length (bytes self.now)) };
+    /// The count after it, or none where a set with it has no bytes.
+    fn len_after(&self, start: usize) -> Option<usize>
+        requires { start ≤ 65535 }
+        ensures is { counted result ≡ measured start (is_long self.now) (is_typed self.now) (length (bytes self.now)) }
+        ensures short { IfSome result (λ count. count ≤ 65535) };
 }
 
 /// The count after several parts, one after another.
 #[inline(always)]
-#[tactic(auto, using(crate::proofs::Measures::measured_then))]
-fn all_len<T: Measured>(start: usize, parts: &[T]) -> usize
-    requires { start ≤ 65536 }
-    ensures { result ≡ measured start (list_any T.is_long parts.now) (list_any T.is_typed parts.now) (length (flat_map T.bytes parts.now)) }
+fn all_len<T: Measured>(start: usize, parts: &[T]) -> Option<usize>
+    requires { start ≤ 65535 }
+    ensures is { counted result ≡ measured start (list_any T.is_long parts.now) (list_any T.is_typed parts.now) (length (flat_map T.bytes parts.now)) }
+    ensures short { IfSome result (λ count. count ≤ 65535) }
 {
     let mut total = start;
     for part in parts {
-        total = part.len_after(total);
+        total = part.len_after(total)?;
     }
-    total
+    Some(total)
 }
 
 /// The count after a descriptor of `fixed` bytes and a tail.
 #[inline(always)]
-fn descriptor_len(start: usize, fixed: u8, tail: usize) -> usize
-    requires start { start ≤ 65536 }
+fn descriptor_len(start: usize, fixed: u8, tail: usize) -> Option<usize>
+    requires start { start ≤ 65535 }
     requires fixed { fixed ≤ 9 }
-    ensures { result ≡ measured start (nat_lt (255 - fixed) tail) false (fixed + tail) }
+    ensures is { counted result ≡ measured start (nat_lt (255 - fixed) tail) false (fixed + tail) }
+    ensures short { IfSome result (λ count. count ≤ 65535) }
 {
     if tail > usize::from(descriptor_length::LONGEST - fixed) {
-        TOO_LONG
+        return None;
+    }
+    let end = start + usize::from(fixed) + tail;
+    if end > Configuration::MOST_BYTES {
+        None
     } else {
-        (start + usize::from(fixed) + tail).min(TOO_LONG)
+        Some(end)
     }
 }
 
@@ -169,9 +172,9 @@ impl Measured for Extra {
     ghost bytes = { extra_bytes };
 
     #[inline(always)]
-    fn len_after(&self, start: usize) -> usize {
+    fn len_after(&self, start: usize) -> Option<usize> {
         if self.is_typed_raw() {
-            return TOO_LONG;
+            return None;
         }
         with_extra!(self, item => {
             let fixed = descriptor_length::HEAD + item.field_bytes().len() as u8;
@@ -188,12 +191,10 @@ impl Measured for Endpoint {
     ghost bytes = { endpoint_bytes };
 
     #[inline(always)]
-    #[tactic(auto, using(crate::proofs::Measures::measured_then))]
-    fn len_after(&self, start: usize) -> usize {
-        all_len(
-            descriptor_len(start, descriptor_length::ENDPOINT, self.tail.len()),
-            &self.extras,
-        )
+    #[tactic(auto, using(crate::proofs::Measures::counted_then))]
+    fn len_after(&self, start: usize) -> Option<usize> {
+        let head = descriptor_len(start, descriptor_length::ENDPOINT, self.tail.len())?;
+        all_len(head, &self.extras)
     }
 }
 
@@ -205,24 +206,28 @@ impl Measured for Setting {
     ghost bytes = { setting_bytes };
 
     #[inline(always)]
-    #[tactic(auto, using(crate::proofs::Measures::measured_then))]
-    fn len_after(&self, start: usize) -> usize {
-        let head = descriptor_len(start, descriptor_length::INTERFACE, self.tail.len());
-        all_len(all_len(head, &self.extras), &self.endpoints)
+    #[tactic(auto, using(crate::proofs::Measures::counted_then))]
+    fn len_after(&self, start: usize) -> Option<usize> {
+        let head = descriptor_len(start, descriptor_length::INTERFACE, self.tail.len())?;
+        let extras = all_len(head, &self.extras)?;
+        all_len(extras, &self.endpoints)
     }
 }
 
-#[tactic(auto, using(crate::proofs::Measures::measured_then))]
-fn tree_len(c: &Configuration) -> usize
-    ensures { result ≡ measured 0 (is_tree_long c.now) (is_tree_typed c.now) (length (tree_bytes c.now 0)) }
+#[tactic(auto, using(crate::proofs::Measures::counted_then))]
+fn tree_len(c: &Configuration) -> Option<usize>
+    ensures is { counted result ≡ measured 0 (is_tree_long c.now) (is_tree_typed c.now) (length (tree_bytes c.now 0)) }
+    ensures short { IfSome result (λ count. count ≤ 65535) }
 {
-    let head = descriptor_len(0, descriptor_length::CONFIGURATION, c.tail.len());
-    all_len(all_len(head, &c.extras), &c.settings)
+    let head = descriptor_len(0, descriptor_length::CONFIGURATION, c.tail.len())?;
+    let extras = all_len(head, &c.extras)?;
+    all_len(extras, &c.settings)
 }
 
-/// How many bytes the set has, or [`TOO_LONG`] where it has none.
-pub(crate) fn set_len(c: &Configuration) -> usize
-    ensures { result ≡ measured 0 (has_long_descriptor c.now) (has_typed_raw c.now) (length (set_bytes c.now 0)) }
+/// How many bytes the set has, or none where it has none.
+pub(crate) fn set_len(c: &Configuration) -> Option<usize>
+    ensures is { counted result ≡ measured 0 (has_long_descriptor c.now) (has_typed_raw c.now) (length (set_bytes c.now 0)) }
+    ensures short { IfSome result (λ count. count ≤ 65535) }
 {
     tree_len(c)
 }

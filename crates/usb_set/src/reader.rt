@@ -33,14 +33,15 @@ pub(crate) struct Reader {
 }
 
 impl Model for Reader {
+    ghost use Rattle.std.specs.Prelude.{◌≡◌, [], true};
     ghost use Rattle.usb_set.specs.inside.Reading.{Reading};
-    ghost use Rattle.usb_set.specs.inside.Stepping.{GoesOn, with_current};
+    ghost use Rattle.usb_set.specs.inside.Stepping.{GoesOn, is_done, with_current};
 
     ghost Value = { Reading };
 
     ghost view = { λ r. with_current r.partial r.current.items };
 
-    ghost invariant = { λ r. GoesOn (with_current r.partial r.current.items) };
+    ghost invariant = { λ r. GoesOn (with_current r.partial r.current.items) × (is_done r.partial ≡ true → r.current.items ≡ []) };
 }
 
 /// Adds bytes of the current descriptor.
@@ -77,10 +78,9 @@ impl Reader {
     }
 
     /// Keeps a piece that ends before the current descriptor does, where it can show no fault: four
-    /// bytes of that descriptor were there. So a single byte costs little.
+    /// bytes of that descriptor were there. So a single byte costs little. Of a whole set none are held.
     #[inline(always)]
     pub(crate) fn keeps(&mut self, piece: &[u8]) -> bool
-        requires { InWork self.old }
         ensures { Keeps self.old piece.now result self.new }
     {
         let before = self.current.len();

@@ -37,9 +37,13 @@ place_of due.Configure d = Configure d.file
 place_of due.Reported d = Reported d.file
 place_of (due.Stopped trouble) d = Stopped trouble
 
+-- what is kept of the read of a set
+abbrev pub kept_set : Held → Kept
+kept_set h = kept.Set h.decoder h.over
+
 -- what is kept of the read that is due: of a set its decoder, and of any other read the bytes
 abbrev pub kept_of : Due → Held → Kept
-kept_of (due.Set kind total) h = kept.Set h.decoder h.over
+kept_of (due.Set kind total) h = kept_set h
 kept_of here h = kept.Bytes h.bytes
 
 -- Where a read leads to, as a function tells it.

@@ -37,7 +37,7 @@ IsSound (later c total place b) = IsReadFrom (set_bytes c total ++ b) (later c t
 IsSound (whole c place) = Unit {0}
 IsSound (faulty place why) = ⊥
 
--- the same where no fault was shown
+-- the same where no fault was shown; after a fault nothing is held
 abbrev pub HoldsSound : Option SetFault → Reading → Type 0
-HoldsSound (Some fault) r = Unit {0}
+HoldsSound (Some fault) r = r ≡ first []
 HoldsSound None r = IsSound r

@@ -115,9 +115,9 @@ Steps old bytes (Took count) new =
 Steps old bytes Cut new = (reads old bytes ≡ new) × InWork new
 Steps old bytes (Refused fault) new = WantsHere old bytes fault ⊎ (reads old bytes ≡ faulty fault.at fault.why)
 
--- all of the bytes are taken, or none
+-- all of the bytes are taken, where some of their descriptor were there, or none
 abbrev pub Keeps : Reading → List ℕ → Bool → Reading → Type 0
-Keeps old bytes true new = (reads old bytes ≡ new) × InWork new
+Keeps old bytes true new = (reads old bytes ≡ new) × InWork new × (0 < length (current_of old))
 Keeps old bytes false new = new ≡ old
 
 -- out of memory after some of these bytes

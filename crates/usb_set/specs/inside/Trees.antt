@@ -1,5 +1,5 @@
 -- The bytes, the length and the tests of each part of a set's tree.
-use Rattle.std.specs.Prelude.{ℕ, List, ◌++◌, Bool, ◌||◌, ◌≡◌, ◌<◌, false, ◌+◌, min, if◌then◌else◌, ◌≤◌, length, take}
+use Rattle.std.specs.Prelude.{ℕ, List, ◌++◌, Bool, ◌||◌, ◌≡◌, ◌<◌, false, ◌+◌, min, if◌then◌else◌, ◌≤◌, length, take, Option, Some, None}
 use Rattle.std.specs.List.{flat_map, list_any}
 use Rattle.usb_set.specs.declared.extra.Extra.{Extra}
 use Rattle.usb_set.specs.declared.tree.Endpoint.{Endpoint}
@@ -61,6 +61,11 @@ pub record HasLength (c : Configuration) (total : ℕ) : Type 0 where
 -- is raw and typed
 abbrev pub measured : ℕ → Bool → Bool → ℕ → ℕ
 measured start long typed count = if long || typed then 65536 else min (start + count) 65536
+
+-- how much a count is; none is 65536, more than wTotalLength can say
+abbrev pub counted : Option ℕ → ℕ
+counted None = 65536
+counted (Some count) = count
 
 -- Writing bytes into a buffer, one part after another.
 

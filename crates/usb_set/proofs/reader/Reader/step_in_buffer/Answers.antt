@@ -14,7 +14,7 @@ some_current old p current is w some = omega (arith, some, ap length (ap current
 pub returns-in-Some : goal.returns-in-Some
 returns-in-Some c =
     step_refused c.args.self.now c.self.inside.partial c.self.inside.partial c.self.inside.current.items c.args.bytes.now c.min-count.result c.in-Some.fault
-    c.self.view_is c.requires.work (let P : Reading → Type 0 = λ r. GoesOn r in subst P c.self.view_is c.self.invariant)
+    c.self.view_is c.requires.work (let P : Reading → Type 0 = λ r. GoesOn r in subst P c.self.view_is c.self.invariant.0)
     (ap (fault_at c.self.inside.partial) (sym (c.deref-2.ensures.0 ∙ c.keep.ensures)) ∙ sym c.in-Some.ensures)
 
 pub returns-then-len : goal.returns-then-len
@@ -39,7 +39,7 @@ returns-then-len c =
 pub returns-then-is_err : goal.returns-then-is_err
 returns-then-is_err c =
     let some = some_current c.args.self.now c.self.inside.partial c.self.inside.current.items c.self.view_is c.requires.work c.requires.some in
-    let on : GoesOn (with_current c.self.inside.partial c.self.inside.current.items) = c.self.invariant in
+    let on : GoesOn (with_current c.self.inside.partial c.self.inside.current.items) = c.self.invariant.0 in
     let kept : c.keep.new.current.items ≡ c.self.inside.current.items ++ take c.min-count.result c.args.bytes.now = c.keep.ensures in
     let len_is : c.from-len.result ≡ first_byte c.self.inside.current.items = c.from-len.ensures ∙ ap (λ (z : List ℕ). get_or z 0 0) c.deref.ensures.0 ∙ first_is c.self.inside.current.items 0 some in
     let ends = ends_here c.self.inside.current.items c.args.bytes.now c.from-len.result c.min-count.result (c.min-count.ensures ∙ ap (λ n. min (c.from-len.result - n) (length c.args.bytes.now)) c.len-before.ensures.value) len_is some
@@ -50,7 +50,7 @@ returns-then-is_err c =
 pub returns : goal.returns
 returns c =
     let some = some_current c.args.self.now c.self.inside.partial c.self.inside.current.items c.self.view_is c.requires.work c.requires.some in
-    let on : GoesOn (with_current c.self.inside.partial c.self.inside.current.items) = c.self.invariant in
+    let on : GoesOn (with_current c.self.inside.partial c.self.inside.current.items) = c.self.invariant.0 in
     let kept : c.keep.new.current.items ≡ c.self.inside.current.items ++ take c.min-count.result c.args.bytes.now = c.keep.ensures in
     let len_is : c.from-len.result ≡ first_byte c.self.inside.current.items = c.from-len.ensures ∙ ap (λ (z : List ℕ). get_or z 0 0) c.deref.ensures.0 ∙ first_is c.self.inside.current.items 0 some in
     let ends = ends_here c.self.inside.current.items c.args.bytes.now c.from-len.result c.min-count.result (c.min-count.ensures ∙ ap (λ n. min (c.from-len.result - n) (length c.args.bytes.now)) c.len-before.ensures.value) len_is some

@@ -17,7 +17,7 @@ returns-in-Some c =
     let none : c.self.inside.current.items ≡ [] = nothing c.args.self.now c.self.inside.partial c.self.inside.current.items c.self.view_is c.requires.work c.requires.empty in
     let P : Reading → Type 0 = λ r. GoesOn r in
     step_refused c.args.self.now c.self.inside.partial c.self.inside.partial c.self.inside.current.items c.args.bytes.now (length c.args.bytes.now) c.in-Some.fault
-    c.self.view_is c.requires.work (subst P c.self.view_is c.self.invariant)
+    c.self.view_is c.requires.work (subst P c.self.view_is c.self.invariant.0)
     (ap (λ (z : List ℕ). fault_at c.self.inside.partial (z ++ take (length c.args.bytes.now) c.args.bytes.now)) none
     ∙ ap (fault_at c.self.inside.partial) (take_all (length c.args.bytes.now) c.args.bytes.now (omega arith)) ∙ sym c.in-Some.ensures)
 
