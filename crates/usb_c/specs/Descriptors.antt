@@ -12,7 +12,7 @@ use Rattle.usb_walk.specs.declared.role.Role.{Role}
 use Rattle.usb_walk.specs.declared.role.Role.TheVariants as roles
 use Rattle.usb_walk.specs.Owners.{part_in}
 use Rattle.usb_walk.specs.Surroundings.{depth_of}
-use Rattle.usb_remarks.specs.Findings.{part_number}
+use Rattle.usb_walk.specs.Places.{part_number}
 use Rattle.usb_remarks.specs.Numbered.{Numbered, by_position, next_position, numbered_next}
 use Rattle.usb_remarks.specs.Outline.{entries}
 use Rattle.usb_remarks.specs.declared.speed.SetSpeed.{SetSpeed}

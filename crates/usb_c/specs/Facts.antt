@@ -15,7 +15,7 @@ use Rattle.usb_file_data.specs.Inputs.{InputFaulty, IsInput, IsNoDump}
 use Rattle.usb_file_data.specs.Numbers.{rule_number}
 use Rattle.usb_file.specs.Completed.{IsCompleted}
 use Rattle.usb_walk.specs.declared.role.Role.TheVariants as roles
-use Rattle.usb_remarks.specs.Findings.{part_number}
+use Rattle.usb_walk.specs.Places.{part_number}
 use Rattle.usb_remarks.specs.Outline.{Described, outline}
 use Rattle.usb_c.specs.declared.answer.Verdict.{Verdict}
 use Rattle.usb_c.specs.declared.answer.Verdict.TheVariants as verdicts

@@ -5,7 +5,7 @@ use Rattle.usb_file_data.specs.Findings.{found_in_order}
 use Rattle.usb_file_data.specs.Inputs.{InputFaulty, IsInput}
 use Rattle.usb_remarks.specs.declared.remark.Remark.{Remark}
 use Rattle.usb_remarks.specs.declared.speed.SetSpeed.{SetSpeed}
-use Rattle.usb_remarks.specs.Findings.{part_number}
+use Rattle.usb_walk.specs.Places.{part_number}
 use Rattle.usb_remarks.specs.Outline.{Described, outline}
 use Rattle.usb_remarks.specs.RemarkNumbers.{remark_number}
 use Rattle.usb_remarks.specs.Remarks.{remarks_on}

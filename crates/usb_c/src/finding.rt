@@ -2,7 +2,6 @@
 ghost use Rattle.std.specs.Prelude.{◌≡◌, ◌+◌, ◌≤◌, ◌++◌, None, drop, flat_map, length, take};
 ghost use Rattle.usb_file_data.specs.Inputs.{IsInput};
 ghost use Rattle.usb_file_data.specs.Numbers.{rule_numbered};
-ghost use Rattle.usb_remarks.specs.Findings.{part_number};
 ghost use Rattle.usb_remarks.specs.Outline.{described, outline};
 ghost use Rattle.usb_c.specs.Answers.{AnswersOn, Fills};
 ghost use Rattle.usb_c.specs.Facts.{Finds, TellsRule, placed, placed_at, placed_findings};
@@ -13,9 +12,10 @@ use crate::buffer::fill_done;
 use crate::walk::role_number;
 use std::alloc::Global;
 use usb_file::{Input, read_input};
-use usb_file_data::{Found, Part, Rule, found_in_order};
+use usb_file_data::{Found, Rule, found_in_order};
 use usb_remarks::laws::each_finding_is_reported_once;
 use usb_remarks::{Descriptor, Outline};
+use usb_walk::part_number;
 
 /// A broken rule at the descriptor that breaks it: the struct `nzg_finding` of nozzlegorse.h.
 #[repr(C)]
@@ -117,16 +117,6 @@ fn placed(descriptor: &Descriptor, found: &Found) -> NzgFinding
         rule: finding.rule,
         part: part_number(finding.part),
         role: role_number(descriptor.role),
-    }
-}
-
-pub(crate) fn part_number(part: Part) -> u8
-    ensures { result ≡ part_number part }
-{
-    match part {
-        Part::Device => 0,
-        Part::Main => 1,
-        Part::Other => 2,
     }
 }
 

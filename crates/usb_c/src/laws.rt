@@ -14,7 +14,7 @@ pub fn a_walk_is_the_outline()
 {}
 
 /// Of a set, a file or a dump `nzg_next` gives, from `{0}` on, the descriptors of its tree in their order: each with its role, its
-/// depth and its part, and an association or a raw one with the role of what has it among its extras.
+/// depth and its part, and an association or a raw one with the role of the nearest configuration, interface or endpoint before it.
 pub fn a_walk_is_the_tree()
     ensures { WalkIsTree }
 {}

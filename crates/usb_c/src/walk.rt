@@ -1,14 +1,14 @@
 //! The walk from a descriptor to the next one.
 ghost use Rattle.std.specs.Prelude.{◌≡◌, ◌≤◌, ◌+◌, ◌<◌, ◌^◌, is_some, length, unwrap_or};
 ghost use Rattle.usb_remarks.specs.Numbered.{numbered_next};
-ghost use Rattle.usb_walk.specs.Positions.{Counted};
+ghost use Rattle.usb_walk.specs.Positions.{Counted, position_after};
+ghost use Rattle.usb_walk.specs.Surroundings.{depth_of};
 ghost use Rattle.usb_c.specs.Descriptors.{is_counted, next_of, role_number, string_of_role, as_numbers, next_as_numbers, with_endpoint, with_role};
 
 use crate::descriptor::NzgDescriptor;
-use crate::finding::part_number;
 use crate::string_place::{NO_STRING, StringPlace, name_string, string_among};
 use usb_fields::{after, byte_at, prefix, word_at};
-use usb_walk::{Position, Role};
+use usb_walk::{Position, Role, part_number};
 
 /// The first descriptor after `{0}`, or the one after another one. False where none can stand there: nothing changes then.
 #[unsafe(no_mangle)]
@@ -66,8 +66,7 @@ impl NzgDescriptor {
         let d = prefix(ahead, count);
         self.position.enter(role, ahead);
         self.place = self.position.at;
-        self.depth = self.position.depth(role);
-        self.position.pass(role, d);
+        self.pass(role, d);
         self.endpoint_number = self.position.endpoints.saturating_sub(1);
         self.language = string.language;
         self.length = byte_at(d, 0);
@@ -76,6 +75,18 @@ impl NzgDescriptor {
         self.index = string.index;
         self.note_endpoint(role, d);
         self.note(role, d);
+    }
+
+    /// Moves past the descriptor, and notes its depth.
+    // The depth is the same after the move, and then what decides it needs no second look.
+    #[inline(always)]
+    fn pass(&mut self, role: Role, d: &[u8])
+        requires counted { Counted self.old.position }
+        requires room { self.old.position.at + length d.now < 2 ^ 63 }
+        ensures { self.new ≡ record self.old { position = position_after role d.now self.old.position; depth = depth_of self.old.position role } }
+    {
+        self.position.pass(role, d);
+        self.depth = self.position.depth(role);
     }
 
     /// Notes what belongs to a descriptor of this role alone, where the position is after it.

@@ -10,10 +10,19 @@ use usb_fields::{after, byte_at, prefix, word_at, word_bytes};
 const HEADER: usize = 8;
 
 /// How many bytes the first piece has.
+// A head that is whole is read at once, with one test of its length.
+#[inline(always)]
 fn count(pieces: &[u8]) -> usize
     ensures { result ≡ count_in pieces.now }
 {
-    usize::from(word_at(pieces, 4)) + 65536 * usize::from(word_at(pieces, 6))
+    let (low, high) = match pieces {
+        [_, _, _, _, c0, c1, c2, c3, ..] => (
+            u16::from_le_bytes([*c0, *c1]),
+            u16::from_le_bytes([*c2, *c3]),
+        ),
+        _ => (word_at(pieces, 4), word_at(pieces, 6)),
+    };
+    usize::from(low) + 65536 * usize::from(high)
 }
 
 /// The bytes of the first piece.
@@ -31,10 +40,20 @@ pub(crate) fn rest(pieces: &[u8]) -> &[u8]
 }
 
 /// Whether these numbers name the first piece.
+#[inline(always)]
 fn has_key(pieces: &[u8], kind: u8, index: u8, number: u16) -> bool
     ensures { result ≡ has_key kind index number (piece_in pieces.now) }
 {
-    kind == byte_at(pieces, 0) && index == byte_at(pieces, 1) && number == word_at(pieces, 2)
+    match pieces {
+        [k, i, n0, n1, ..] => {
+            kind == *k && index == *i && number == u16::from_le_bytes([*n0, *n1])
+        }
+        _ => {
+            kind == byte_at(pieces, 0)
+                && index == byte_at(pieces, 1)
+                && number == word_at(pieces, 2)
+        }
+    }
 }
 
 /// The bytes of the first of the pieces that these numbers name.

@@ -2,7 +2,9 @@
 use Rattle.std.proofs.Common.{◌≡◌, ℕ, ◌<◌, ◌≤◌, ◌==◌, ◌&&◌, Bool, true, Option, Some, None, nat_le, nat_lt, slice_index, refl, ap, arith}
 use Rattle.std.proofs.lemmas.Bool.{and_parts, eqb-true, leb-true, ltb-true}
 use Rattle.hex.specs.Hex.{hex_digit_value}
+use Rattle.usb_hex.specs.HexItems.{is_gap}
 use Rattle.usb_hex.specs.declared.hex_digit.TheConstants.{VALUES}
+use Rattle.usb_hex.proofs.Sources.{are_same, same}
 use Rattle.usb_text.proofs.Printables.{all_below, all_below-at}
 
 abbrev says : ℕ → Option ℕ → Bool
@@ -36,3 +38,12 @@ is_no_digit c lt above = by (hex_digit_value c) (said c lt)
         let same = eqb-true (slice_index VALUES c) value parts.0 in
         let below = ltb-true value 16 parts.1 in
         absurd (omega (arith, same, below, above))
+
+abbrev agrees_on_gap : ℕ → Bool
+agrees_on_gap c = same (slice_index VALUES c == 32) (is_gap c)
+
+all_agree_on_gaps : all_below agrees_on_gap 256 ≡ true
+all_agree_on_gaps = refl
+
+pub says_gap : (c : ℕ) → c < 256 → (slice_index VALUES c == 32) ≡ is_gap c
+says_gap c lt = are_same (slice_index VALUES c == 32) (is_gap c) (all_below-at agrees_on_gap 256 c all_agree_on_gaps lt)

@@ -4,7 +4,7 @@ use Rattle.usb_hex.specs.Hexadecimal.{is_of_source}
 use Rattle.usb_hex.specs.declared.hexadecimal.TheConstants.{SOURCES}
 use Rattle.usb_text.proofs.Printables.{all_below, all_below-at}
 
-abbrev same : Bool → Bool → Bool
+abbrev pub same : Bool → Bool → Bool
 same true b = b
 same false b = not b
 
@@ -14,7 +14,7 @@ agrees c = same (slice_index SOURCES c == 35) (is_of_source c)
 all_agree : all_below agrees 256 ≡ true
 all_agree = refl
 
-are_same : (a b : Bool) → same a b ≡ true → a ≡ b
+pub are_same : (a b : Bool) → same a b ≡ true → a ≡ b
 are_same true true e = refl
 are_same true false e = cc
 are_same false true e = cc

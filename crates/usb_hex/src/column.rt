@@ -5,8 +5,8 @@ ghost use Rattle.usb_hex.specs.inside.Runs.{has_run};
 ghost use Rattle.usb_hex.specs.Columns.{after_all, after_one, at_offset, at_start, begins_address, begins_byte_word, begins_columns, begins_fence, begins_gap, begins_marked_pair, begins_numbers, begins_pair, begins_row, begins_zeros, blank_form, byte_word, column_form, columns_of, has_bytes, has_next_offset, has_text, has_three_spaces, has_two_spaces, is_before_line, is_blank, is_empty_line, is_heading, is_in_line, is_too_long, is_zero, next_line, zeros_form};
 
 use crate::comment::{is_before_line, is_fence};
-use crate::hex_digit::digit;
-use crate::hex_text::{Form, is_gap};
+use crate::hex_digit::{digit, is_gap};
+use crate::hex_text::Form;
 use crate::in_order::colon_form;
 use crate::offset::{
     after_digits, after_mark, after_name, after_offset_of, ends_address, has_digits, is_offset,
@@ -364,9 +364,28 @@ fn after_no_run<'a>(text: &'a [u8], tail: &'a [u8]) -> &'a [u8]
     }
 }
 
-/// The text from its first offset on, where only headings are before that.
-#[tactic(auto, using(crate::proofs::Runs::no_columns))]
+/// The text from its first offset on, where only headings are before that. Mostly the first line tells.
+#[tactic(auto, using(crate::proofs::ColumnLines::begins_here), unfolding(crate::specs::Columns::columns_of))]
 pub(crate) fn columns_of(text: &[u8]) -> Option<&[u8]>
+    ensures is { MatchOption result (columns_of true text.now ≡ None) (λ line. columns_of true text.now ≡ Some line.now) }
+    ensures within { IfSome result (λ line. length line.now ≤ length text.now) }
+{
+    if text.is_empty() {
+        return None;
+    }
+    let line = at_start(text);
+    if is_left_out(line) {
+        columns_below(text)
+    } else if begins_columns(line) {
+        Some(line)
+    } else {
+        None
+    }
+}
+
+/// The same, where the first line is a heading. No line is looked at in a text without four digits in a row.
+#[tactic(auto, using(crate::proofs::Runs::no_columns))]
+fn columns_below(text: &[u8]) -> Option<&[u8]>
     ensures is { MatchOption result (columns_of true text.now ≡ None) (λ line. columns_of true text.now ≡ Some line.now) }
     ensures within { IfSome result (λ line. length line.now ≤ length text.now) }
 {

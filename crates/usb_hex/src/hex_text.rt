@@ -9,14 +9,13 @@ ghost use Rattle.usb_hex.specs.Columns.{after_all, after_one};
 ghost use Rattle.usb_hex.specs.TwoReadings.{has_offset_after};
 ghost use Rattle.usb_hex.specs.HexText.{begins_directive, begins_mark, form_of, is_digit_letter};
 ghost use Rattle.std.specs.Prelude.{◌≡◌, ◌<◌, ◌≤◌, IfSome, MatchOption, None, Some, length, slice_index, ◌&&◌, ◌==◌};
-ghost use Rattle.usb_hex.specs.HexItems.{is_gap};
 ghost use Rattle.usb_hex.specs.HexText.{at_line, begins_byte, counted_item, has_characters, has_no_item, is_mark, item, line_item, mark_or_byte, plain_item};
 
 use crate::column::{
     after_blanks, after_line, after_one, at_offset, at_start, begins_blank, begins_digit,
     begins_zeros, column_form, columns_of, has_three_spaces, has_two_spaces, is_too_long,
 };
-use crate::hex_digit::{byte_of, digit};
+use crate::hex_digit::{byte_of, digit, is_gap};
 use crate::literal::literal_item;
 use crate::named::after_label;
 use crate::source_item::{Style, source_item};
@@ -257,8 +256,8 @@ fn plain_item(form: Form, count: usize, text: &[u8]) -> Option<(Option<u8>, &[u8
     ensures less { IfSome result (λ p. length p.1.now < length text.now) }
 {
     match text {
+        [c, rest @ ..] if *c != b'\n' && is_gap(*c) => Some((None, rest)),
         [b'\n', rest @ ..] => Some((None, at_line(form, count, rest)?)),
-        [c, rest @ ..] if is_gap(*c) => Some((None, rest)),
         [c, rest @ ..] => mark_or_byte(form, *c, rest),
         [] => None,
     }
@@ -322,13 +321,6 @@ fn has_no_item(count: usize, text: &[u8]) -> bool
     ensures { result ≡ has_no_item count text.now }
 {
     has_two_spaces(text) && plain_item(Form::Plain, count, after_one(after_one(text))).is_none()
-}
-
-/// Whether the character is white space or a comma.
-pub(crate) fn is_gap(c: u8) -> bool
-    ensures { result ≡ is_gap c }
-{
-    c <= b',' && matches!(c, b'\t' | b'\n' | b'\r' | b' ' | b',')
 }
 
 /// Whether the characters are a mark, and a byte is after them.

@@ -13,8 +13,8 @@ ghost use Rattle.usb_hex.specs.Hexadecimal.{FaultyIn, HexIn, HexRefused, HexText
 use crate::bracket::{Bracket, bracket_of, has, within};
 use crate::column::{at_start, column_form, columns_of};
 use crate::comment::uncommented;
-use crate::hex_digit::digit;
-use crate::hex_text::{Form, HexFault, form_of, is_gap};
+use crate::hex_digit::{digit, is_gap};
+use crate::hex_text::{Form, HexFault, form_of};
 use crate::label::unlabelled;
 use crate::literal::literal_of;
 use crate::named::is_named;

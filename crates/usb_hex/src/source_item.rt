@@ -5,8 +5,7 @@ ghost use Rattle.usb_hex.specs.SourceItems.{after_backslash, begins_prefix, deci
 ghost use Rattle.usb_hex.specs.SourceItems.{after_prefix, after_separator, begins_quoted, after_suffix, after_width, begins_escape, closing_item, ends_suffix, goes_on, is_closing, is_parting};
 
 use crate::column::{after_blanks, begins_blank, begins_digit};
-use crate::hex_digit::{byte_of, digit};
-use crate::hex_text::is_gap;
+use crate::hex_digit::{byte_of, digit, is_gap};
 use crate::symbol::{begins_word, is_decimal, is_letter, is_line_end, is_quote};
 
 /// How a text without columns has its bytes.

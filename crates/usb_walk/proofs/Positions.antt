@@ -4,6 +4,7 @@ use Rattle.usb_walk.specs.declared.role.Role.{Role}
 use Rattle.usb_walk.specs.declared.role.Role.TheVariants.{Device, Qualifier, Configuration, Association, Interface, Endpoint, Raw, Languages, Text}
 use Rattle.usb_walk.specs.declared.position.Position.{Position}
 use Rattle.usb_walk.specs.Positions.{Counted, moved, noted, position_after, position_at, with_set}
+use Rattle.usb_walk.specs.Surroundings.{depth_of}
 
 with_set_at : (is_other : Bool) (p : Position) → (with_set is_other p).at ≡ p.at
 with_set_at true p = refl
@@ -41,6 +42,19 @@ noted_left Text d p = refl
 -- fewer bytes of the set are left behind it
 pub after_left : (role : Role) (d : List ℕ) (p : Position) → (position_after role d p).left ≡ p.left - length d
 after_left role d p = ap (λ k. k - length d) (noted_left role d p)
+
+-- its depth can be read behind it too
+pub depth_after : (role : Role) (d : List ℕ) (p : Position) → depth_of (position_after role d p) role ≡ depth_of p role
+unfolding noted depth_of
+depth_after Device d p = refl
+depth_after Qualifier d p = refl
+depth_after Configuration d p = refl
+depth_after Association d p = refl
+depth_after Interface d p = refl
+depth_after Endpoint d p = refl
+depth_after Raw d p = refl
+depth_after Languages d p = refl
+depth_after Text d p = refl
 
 -- coming to one doesn't move either
 pub same_at : (role : Role) (ahead : List ℕ) (p : Position) → (position_at role ahead p).at ≡ p.at

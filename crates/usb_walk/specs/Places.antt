@@ -8,6 +8,12 @@ use Rattle.usb_walk.specs.declared.role.Role.{Role}
 use Rattle.usb_walk.specs.declared.role.Role.TheVariants as roles
 use Rattle.usb_walk.specs.Owners.{part_in}
 
+-- the number of a part
+abbrev pub part_number : Part → ℕ
+part_number parts.Device = 0
+part_number parts.Main = 1
+part_number parts.Other = 2
+
 -- in a part, and in none of its sets
 abbrev pub outside : Part → Place
 outside part = record { part = part; set = 0; setting = 0; endpoint = 0 }

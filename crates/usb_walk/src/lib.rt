@@ -17,7 +17,7 @@ mod surroundings;
 mod whole_descriptor;
 
 pub use owner::{DescriptorOwner, InterfaceSetting};
-pub use place::{Place, outside};
+pub use place::{Place, outside, part_number};
 pub use position::Position;
 pub use role::{Role, is_association, is_endpoint, is_interface, typed_role};
 pub use whole_descriptor::{descriptor_length, first_descriptor};

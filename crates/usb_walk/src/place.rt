@@ -1,6 +1,6 @@
 //! Where a descriptor is among the parts, sets, settings and endpoints of an input.
 ghost use Rattle.std.specs.Prelude.{◌≡◌};
-ghost use Rattle.usb_walk.specs.Places.{outside, place_in, raw_place, within};
+ghost use Rattle.usb_walk.specs.Places.{outside, part_number, place_in, raw_place, within};
 
 use crate::position::Position;
 use crate::role::Role;
@@ -56,6 +56,17 @@ impl Position {
             3 => self.within(self.setting, 0),
             _ => self.within(0, 0),
         }
+    }
+}
+
+/// The number of a part: 0 the device, 1 its sets, 2 its qualifier and the sets of the other speed.
+pub fn part_number(part: Part) -> u8
+    ensures { result ≡ part_number part }
+{
+    match part {
+        Part::Device => 0,
+        Part::Main => 1,
+        Part::Other => 2,
     }
 }
 

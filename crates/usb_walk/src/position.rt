@@ -1,7 +1,8 @@
 //! Where a descriptor stands in an input, as plain numbers: all that decides what it is, how deep and whose.
-ghost use Rattle.std.specs.Prelude.{◌≡◌, ◌≤◌, ◌+◌, ◌<◌, ◌^◌, IfSome, length};
+ghost use Rattle.std.specs.Prelude.{◌≡◌, ◌≤◌, ◌+◌, ◌<◌, ◌^◌, IfSome, false, length};
 ghost use Rattle.usb_walk.specs.Positions.{Counted, begun, first_position, moved, noted, position_after, position_at, sets_of, with_set, with_setting};
 ghost use Rattle.usb_walk.specs.Roles.{next_role};
+ghost use Rattle.usb_walk.specs.declared.role.Role.TheVariants.{Configuration};
 
 use crate::role::Role;
 use crate::whole_descriptor::descriptor_length;
@@ -116,18 +117,32 @@ impl Position {
         ensures { self.new ≡ position_at role ahead.now self.old }
     {
         match role {
-            Role::Configuration => {
-                let is_other = byte_at(ahead, 1) == descriptor_type::OTHER_SPEED_CONFIGURATION;
-                self.left = usize::from(word_at(ahead, 2));
-                self.begin(is_other, self.sets_of(is_other), 2);
-            }
+            Role::Configuration => self.enter_set(ahead),
             Role::Association | Role::Interface | Role::Endpoint | Role::Raw => {}
-            _ => self.begin(false, 0, 0),
+            _ => self.leave_sets(),
         }
     }
 
-    /// Begins the set of this number, or none. It is apart, since most descriptors begin no set.
+    /// Comes to the first descriptor of a set.
     #[inline(never)]
+    fn enter_set(&mut self, ahead: &[u8])
+        ensures { self.new ≡ position_at Configuration ahead.now self.old }
+    {
+        let is_other = byte_at(ahead, 1) == descriptor_type::OTHER_SPEED_CONFIGURATION;
+        self.left = usize::from(word_at(ahead, 2));
+        self.begin(is_other, self.sets_of(is_other), 2);
+    }
+
+    /// Comes to a descriptor outside of sets: all numbers of a set are 0.
+    #[inline(never)]
+    fn leave_sets(&mut self)
+        ensures { self.new ≡ begun false 0 0 self.old }
+    {
+        self.begin(false, 0, 0);
+    }
+
+    /// Begins the set of this number, or none.
+    #[inline(always)]
     fn begin(&mut self, is_other: bool, number: usize, below: u8)
         ensures { self.new ≡ begun is_other number below self.old }
     {

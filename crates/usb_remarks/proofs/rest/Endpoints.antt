@@ -5,7 +5,7 @@ use Rattle.std.proofs.lemmas.Bool.{le-leb, or_parts}
 use Rattle.usb_file_data.specs.declared.cause.Found.{Found}
 use Rattle.usb_file_data.specs.declared.cause.Cause.{Cause}
 use Rattle.usb_file_data.specs.declared.cause.Cause.TheVariants as causes
-use Rattle.usb_file_data.specs.Causes.{address_cause, found, rule_of}
+use Rattle.usb_file_data.specs.Causes.{address_cause, found}
 use Rattle.usb_file_data.specs.Findings.{association_count, at_associations, at_endpoint, endpoint_associations, endpoint_in_order}
 use Rattle.usb_file_data.specs.Places.{at_each_counted, when}
 use Rattle.usb_file_data.specs.Rules.{repeats_address, shares_address, wrong_address, wrong_packet_size}
@@ -15,7 +15,8 @@ use Rattle.usb_set.specs.Descriptors.{descriptor_bytes, endpoint_descriptor}
 use Rattle.usb_set.specs.inside.Trees.{endpoint_bytes, extra_bytes, is_endpoint_typed}
 use Rattle.usb_walk.specs.declared.role.Role.TheVariants as roles
 use Rattle.usb_remarks.specs.declared.standing.Standing.{Standing}
-use Rattle.usb_remarks.specs.Findings.{can_break, endpoint_can, finding_at, is_here}
+use Rattle.usb_walk.specs.Places.{place_in}
+use Rattle.usb_remarks.specs.Findings.{can_break, finding_at, is_here}
 use Rattle.usb_walk.specs.Surroundings.{depth_of}
 use Rattle.usb_walk.specs.Owners.{of_endpoint, owner_of, part_in}
 use Rattle.usb_walk.specs.Positions.{noted}
@@ -25,16 +26,7 @@ use Rattle.usb_walk.specs.Trees.{endpoint_descriptors, tree_descriptor}
 use Rattle.usb_remarks.proofs.Spans.{Aim, adding}
 use Rattle.usb_remarks.proofs.rest.Steps.{four_parts, inner_at, length_is}
 use Rattle.usb_remarks.proofs.rest.Seen.{AllHere, Goes, Seen, Step, goes_as, goes_twice, here_both, here_when, seen, whose_interface}
-use Rattle.usb_remarks.proofs.rest.Extras.{count_append, extras_go, here_is, less, same_place, same_taken, seen_goes, taken}
-
--- ---- its findings
-
-here_endpoint : (s : Standing) (cause : Cause) → endpoint_can cause ≡ true
-    → is_here s roles.Endpoint (found cause (part_in s.position) s.position.set s.position.setting s.position.endpoints) ≡ true
-unfolding finding_at can_break
-here_endpoint s cause h =
-    here_is s roles.Endpoint cause (part_in s.position) s.position.set s.position.setting s.position.endpoints
-    (same_place (rule_of cause) (part_in s.position) s.position.set s.position.setting s.position.endpoints) h
+use Rattle.usb_remarks.proofs.rest.Extras.{count_append, extras_go, here_is, less, same_taken, seen_goes, taken}
 
 -- ---- its descriptor
 
@@ -68,10 +60,10 @@ endpoint_step : (running : Option SetSpeed) (before : List Setting) (t : Setting
     → Step running s roles.Endpoint (descriptor_bytes (endpoint_descriptor e)) behind (at_endpoint (part_in s.position) s.position.set before s.position.setting t s.position.endpoints e)
     (at_setting s.position.setting (s.position.endpoints + 1) (owned e.address (less (length (descriptor_bytes (endpoint_descriptor e))) (seen s)))) 3
     (Some (of_endpoint (whose_interface (seen s)) e.address))
-unfolding noted depth_of owner_of
+unfolding noted depth_of owner_of finding_at place_in can_break
 endpoint_step running before t e behind s p =
     let d = descriptor_bytes (endpoint_descriptor e) in
-    let here = here_endpoint s in
+    let here = here_is s roles.Endpoint in
     let f = λ (cause : Cause). found cause (part_in s.position) s.position.set s.position.setting s.position.endpoints in
     record {
       is = inner_at s d s.position.left refl (omega arith) p.1 ∙ endpoint_role s e p.0;

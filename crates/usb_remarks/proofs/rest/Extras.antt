@@ -5,13 +5,12 @@ use Rattle.std.proofs.lemmas.Bool.{le-leb, eq-eqb, ne_eqb, or_parts}
 use Rattle.std.proofs.lemmas.List.Concat.{flat_map-append}
 use Rattle.usb_file_data.specs.declared.cause.Found.{Found}
 use Rattle.usb_file_data.specs.declared.finding.Part.{Part}
-use Rattle.usb_file_data.specs.declared.rule.Rule.{Rule}
 use Rattle.usb_file_data.specs.declared.cause.Cause.{Cause}
+use Rattle.usb_file_data.specs.declared.finding.Finding.{Finding}
 use Rattle.usb_file_data.specs.declared.cause.Cause.TheVariants as causes
-use Rattle.usb_file_data.specs.Causes.{association_cause, found, rule_of}
-use Rattle.usb_file_data.specs.Numbers.{rule_number}
+use Rattle.usb_file_data.specs.Causes.{association_cause, found}
 use Rattle.usb_file_data.specs.Findings.{association_count, at_associations}
-use Rattle.usb_file_data.specs.Places.{at_each, finding, when}
+use Rattle.usb_file_data.specs.Places.{at_each, when}
 use Rattle.usb_file_data.specs.Rules.{binds_missing_interface}
 use Rattle.usb_file_data.proofs.Walking.{each_append}
 use Rattle.usb_set.specs.declared.extra.Association.{Association}
@@ -28,7 +27,8 @@ use Rattle.usb_walk.specs.Trees.{descriptor_length, extra_depth, extra_descripto
 use Rattle.usb_walk.specs.declared.role.Role.{Role}
 use Rattle.usb_walk.specs.declared.role.Role.TheVariants as roles
 use Rattle.usb_remarks.specs.declared.standing.Standing.{Standing}
-use Rattle.usb_remarks.specs.Findings.{association_can, can_break, finding_at, is_here, is_same, part_number}
+use Rattle.usb_walk.specs.Places.{part_number, place_in}
+use Rattle.usb_remarks.specs.Findings.{can_break, finding_at, is_here, is_same}
 use Rattle.usb_walk.specs.Surroundings.{depth_of}
 use Rattle.usb_walk.specs.Owners.{owner_of, part_in}
 use Rattle.usb_walk.specs.declared.owner.DescriptorOwner.{DescriptorOwner}
@@ -52,23 +52,19 @@ seen_goes E running v P role d behind mine w later depth owner e step holds onwa
 
 -- ---- whose a finding is
 
-pub here_is : (s : Standing) (role : Role) (cause : Cause) (part : Part) (i j k : ℕ)
-    → is_same (finding (rule_of cause) part i j k) (finding_at s role cause) ≡ true → can_break role cause ≡ true → is_here s role (found cause part i j k) ≡ true
+same_finding : (f : Finding) → is_same f f ≡ true
+same_finding f =
+    rw (eq-eqb f.rule f.rule refl, eq-eqb (part_number f.part) (part_number f.part) refl, eq-eqb f.set f.set refl, eq-eqb f.setting f.setting refl, eq-eqb f.endpoint f.endpoint refl) refl
+
+-- one at the place of a descriptor is of it, where such a descriptor can break that rule
+pub here_is : (s : Standing) (role : Role) (cause : Cause) → can_break role cause ≡ true → is_here s role (record { finding = finding_at s.position role cause; cause = cause }) ≡ true
 unfolding is_here
-here_is s role cause part i j k same can = rw (same, can) refl
+here_is s role cause can = rw (same_finding (finding_at s.position role cause), can) refl
 
-pub same_place : (rule : Rule) (p : Part) (i j k : ℕ) → is_same (finding rule p i j k) (finding rule p i j k) ≡ true
-same_place rule p i j k = rw (eq-eqb (rule_number rule) (rule_number rule) refl, eq-eqb (part_number p) (part_number p) refl, eq-eqb i i refl, eq-eqb j j refl, eq-eqb k k refl) refl
-
-association_breaks : (none : Bool) → association_can (if none then causes.NoInterface else causes.MissingInterface) ≡ true
+association_breaks : (none : Bool) → can_break roles.Association (if none then causes.NoInterface else causes.MissingInterface) ≡ true
+unfolding can_break
 association_breaks true = refl
 association_breaks false = refl
-
-here_association : (s : Standing) (a : Association) → is_here s roles.Association (found (association_cause a) (part_in s.position) s.position.set s.position.associations 0) ≡ true
-unfolding finding_at can_break
-here_association s a =
-    here_is s roles.Association (association_cause a) (part_in s.position) s.position.set s.position.associations 0
-    (same_place (rule_of (association_cause a)) (part_in s.position) s.position.set s.position.associations 0) (association_breaks (a.count == 0))
 
 -- ---- what is left
 
@@ -109,7 +105,7 @@ extra_findings part i settings n x = at_each (λ k a. when (binds_missing_interf
 extra_step : (running : Option SetSpeed) (settings : List Setting) (x : Extra) (behind : List ℕ) (s : Standing) → is_typed_raw x ≡ false → length (extra_bytes x) ≤ s.position.left
     → Step running s (extra_role x) (extra_bytes x) behind (extra_findings (part_in s.position) s.position.set settings s.position.associations x)
     (after_extra x (seen s)) (extra_depth s.position.below x) (Some (extra_owner (whose (seen s)) x))
-unfolding noted depth_of owner_of
+unfolding noted depth_of owner_of finding_at place_in
 extra_step running settings (extras.Raw r) behind s e room =
     let same : s.position.associations ≡ s.position.associations + 0 = omega arith in
     record {
@@ -125,7 +121,7 @@ extra_step running settings (extras.Association a) behind s e room =
     let here = is_here s roles.Association in
     record {
       is = inner_at s d s.position.left refl (omega arith) room ∙ association_role s a;
-      own = here_both here (when (binds_missing_interface settings a) f) [] (here_when here (binds_missing_interface settings a) f (λ h. here_association s a)) tt;
+      own = here_both here (when (binds_missing_interface settings a) f) [] (here_when here (binds_missing_interface settings a) f (λ h. here_is s roles.Association (association_cause a) (association_breaks (a.count == 0)))) tt;
       after = refl;
       deep = refl;
       belongs = refl;

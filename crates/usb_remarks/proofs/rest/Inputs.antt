@@ -11,7 +11,6 @@ use Rattle.usb_fields.specs.Device.{device_bytes, device_fields, qualifier_bytes
 use Rattle.usb_fields.specs.Units.{units_bytes}
 use Rattle.usb_file_data.specs.declared.cause.Found.{Found}
 use Rattle.usb_file_data.specs.declared.finding.Part.TheVariants as parts
-use Rattle.usb_file_data.specs.declared.rule.Rule.TheVariants as rules
 use Rattle.usb_file_data.specs.declared.cause.Cause.TheVariants as causes
 use Rattle.usb_file_data.specs.Causes.{device_cause, found, qualifier_cause}
 use Rattle.usb_file_data.specs.Findings.{at_device, at_qualifier, file_in_order, found_in_order, other_in_order, part_in_order, part_of_kind, set_in_order, without_sets}
@@ -36,6 +35,7 @@ use Rattle.usb_remarks.specs.declared.speed.SetSpeed.{SetSpeed}
 use Rattle.usb_walk.specs.declared.role.Role.{Role}
 use Rattle.usb_walk.specs.declared.role.Role.TheVariants as roles
 use Rattle.usb_remarks.specs.declared.standing.Standing.{Standing}
+use Rattle.usb_walk.specs.Places.{place_in}
 use Rattle.usb_remarks.specs.Findings.{can_break, finding_at, is_here}
 use Rattle.usb_walk.specs.Surroundings.{depth_of}
 use Rattle.usb_remarks.specs.OutlineLaws.{WholeHasNoRest, WholeShowsTree, WholeReportsFindings}
@@ -49,7 +49,7 @@ use Rattle.usb_remarks.proofs.Spans.{Aim, adding}
 use Rattle.usb_remarks.proofs.rest.Walks.{Ends, ShowsAll, Tells, all_tells, ends_here, nothing_left}
 use Rattle.usb_remarks.proofs.rest.Steps.{behind_one, goes_on, left_one, length_is}
 use Rattle.usb_remarks.proofs.rest.Seen.{AllHere, Rear, here_both, here_when, goes_as, rear_behind, seen}
-use Rattle.usb_remarks.proofs.rest.Extras.{here_is, same_place}
+use Rattle.usb_remarks.proofs.rest.Extras.{here_is}
 use Rattle.usb_remarks.proofs.rest.Settings.{Out, out}
 use Rattle.usb_remarks.proofs.rest.Sets.{GoesOut, both_hold, count_in, outer_at, set_goes, sets_go}
 
@@ -86,14 +86,6 @@ pub device_role : (d : DeviceDescriptor) → role_of start.position (device_byte
 unfolding start role_of outer_role
 device_role d = refl
 
-here_no_set : (s : Standing) → is_here s roles.Device (found causes.NoConfiguration parts.Main 0 0 0) ≡ true
-unfolding finding_at can_break
-here_no_set s = here_is s roles.Device causes.NoConfiguration parts.Main 0 0 0 (same_place rules.V10 parts.Main 0 0 0) refl
-
-here_device : (s : Standing) (is_dump : Bool) (d : DeviceDescriptor) → is_here s roles.Device (found (device_cause is_dump d) parts.Device 0 0 0) ≡ true
-unfolding finding_at can_break
-here_device s is_dump d = here_is s roles.Device (device_cause is_dump d) parts.Device 0 0 0 (same_place rules.V11 parts.Device 0 0 0) refl
-
 pub device_after : (d ahead : List ℕ) (running : Option SetSpeed)
     → out (seen (passed roles.Device d (entered roles.Device running ahead start))) ≡ outside true false 0 0
 unfolding start noted
@@ -113,6 +105,7 @@ device_owner running d ahead = refl
 device_goes : (E : Aim) (running : Option SetSpeed) (fs : List Found) (d : DeviceDescriptor) (sets : List Configuration) (is_dump : Bool) (behind : List ℕ) (later : List Found)
     → GoesOut (adding E (tree_descriptor roles.Device 0 None (device_bytes d) ∷ [])) running (outside true false 0 0) later behind
     → Rear fs (device_findings is_dump d sets ++ later) → Ends E running start fs (device_bytes d ++ behind)
+unfolding finding_at place_in can_break
 device_goes E running fs d sets is_dump behind later onward rear =
     let b = device_bytes d in
     let begun = entered roles.Device running (b ++ behind) start in
@@ -121,8 +114,8 @@ device_goes E running fs d sets is_dump behind later onward rear =
     let next = behind_one running start roles.Device b behind in
     let own : AllHere here (device_findings is_dump d sets) =
     here_both here (when (length sets == 0) none) (at_device is_dump d)
-    (here_when here (length sets == 0) none (λ h. here_no_set begun))
-    (here_when here (if is_dump then wrong_dumped_device d else wrong_device d) (found (device_cause is_dump d) parts.Device 0 0 0) (λ h. here_device begun is_dump d)) in
+    (here_when here (length sets == 0) none (λ h. here_is begun roles.Device causes.NoConfiguration refl))
+    (here_when here (if is_dump then wrong_dumped_device d else wrong_device d) (found (device_cause is_dump d) parts.Device 0 0 0) (λ h. here_is begun roles.Device (device_cause is_dump d) refl)) in
     goes_on E running start fs b behind roles.Device 0 None (length_is 18 1 (fields_bytes device_fields d) behind refl) (device_role d)
     (device_depth running (b ++ behind)) (device_owner running b (b ++ behind))
     (onward (seen next) (device_after b (b ++ behind) running) next (left_one running start fs roles.Device b behind) refl (rear_behind running start fs roles.Device b behind (device_findings is_dump d sets) later own rear))
@@ -133,14 +126,6 @@ pub qualifier_role : (s : Standing) (q : Qualifier) → s.position.has_device �
 unfolding outer_role
 qualifier_role s q e = both_hold (s.position.has_device) true roles.Qualifier e refl
 
-here_no_other : (s : Standing) → is_here s roles.Qualifier (found causes.NoConfiguration parts.Other 0 0 0) ≡ true
-unfolding finding_at can_break
-here_no_other s = here_is s roles.Qualifier causes.NoConfiguration parts.Other 0 0 0 (same_place rules.V10 parts.Other 0 0 0) refl
-
-here_qualifier : (s : Standing) (q : Qualifier) → is_here s roles.Qualifier (found (qualifier_cause q) parts.Other 0 0 0) ≡ true
-unfolding finding_at can_break
-here_qualifier s q = here_is s roles.Qualifier (qualifier_cause q) parts.Other 0 0 0 (same_place rules.V11 parts.Other 0 0 0) refl
-
 -- outside of sets nothing is left of one
 pub nothing_less : (o : Out) (s : Standing) (n : ℕ) → o.left ≡ 0 → out (seen s) ≡ o → record (out (seen s)) { left = s.position.left - n } ≡ o
 nothing_less o s n none e =
@@ -150,7 +135,7 @@ nothing_less o s n none e =
 
 qualifier_step : (running : Option SetSpeed) (other : Other) (spoken : Bool) (m n : ℕ) (behind : List ℕ) (s : Standing) → out (seen s) ≡ outside true spoken m n
     → OutStep running s roles.Qualifier (qualifier_bytes other.qualifier) behind (without_sets parts.Other other.sets ++ at_qualifier other.qualifier) (outside true spoken m n)
-unfolding noted depth_of owner_of
+unfolding noted depth_of owner_of finding_at place_in can_break
 qualifier_step running other spoken m n behind s e =
     let d = qualifier_bytes other.qualifier in
     let begun = entered roles.Qualifier running (d ++ behind) s in
@@ -159,8 +144,8 @@ qualifier_step running other spoken m n behind s e =
     record {
       is = outer_at s d (ap (λ (o : Out). o.left) e) ∙ qualifier_role s other.qualifier (ap (λ (o : Out). o.known) e);
       own = here_both here (when (length other.sets == 0) none) (at_qualifier other.qualifier)
-          (here_when here (length other.sets == 0) none (λ h. here_no_other begun))
-          (here_when here (wrong_qualifier other.qualifier) (found (qualifier_cause other.qualifier) parts.Other 0 0 0) (λ h. here_qualifier begun other.qualifier));
+          (here_when here (length other.sets == 0) none (λ h. here_is begun roles.Qualifier causes.NoConfiguration refl))
+          (here_when here (wrong_qualifier other.qualifier) (found (qualifier_cause other.qualifier) parts.Other 0 0 0) (λ h. here_is begun roles.Qualifier (qualifier_cause other.qualifier) refl));
       after = nothing_less (outside true spoken m n) s (length d) refl e;
       deep = refl;
       belongs = refl;

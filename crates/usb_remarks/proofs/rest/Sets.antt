@@ -4,10 +4,9 @@ use Rattle.std.specs.List.{list_any}
 use Rattle.std.proofs.lemmas.Bool.{cond-true, le-leb, eq-eqb, or_parts}
 use Rattle.usb_fields.specs.Bytes.{little_endian_at}
 use Rattle.usb_file_data.specs.declared.cause.Found.{Found}
-use Rattle.usb_file_data.specs.declared.finding.Part.TheVariants as parts
 use Rattle.usb_file_data.specs.declared.cause.Cause.{Cause}
 use Rattle.usb_file_data.specs.declared.cause.Cause.TheVariants as causes
-use Rattle.usb_file_data.specs.Causes.{attributes_cause, found, rule_of, value_cause}
+use Rattle.usb_file_data.specs.Causes.{attributes_cause, found, value_cause}
 use Rattle.usb_file_data.specs.Findings.{association_count, at_associations, at_configuration, part_of_kind, set_in_order, setting_associations, setting_in_order}
 use Rattle.usb_file_data.specs.Places.{at_each, at_each_counted}
 use Rattle.usb_file_data.specs.Rules.{has_number_gap, interface_numbers, wrong_attributes, wrong_interface_count, wrong_value}
@@ -27,7 +26,8 @@ use Rattle.usb_remarks.specs.declared.speed.SetSpeed.{SetSpeed}
 use Rattle.usb_walk.specs.declared.role.Role.{Role}
 use Rattle.usb_walk.specs.declared.role.Role.TheVariants as roles
 use Rattle.usb_remarks.specs.declared.standing.Standing.{Standing}
-use Rattle.usb_remarks.specs.Findings.{can_break, finding_at, is_here, set_can}
+use Rattle.usb_walk.specs.Places.{place_in}
+use Rattle.usb_remarks.specs.Findings.{can_break, finding_at, is_here}
 use Rattle.usb_walk.specs.Surroundings.{depth_of}
 use Rattle.usb_walk.specs.Owners.{of_set, owner_of}
 use Rattle.usb_remarks.specs.SetStart.{entered}
@@ -38,7 +38,7 @@ use Rattle.usb_walk.specs.Trees.{extra_descriptors, set_descriptors, set_descrip
 use Rattle.usb_remarks.proofs.Spans.{Aim, adding}
 use Rattle.usb_remarks.proofs.rest.Steps.{four_parts, length_is}
 use Rattle.usb_remarks.proofs.rest.Seen.{Goes, Seen, Step, goes_as, goes_for, goes_twice, seen}
-use Rattle.usb_remarks.proofs.rest.Extras.{extras_go, here_is, same_place, seen_goes, taken}
+use Rattle.usb_remarks.proofs.rest.Extras.{extras_go, here_is, seen_goes, taken}
 use Rattle.usb_remarks.proofs.rest.Endpoints.{here_four}
 use Rattle.usb_remarks.proofs.rest.Settings.{Out, out, out_at, settings_go}
 
@@ -92,14 +92,12 @@ unfolding noted
 set_after kinds.Configuration running len body behind s = refl
 set_after kinds.OtherSpeed running len body behind s = refl
 
-here_set : (kind : SetKind) (running : Option SetSpeed) (s : Standing) (len : ℕ) (body behind : List ℕ) (cause : Cause) → set_can cause ≡ true
+here_set : (kind : SetKind) (running : Option SetSpeed) (s : Standing) (len : ℕ) (body behind : List ℕ) (cause : Cause) → can_break roles.Configuration cause ≡ true
     → (let d : List ℕ = len ∷ type_number kind ∷ body in
     is_here (entered roles.Configuration running (d ++ behind) s) roles.Configuration (found cause (part_of_kind kind) (count_in kind (out (seen s))) 0 0) ≡ true)
-unfolding finding_at can_break
-here_set kinds.Configuration running s len body behind cause h =
-    here_is (entered roles.Configuration running (len ∷ 2 ∷ body ++ behind) s) roles.Configuration cause parts.Main s.position.main_sets 0 0 (same_place (rule_of cause) parts.Main s.position.main_sets 0 0) h
-here_set kinds.OtherSpeed running s len body behind cause h =
-    here_is (entered roles.Configuration running (len ∷ 7 ∷ body ++ behind) s) roles.Configuration cause parts.Other s.position.other_sets 0 0 (same_place (rule_of cause) parts.Other s.position.other_sets 0 0) h
+unfolding finding_at place_in
+here_set kinds.Configuration running s len body behind cause h = here_is (entered roles.Configuration running (len ∷ 2 ∷ body ++ behind) s) roles.Configuration cause h
+here_set kinds.OtherSpeed running s len body behind cause h = here_is (entered roles.Configuration running (len ∷ 7 ∷ body ++ behind) s) roles.Configuration cause h
 
 -- it belongs to its set
 owner_set : (kind : SetKind) (running : Option SetSpeed) (s : Standing) (len : ℕ) (body behind : List ℕ)
@@ -109,7 +107,8 @@ unfolding owner_of
 owner_set kinds.Configuration running s len body behind = refl
 owner_set kinds.OtherSpeed running s len body behind = refl
 
-value_breaks : (is_zero : Bool) → set_can (if is_zero then causes.ZeroValue else causes.RepeatedValue) ≡ true
+value_breaks : (is_zero : Bool) → can_break roles.Configuration (if is_zero then causes.ZeroValue else causes.RepeatedValue) ≡ true
+unfolding can_break
 value_breaks true = refl
 value_breaks false = refl
 
@@ -142,7 +141,7 @@ configuration_step : (running : Option SetSpeed) (before : List Configuration) (
     → Step running s roles.Configuration (descriptor_bytes (configuration_descriptor c total)) (behind_first c behind) (at_configuration (part_of_kind c.kind) before (count_in c.kind (out (seen s))) c)
     (begun c.kind (total - length (descriptor_bytes (configuration_descriptor c total))) (seen s))
     1 (Some (of_set (part_of_kind c.kind) (count_in c.kind (out (seen s)))))
-unfolding depth_of
+unfolding depth_of can_break
 configuration_step running before c total behind s whole outside =
     let body : List ℕ = (configuration_descriptor c total).body in
     let d : List ℕ = descriptor_bytes (configuration_descriptor c total) in

@@ -5,7 +5,7 @@ use Rattle.std.proofs.lemmas.Bool.{le-leb, or_parts}
 use Rattle.usb_file_data.specs.declared.cause.Found.{Found}
 use Rattle.usb_file_data.specs.declared.cause.Cause.{Cause}
 use Rattle.usb_file_data.specs.declared.cause.Cause.TheVariants as causes
-use Rattle.usb_file_data.specs.Causes.{found, rule_of}
+use Rattle.usb_file_data.specs.Causes.{found}
 use Rattle.usb_file_data.specs.Findings.{association_count, at_associations, at_interface, endpoint_associations, endpoint_in_order, setting_associations, setting_in_order}
 use Rattle.usb_file_data.specs.Places.{at_each_counted, when}
 use Rattle.usb_file_data.specs.Rules.{lacks_default_setting, repeats_setting, wrong_endpoint_count}
@@ -16,7 +16,8 @@ use Rattle.usb_set.specs.inside.Trees.{endpoint_bytes, extra_bytes, is_setting_t
 use Rattle.usb_set.proofs.Trees.{setting_typed_parts}
 use Rattle.usb_walk.specs.declared.role.Role.TheVariants as roles
 use Rattle.usb_remarks.specs.declared.standing.Standing.{Standing}
-use Rattle.usb_remarks.specs.Findings.{can_break, finding_at, interface_can, is_here}
+use Rattle.usb_walk.specs.Places.{place_in}
+use Rattle.usb_remarks.specs.Findings.{can_break, finding_at, is_here}
 use Rattle.usb_walk.specs.Surroundings.{depth_of}
 use Rattle.usb_walk.specs.Owners.{of_interface, of_set, owner_of, part_in}
 use Rattle.usb_walk.specs.declared.owner.DescriptorOwner.{DescriptorOwner}
@@ -27,14 +28,10 @@ use Rattle.usb_walk.specs.Trees.{TreeDescriptor, endpoint_descriptors, extra_des
 use Rattle.usb_remarks.proofs.Spans.{Aim, adding}
 use Rattle.usb_remarks.proofs.rest.Steps.{four_parts, inner_at, length_is}
 use Rattle.usb_remarks.proofs.rest.Seen.{AllHere, Goes, Seen, Step, goes_as, goes_for, here_both, here_when, seen}
-use Rattle.usb_remarks.proofs.rest.Extras.{count_append, extras_go, here_is, same_place, seen_goes, taken}
+use Rattle.usb_remarks.proofs.rest.Extras.{count_append, extras_go, here_is, seen_goes, taken}
 use Rattle.usb_remarks.proofs.rest.Endpoints.{endpoints_go}
 
 -- ---- an interface
-
-here_interface : (s : Standing) (cause : Cause) → interface_can cause ≡ true → is_here s roles.Interface (found cause (part_in s.position) s.position.set s.position.settings 0) ≡ true
-unfolding finding_at can_break
-here_interface s cause h = here_is s roles.Interface cause (part_in s.position) s.position.set s.position.settings 0 (same_place (rule_of cause) (part_in s.position) s.position.set s.position.settings 0) h
 
 interface_role : (s : Standing) (t : Setting) → inner_role s.position (descriptor_bytes (interface_descriptor t)) ≡ Some roles.Interface
 unfolding inner_role
@@ -81,12 +78,12 @@ interface_step : (running : Option SetSpeed) (all : List Setting) (t : Setting) 
     → s.position.left ≡ length (flat_map setting_bytes (t ∷ ts))
     → Step running s roles.Interface (descriptor_bytes (interface_descriptor t)) (behind_interface t ts behind) (at_interface (part_in s.position) s.position.set all s.position.settings t)
     (begun_setting t (length (descriptor_bytes (interface_descriptor t))) (seen s)) 2 (Some (interface_in t (seen s)))
-unfolding noted depth_of owner_of
+unfolding noted depth_of owner_of finding_at place_in can_break
 interface_step running all t ts behind s left =
     let d = descriptor_bytes (interface_descriptor t) in
     let j = s.position.settings in
     let f = λ (cause : Cause). found cause (part_in s.position) s.position.set j 0 in
-    let here = here_interface s in
+    let here = here_is s roles.Interface in
     let count = causes.EndpointCount t.declared_endpoints (length t.endpoints) in
     let sum = setting_sum t ts in
     record {

@@ -16,10 +16,8 @@ use Rattle.usb_file_data.specs.Findings.{found_in_order}
 use Rattle.usb_remarks.proofs.Outlines.{entry_in_tree, found_same, next_bounds, tree_same}
 use Rattle.usb_file_data.specs.declared.cause.Found.{Found}
 use Rattle.usb_file_data.specs.Numbers.{rule_number, rule_numbered}
-use Rattle.usb_file_data.specs.declared.cause.Cause.{Cause}
 use Rattle.usb_file_data.specs.Causes.{rule_of}
 use Rattle.usb_file_data.proofs.RuleNumbers.{numbered_rule}
-use Rattle.usb_walk.specs.declared.role.Role.TheVariants as roles
 use Rattle.std.proofs.lemmas.Bool.{eqb-true}
 use Rattle.std.proofs.lemmas.List.{length-map}
 use Rattle.usb_file_data.specs.declared.rule.Rule.{Rule}
@@ -75,28 +73,16 @@ all_own : (shown : List Entry) → AllByRecursion HasItsOwnFindings shown
 all_own [] = tt
 all_own (d ∷ ds) = (tells_own d, all_own ds)
 
--- the rule of what is of a descriptor is that of its cause
-rule_at : (s : Standing) (role : Role) (cause : Cause) → (finding_at s role cause).rule ≡ rule_number (rule_of cause)
-unfolding finding_at
-rule_at s roles.Device cause = refl
-rule_at s roles.Qualifier cause = refl
-rule_at s roles.Configuration cause = refl
-rule_at s roles.Association cause = refl
-rule_at s roles.Interface cause = refl
-rule_at s roles.Endpoint cause = refl
-rule_at s roles.Raw cause = refl
-rule_at s roles.Languages cause = refl
-rule_at s roles.Text cause = refl
-
 first_true : (a b c : Bool) → ((a && b) && c) ≡ true → a ≡ true
 first_true true b c h = refl
 first_true false b c h = h
 
 has_rule : (s : Standing) (role : Role) (f : Found) → is_here s role f ≡ true → HasRule f.finding
-unfolding is_here
+unfolding is_here finding_at
 has_rule s role f h =
-    let same = eqb-true f.finding.rule (finding_at s role f.cause).rule (first_true (f.finding.rule == (finding_at s role f.cause).rule) _ _ h) in
-    ap (λ n. is_some (rule_numbered n)) (same ∙ rule_at s role f.cause) ∙ ap (λ (o : Option Rule). is_some o) (numbered_rule (rule_of f.cause))
+    let rule = rule_number (rule_of f.cause) in
+    let same = eqb-true f.finding.rule rule (first_true (f.finding.rule == rule) _ _ h) in
+    ap (λ n. is_some (rule_numbered n)) same ∙ ap (λ (o : Option Rule). is_some o) (numbered_rule (rule_of f.cause))
 
 have_rules : (s : Standing) (role : Role) (found : List Found) → AllByRecursion (λ f. is_here s role f ≡ true) found → AllByRecursion (λ f. HasRule f.finding) found
 have_rules s role [] own = tt
