@@ -1,7 +1,10 @@
 //! Files whose bytes are typed from the format's document, each in two pieces, cut at every byte.
+mod device_file;
+mod findings;
 mod pcapng;
 mod readings;
 mod text;
+mod transactions;
 mod transfers;
 
 use std::alloc::Global;

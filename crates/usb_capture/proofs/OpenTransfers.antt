@@ -33,11 +33,11 @@ rest id one opens = refl
 found_past : (id : ℕ) (one : OpenTransfer) (opens : List OpenTransfer) → one.id ≢ id → open_with id (one ∷ opens) ≡ open_with id opens
 found_past id one opens other = found id one opens ∙ ap (λ t. if t then Some one.transfer else open_with id opens) (apart one.id id other)
 
-abbrev Once : List OpenTransfer → Type 0
+abbrev pub Once : List OpenTransfer → Type 0
 Once [] = ⊤
 Once (one ∷ opens) = (open_with one.id opens ≡ None) × Once opens
 
-without_none : (id : ℕ) (opens : List OpenTransfer) → Once opens → open_with id (without id opens) ≡ None
+pub without_none : (id : ℕ) (opens : List OpenTransfer) → Once opens → open_with id (without id opens) ≡ None
 unfolding open_with without
 without_none id [] once = refl
 without_none id (one ∷ opens) once = of (one.id == id) refl (without_none id opens once.1)
@@ -46,7 +46,7 @@ without_none id (one ∷ opens) once = of (one.id == id) refl (without_none id o
     of true e later = ap (λ n. open_with n opens) (sym (same_number one.id id e)) ∙ once.0
     of false e later = found_past id one (without id opens) (other_number one.id id e) ∙ later
 
-without_other : (id other : ℕ) (opens : List OpenTransfer) → other ≢ id → open_with id (without other opens) ≡ open_with id opens
+pub without_other : (id other : ℕ) (opens : List OpenTransfer) → other ≢ id → open_with id (without other opens) ≡ open_with id opens
 unfolding without
 without_other id other [] apart = refl
 without_other id other (one ∷ opens) apart = of (one.id == other) refl (without_other id other opens apart)
@@ -56,12 +56,12 @@ without_other id other (one ∷ opens) apart = of (one.id == other) refl (withou
     of true e later = sym (found_past id one opens (subst (λ n. n ≢ id) (sym (same_number one.id other e)) apart))
     of false e later = found id one (without other opens) ∙ ap (λ o. if one.id == id then Some one.transfer else o) later ∙ sym (found id one opens)
 
-push_other : (id other : ℕ) (opens : List OpenTransfer) (transfer : ControlTransfer) → other ≢ id → open_with id (opens ++ opened other transfer ∷ []) ≡ open_with id opens
+pub push_other : (id other : ℕ) (opens : List OpenTransfer) (transfer : ControlTransfer) → other ≢ id → open_with id (opens ++ opened other transfer ∷ []) ≡ open_with id opens
 push_other id other [] transfer apart = found_past id (opened other transfer) [] apart
 push_other id other (one ∷ opens) transfer apart =
     found id one (opens ++ opened other transfer ∷ []) ∙ ap (λ o. if one.id == id then Some one.transfer else o) (push_other id other opens transfer apart) ∙ sym (found id one opens)
 
-push_found : (id : ℕ) (opens : List OpenTransfer) (transfer : ControlTransfer) → open_with id opens ≡ None → open_with id (opens ++ opened id transfer ∷ []) ≡ Some transfer
+pub push_found : (id : ℕ) (opens : List OpenTransfer) (transfer : ControlTransfer) → open_with id opens ≡ None → open_with id (opens ++ opened id transfer ∷ []) ≡ Some transfer
 push_found id [] transfer none = found id (opened id transfer) [] ∙ ap (λ t. if t then Some transfer else open_with id []) (self_same id)
   where
     self_same : (n : ℕ) → (n == n) ≡ true
@@ -74,7 +74,7 @@ push_found id (one ∷ opens) transfer none = of (one.id == id) refl (sym (found
     of true e h later = cc
     of false e h later = found_past id one (opens ++ opened id transfer ∷ []) (other_number one.id id e) ∙ later h
 
-without_once : (id : ℕ) (opens : List OpenTransfer) → Once opens → Once (without id opens)
+pub without_once : (id : ℕ) (opens : List OpenTransfer) → Once opens → Once (without id opens)
 unfolding without
 without_once id [] once = tt
 without_once id (one ∷ opens) once = of (one.id == id) refl (without_once id opens once.1)
@@ -83,7 +83,7 @@ without_once id (one ∷ opens) once = of (one.id == id) refl (without_once id o
     of true e later = once.1
     of false e later = (without_other one.id id opens (λ same. other_number one.id id e (sym same)) ∙ once.0, later)
 
-push_once : (id : ℕ) (opens : List OpenTransfer) (transfer : ControlTransfer) → Once opens → open_with id opens ≡ None → Once (opens ++ opened id transfer ∷ [])
+pub push_once : (id : ℕ) (opens : List OpenTransfer) (transfer : ControlTransfer) → Once opens → open_with id opens ≡ None → Once (opens ++ opened id transfer ∷ [])
 push_once id [] transfer once none = (none, tt)
 push_once id (one ∷ opens) transfer once none = of (one.id == id) refl (sym (found id one opens) ∙ none) (push_once id opens transfer once.1)
   where

@@ -7,7 +7,7 @@ use Rattle.usb_capture.specs.declared.fault.CaptureFault.{CaptureFault}
 use Rattle.usb_capture.specs.declared.fault.CaptureFault.TheVariants.{Memory}
 use Rattle.usb_capture.specs.declared.frame.Frame.{Frame}
 use Rattle.usb_capture.specs.declared.reader.CaptureReader.{CaptureReader}
-use Rattle.usb_capture.specs.Files.{AreParts, IsPart, IsRefused, State, after_content, bytes_of, content, content_of, frame_list, frames_of, frames_with, last_four, next, start, state_after, whole}
+use Rattle.usb_capture.specs.Files.{AreParts, IsPart, IsRefusedAfter, State, after_content, bytes_of, content, content_of, frame_list, frames_of, frames_with, last_four, next, start, state_after, whole}
 use Rattle.usb_capture.specs.Reading.{IsKept, IsRead, state_of}
 use Rattle.usb_capture.proofs.Held.{content_held, frames_held}
 use Rattle.usb_capture.proofs.Numbers.{held_more}
@@ -137,40 +137,48 @@ ended old new what added enough says is state held last count place all frames h
     )
 
 -- a part is whole and has a fault
-pub refused : (old : CaptureReader) (fault : CaptureFault) → whole old.stage old.held.items ≤ old.count → Err fault ≡ content old.stage old.interfaces.items old.held.items old.count old.last → (all : List ℕ) (frames : List Frame) → IsKept all frames old → (place : ℕ) × IsRefused all fault place × (old.place ≡ min place (2 ^ 64 - 1))
+pub refused : (old : CaptureReader) (fault : CaptureFault) → whole old.stage old.held.items ≤ old.count → Err fault ≡ content old.stage old.interfaces.items old.held.items old.count old.last → (all : List ℕ) (frames : List Frame) → IsKept all frames old → (place : ℕ) × IsRefusedAfter all frames fault place × (old.place ≡ min place (2 ^ 64 - 1))
 refused old fault enough says all frames kept = (
   length (bytes_of kept.0),
   record {
-    parts = kept.0;
-    bad = kept.1;
-    rest = [];
-    bytes_are = kept.2.bytes ∙ ap (λ b. bytes_of kept.0 ++ b) (sym (append-nil kept.1));
-    before = kept.2.each;
-    long = exact old enough all frames kept;
-    wrong = sym (says ∙ said old all frames kept);
-    place_is = refl;
+    refused = record {
+      parts = kept.0;
+      bad = kept.1;
+      rest = [];
+      bytes_are = kept.2.bytes ∙ ap (λ b. bytes_of kept.0 ++ b) (sym (append-nil kept.1));
+      before = kept.2.each;
+      long = exact old enough all frames kept;
+      wrong = sym (says ∙ said old all frames kept);
+      place_is = refl;
+    };
+    read = kept.2.read;
   },
   kept.2.place,
 )
 
 -- what follows changes no refusal
-pub refused_more : (bytes x : List ℕ) (fault : CaptureFault) (place : ℕ) → IsRefused bytes fault place → IsRefused (bytes ++ x) fault place
-refused_more bytes x fault place h = record {
-  parts = h.parts;
-  bad = h.bad;
-  rest = h.rest ++ x;
-  bytes_are = ap (λ b. b ++ x) h.bytes_are ∙ append_assoc (bytes_of h.parts) (h.bad ++ h.rest) x ∙ ap (λ b. bytes_of h.parts ++ b) (append_assoc h.bad h.rest x);
-  before = h.before;
-  long = h.long;
-  wrong = h.wrong;
-  place_is = h.place_is;
-}
+refused_more : (bytes x : List ℕ) (frames : List Frame) (fault : CaptureFault) (place : ℕ) → IsRefusedAfter bytes frames fault place → IsRefusedAfter (bytes ++ x) frames fault place
+refused_more bytes x frames fault place h =
+    let r = h.refused in
+    record {
+      refused = record {
+        parts = r.parts;
+        bad = r.bad;
+        rest = r.rest ++ x;
+        bytes_are = ap (λ b. b ++ x) r.bytes_are ∙ append_assoc (bytes_of r.parts) (r.bad ++ r.rest) x ∙ ap (λ b. bytes_of r.parts ++ b) (append_assoc r.bad r.rest x);
+        before = r.before;
+        long = r.long;
+        wrong = r.wrong;
+        place_is = r.place_is;
+      };
+      read = h.read;
+    }
 
-pub refused_piece : (all piece : List ℕ) (used : ℕ) (fault : CaptureFault) (Is : ℕ → Type 0) → (fault ≡ Memory) ⊎ ((place : ℕ) × IsRefused (all ++ take used piece) fault place × Is place) → (fault ≡ Memory) ⊎ ((place : ℕ) × IsRefused (all ++ piece) fault place × Is place)
-refused_piece all piece used fault Is (inl memory) = inl memory
-refused_piece all piece used fault Is (inr h) = inr (
+pub refused_piece : (all piece : List ℕ) (used : ℕ) (frames : List Frame) (fault : CaptureFault) (Is : ℕ → Type 0) → (fault ≡ Memory) ⊎ ((place : ℕ) × IsRefusedAfter (all ++ take used piece) frames fault place × Is place) → (fault ≡ Memory) ⊎ ((place : ℕ) × IsRefusedAfter (all ++ piece) frames fault place × Is place)
+refused_piece all piece used frames fault Is (inl memory) = inl memory
+refused_piece all piece used frames fault Is (inr h) = inr (
   h.0,
-  subst (λ b. IsRefused b fault h.0) (append_assoc all (take used piece) (drop used piece) ∙ ap (λ b. all ++ b) (take-append-drop used piece))
-      (refused_more (all ++ take used piece) (drop used piece) fault h.0 h.1),
+  subst (λ b. IsRefusedAfter b frames fault h.0) (append_assoc all (take used piece) (drop used piece) ∙ ap (λ b. all ++ b) (take-append-drop used piece))
+      (refused_more (all ++ take used piece) (drop used piece) frames fault h.0 h.1),
   h.2,
 )

@@ -7,10 +7,11 @@ use Rattle.std.proofs.lemmas.Bool.Decides.{nat_tests}
 use Rattle.std.proofs.lemmas.List.Elements.{All-contains_itself, All-filter, All-head, All-nil, All-push, All-tail, All-weaker}
 use Rattle.std.proofs.lemmas.List.Folds.{find-append}
 use Rattle.usb_capture.specs.declared.control_transfer.ControlTransfer.{ControlTransfer}
+use Rattle.usb_capture.proofs.FilterLemmas.{none_left, still_there}
 use Rattle.usb_capture.specs.Readings.{is_again, is_reading, kept_after, kept_with, without_again}
 
 -- what holds of readings holds of what is kept
-one_more : (P : ControlTransfer → Type 0) (transfer : ControlTransfer) (kept : List ControlTransfer) → All P kept → (is_reading transfer ≡ true → P transfer) → All P (kept_with transfer kept)
+pub one_more : (P : ControlTransfer → Type 0) (transfer : ControlTransfer) (kept : List ControlTransfer) → All P kept → (is_reading transfer ≡ true → P transfer) → All P (kept_with transfer kept)
 one_more P transfer kept each of-it = by (is_reading transfer) refl
   where
     by : (b : Bool) → is_reading transfer ≡ b → All P (if b then without_again transfer kept ++ transfer ∷ [] else kept)
@@ -27,23 +28,7 @@ kept_came transfers =
     kept_all (λ t. Contains transfers t × (is_reading t ≡ true)) [] transfers (All-nil (λ t. Contains transfers t × (is_reading t ≡ true)))
     (All-weaker (Contains transfers) (λ t. is_reading t ≡ true → Contains transfers t × (is_reading t ≡ true)) (λ t c r. (c, r)) transfers (All-contains_itself transfers))
 
--- the last of a descriptor's readings is found
-none_left : (p : ControlTransfer → Bool) (xs : List ControlTransfer) → find p (filter (λ x. not (p x)) xs) ≡ None
-none_left p [] = refl
-none_left p (x ∷ xs) = by (p x) refl (none_left p xs)
-  where
-    by : (b : Bool) → p x ≡ b → find p (filter (λ x. not (p x)) xs) ≡ None → find p (if not b then x ∷ filter (λ x. not (p x)) xs else filter (λ x. not (p x)) xs) ≡ None
-    by true e later = later
-    by false e later = ap (λ t. cond t (Some x) (find p (filter (λ x. not (p x)) xs))) e ∙ later
-
-still_there : (p q : ControlTransfer → Bool) → ((x : ControlTransfer) → p x ≡ true → q x ≡ true) → (xs : List ControlTransfer) → find p (filter q xs) ≡ find p xs
-still_there p q passes [] = refl
-still_there p q passes (x ∷ xs) = by (q x) (p x) refl refl (still_there p q passes xs)
-  where
-    by : (b c : Bool) → q x ≡ b → p x ≡ c → find p (filter q xs) ≡ find p xs → find p (if b then x ∷ filter q xs else filter q xs) ≡ find p (x ∷ xs)
-    by true c e f later = ap (cond (p x) (Some x)) later
-    by false true e f later = absurd (let w : ⊥ = (let g = passes x f in cc) in w)
-    by false false e f later = later ∙ sym (ap (λ t. cond t (Some x) (find p xs)) f)
+-- The last of a descriptor's readings is found.
 
 -- of the same descriptor of the same device
 numbers_same : (a b c d a' b' c' d' : ℕ) → (a == a' && b == b' && c == c' && d == d') ≡ true → (a ≡ a') × (b ≡ b') × (c ≡ c') × (d ≡ d')
@@ -70,7 +55,7 @@ found_new : (t : ControlTransfer) (kept : List ControlTransfer) → is_reading t
 found_new t kept is =
     ap (λ b. find (is_again t) (if b then without_again t kept ++ t ∷ [] else kept)) is
     ∙ find-append (is_again t) (without_again t kept) (t ∷ [])
-    ∙ ap (λ o. option_or o (find (is_again t) (t ∷ []))) (none_left (is_again t) kept)
+    ∙ ap (λ o. option_or o (find (is_again t) (t ∷ []))) (none_left (is_again t) (λ old. not (is_again t old)) (λ old e. ap not e) kept)
     ∙ ap (λ b. cond b (Some t) None) (again_itself t)
 
 or_none : (o : Option ControlTransfer) → option_or o None ≡ o

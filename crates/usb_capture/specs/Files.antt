@@ -145,3 +145,8 @@ pub record IsRefused (bytes : List ℕ) (fault : CaptureFault) (place : ℕ) : T
   pub long : length bad ≡ whole (state_after start parts).stage bad
   pub wrong : content_of (state_after start parts) bad ≡ Err fault
   pub place_is : place ≡ length (bytes_of parts)
+
+-- the same, where these are the frames of the whole parts before
+pub record IsRefusedAfter (bytes : List ℕ) (frames : List Frame) (fault : CaptureFault) (place : ℕ) : Type 0 where
+  pub refused : IsRefused bytes fault place
+  pub read : frames ≡ frames_of start refused.parts

@@ -77,7 +77,7 @@ impl ControlTransfers {
     }
 
     /// Forgets the transfer with this id, and gives it.
-    fn remove(&mut self, id: u64) -> Option<ControlTransfer>
+    pub(crate) fn remove(&mut self, id: u64) -> Option<ControlTransfer>
         ensures was { result ≡ open_with id self.old.held.items }
         ensures held { self.new.held.items ≡ without id self.old.held.items }
     {
@@ -86,6 +86,17 @@ impl ControlTransfers {
             return None;
         }
         Some(self.held.remove(place).transfer)
+    }
+
+    /// The transfer with this id.
+    pub(crate) fn get(&self, id: u64) -> Option<&ControlTransfer>
+        ensures { option_map (λ t. t.now) result ≡ open_with id self.now.held.items }
+    {
+        let place = place_of(&self.held, id);
+        if place >= self.held.len() {
+            return None;
+        }
+        Some(&self.held[place].transfer)
     }
 
     /// Holds a transfer that begins with this setup packet.
@@ -114,7 +125,7 @@ impl ControlTransfers {
     }
 
     /// Holds a transfer more.
-    fn hold(&mut self, id: u64, transfer: ControlTransfer) -> Result<(), AllocError>
+    pub(crate) fn hold(&mut self, id: u64, transfer: ControlTransfer) -> Result<(), AllocError>
         ensures ok { OnOk result (self.new.held.items ≡ self.old.held.items ++ opened id transfer ∷ []) }
         ensures err { OnErr result (self.new.held.items ≡ self.old.held.items) }
     {

@@ -1,4 +1,7 @@
 //! Why bytes are no capture.
+ghost use Rattle.std.specs.Prelude.{◌≡◌};
+ghost use Rattle.usb_capture.specs.FaultNumbers.{fault_number};
+
 use std::alloc::{AllocError, AllocFailed};
 
 /// Why a reader has stopped, at the part of the file that is being read.
@@ -28,6 +31,15 @@ pub enum CaptureFault {
     Line,
     /// Out of memory.
     Memory,
+}
+
+impl CaptureFault {
+    /// The fault's number, from 1 to 12.
+    pub fn number(self) -> u8
+        ensures { result ≡ fault_number self }
+    {
+        self as u8 + 1
+    }
 }
 
 impl From<AllocError> for CaptureFault {

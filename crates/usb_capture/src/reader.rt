@@ -2,7 +2,7 @@
 ghost use Rattle.std.specs.Prelude.{◌≡◌, ◌+◌, ◌-◌, ◌≤◌, ◌<◌, ◌++◌, ◌⊎◌, ℕ, List, [], min, length, take, drop, Err, IfOk, IfErr, OnOk};
 ghost use Rattle.usb_capture.specs.declared.fault.CaptureFault.TheVariants as faults;
 ghost use Rattle.usb_capture.specs.declared.frame.Frame.{Frame};
-ghost use Rattle.usb_capture.specs.Files.{IsRefused, next, whole};
+ghost use Rattle.usb_capture.specs.Files.{IsRefusedAfter, next, whole};
 
 use crate::content::{Content, Head};
 use crate::fault::CaptureFault;
@@ -68,7 +68,8 @@ impl CaptureReader {
 
     /// A reader that has taken no byte.
     pub fn new(alloc: Global) -> CaptureReader
-        ensures { IsRead [] [] result }
+        ensures read { IsRead [] [] result }
+        ensures going { result.failed ≡ None }
     {
         CaptureReader {
             alloc,
@@ -95,7 +96,8 @@ impl CaptureReader {
         ensures goes_on { IfOk result (λ step. (all : List ℕ) (frames : List Frame) → IsRead all frames self.old
             → 0 < length piece.now → 0 < step.used) }
         ensures refused { IfErr result (λ fault. (all : List ℕ) (frames : List Frame) → IsRead all frames self.old → self.old.failed ≡ None
-            → (fault ≡ faults.Memory) ⊎ ((place : ℕ) × IsRefused (all ++ piece.now) fault place × (self.new.place ≡ min place (2 ^ 64 - 1)))) }
+            → (fault ≡ faults.Memory) ⊎ ((place : ℕ) × IsRefusedAfter (all ++ piece.now) frames fault place × (self.new.place ≡ min place (2 ^ 64 - 1)))) }
+        ensures going { OnOk result (self.new.failed ≡ None) }
         ensures failed { IfErr result (λ fault. self.new.failed ≡ Some fault) }
         ensures stays { (fault : CaptureFault) → self.old.failed ≡ Some fault → result ≡ Err fault }
     {
@@ -134,7 +136,8 @@ impl CaptureReader {
         ensures goes_on { IfOk result (λ step. (all : List ℕ) (frames : List Frame) → IsRead all frames self.old
             → 0 < length piece.now → 0 < step.used) }
         ensures refused { IfErr result (λ fault. (all : List ℕ) (frames : List Frame) → IsRead all frames self.old
-            → (fault ≡ faults.Memory) ⊎ ((place : ℕ) × IsRefused (all ++ piece.now) fault place × (self.new.place ≡ min place (2 ^ 64 - 1)))) }
+            → (fault ≡ faults.Memory) ⊎ ((place : ℕ) × IsRefusedAfter (all ++ piece.now) frames fault place × (self.new.place ≡ min place (2 ^ 64 - 1)))) }
+        ensures going { self.new.failed ≡ self.old.failed }
     {
         let used = self.keep(piece)?;
         let frame = self.end_part()?;
@@ -164,6 +167,7 @@ impl CaptureReader {
         ensures count { IfOk result (λ used. self.new.count ≡ self.old.count + used) }
         ensures state { OnOk result (state_of self.new ≡ state_of self.old) }
         ensures place { OnOk result (self.new.place ≡ self.old.place) }
+        ensures going { self.new.failed ≡ self.old.failed }
     {
         let open = self.whole().saturating_sub(self.count);
         let used = open.min(piece.len() as u64) as usize;
@@ -180,7 +184,8 @@ impl CaptureReader {
         ensures ok { IfOk result (λ frame. (all : List ℕ) (frames : List Frame) → IsKept all frames self.old
             → IsRead all (frames ++ option_to_list frame) self.new) }
         ensures refused { IfErr result (λ fault. (all : List ℕ) (frames : List Frame) → IsKept all frames self.old
-            → (fault ≡ faults.Memory) ⊎ ((place : ℕ) × IsRefused all fault place × (self.new.place ≡ min place (2 ^ 64 - 1)))) }
+            → (fault ≡ faults.Memory) ⊎ ((place : ℕ) × IsRefusedAfter all frames fault place × (self.new.place ≡ min place (2 ^ 64 - 1)))) }
+        ensures going { self.new.failed ≡ self.old.failed }
     {
         if self.count < self.whole() {
             return Ok(None);
@@ -231,6 +236,7 @@ impl CaptureReader {
         ensures memory { IfErr result (λ fault. fault ≡ faults.Memory) }
         ensures count { self.new.count ≡ self.old.count }
         ensures place { self.new.place ≡ self.old.place }
+        ensures going { self.new.failed ≡ self.old.failed }
     {
         match content {
             Content::Header(form) => {
@@ -258,6 +264,7 @@ impl CaptureReader {
         ensures last { self.new.last ≡ last_four [] }
         ensures count { self.new.count ≡ 0 }
         ensures place { self.new.place ≡ min (self.old.place + self.old.count) (2 ^ 64 - 1) }
+        ensures going { self.new.failed ≡ self.old.failed }
     {
         self.place = self.place.saturating_add(self.count);
         self.held.clear();

@@ -13,7 +13,7 @@ use usb_fields::{Setup, byte_at, word_at};
 /// that was asked for, with as many bytes as it says that it has.
 #[derive(Debug, Drop)]
 pub struct Readings {
-    kept: Vec<ControlTransfer>,
+    pub(crate) kept: Vec<ControlTransfer>,
 }
 
 impl Readings {
@@ -46,7 +46,7 @@ impl Readings {
     }
 
     /// The same as [`Readings::take`], by what is kept.
-    fn keep(&mut self, transfer: ControlTransfer) -> Result<(), AllocError>
+    pub(crate) fn keep(&mut self, transfer: ControlTransfer) -> Result<(), AllocError>
         ensures ok { OnOk result (self.new.kept.items ≡ kept_with transfer self.old.kept.items) }
         ensures err { OnErr result (self.new.kept.items ≡ without_again transfer self.old.kept.items) }
     {
@@ -67,7 +67,7 @@ impl Readings {
 }
 
 /// Whether all of a descriptor came by a transfer.
-fn is_reading(transfer: &ControlTransfer) -> bool
+pub(crate) fn is_reading(transfer: &ControlTransfer) -> bool
     ensures { result ≡ is_reading transfer.now }
 {
     reads_descriptor(&transfer.setup)
@@ -77,14 +77,14 @@ fn is_reading(transfer: &ControlTransfer) -> bool
 }
 
 /// Whether it is a device's GET_DESCRIPTOR.
-fn reads_descriptor(setup: &Setup) -> bool
+pub(crate) fn reads_descriptor(setup: &Setup) -> bool
     ensures { result ≡ reads_descriptor setup.now }
 {
     setup.request_type == 0x80 && setup.request == 6
 }
 
 /// Whether all stages of a transfer were done.
-fn is_done(ending: Ending) -> bool
+pub(crate) fn is_done(ending: Ending) -> bool
     ensures { result ≡ is_done ending }
 {
     match ending {
@@ -102,7 +102,7 @@ fn is_whole(value: u16, bytes: &[u8]) -> bool
 }
 
 /// How many bytes the descriptor of this type has that begins so (USB 2.0, 9.6).
-fn full_length(kind: u8, bytes: &[u8]) -> usize
+pub(crate) fn full_length(kind: u8, bytes: &[u8]) -> usize
     ensures { result ≡ full_length kind bytes.now }
 {
     if kind == 2 || kind == 7 {
@@ -113,7 +113,7 @@ fn full_length(kind: u8, bytes: &[u8]) -> usize
 }
 
 /// Whether two transfers are of the same descriptor of the same device.
-fn is_again(new: &ControlTransfer, old: &ControlTransfer) -> bool
+pub(crate) fn is_again(new: &ControlTransfer, old: &ControlTransfer) -> bool
     ensures { result ≡ is_again new.now old.now }
 {
     old.bus == new.bus

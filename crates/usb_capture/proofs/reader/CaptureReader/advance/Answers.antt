@@ -10,7 +10,7 @@ returns-in_err-frame-clause-refused c =
     let piece = c.args.piece.now in
     let used = c.in_ok-used.used in
     rw (p.1, p.2) (λ all frames read.
-    refused_piece all piece used _ (λ place. c.end_part.new.self.place ≡ min place (2 ^ 64 - 1))
+    refused_piece all piece used frames _ (λ place. c.end_part.new.self.place ≡ min place (2 ^ 64 - 1))
     (c.in_err-frame.ensures.refused (all ++ take used piece) frames (kept c.args.self.now c.keep.new.self piece used e.used e.held e.last e.count e.state e.place all frames read)))
 
 pub returns-clause-ok : goal.returns-clause-ok

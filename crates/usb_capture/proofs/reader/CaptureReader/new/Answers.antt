@@ -3,8 +3,8 @@ use Rattle.usb_capture.specs.declared.stage.Stage.TheVariants.{Start}
 use Rattle.usb_capture.specs.Files.{State}
 use Rattle.usb_capture.proofs.reader.CaptureReader.new.Goals as goal
 
-pub returns : goal.returns
-returns c =
+pub returns-clause-read : goal.returns-clause-read
+returns-clause-read c =
     let state : _ = ap (λ i. let s : State = record { stage = Start; interfaces = i } in s) c.new.ensures.items in (
       [],
       [],

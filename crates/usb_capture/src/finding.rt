@@ -1,0 +1,89 @@
+//! What USB 2.0 forbids in control transfers, as far as a recording shows it.
+
+/// What a control transfer shows that USB 2.0 forbids. The definition of each, over a list of transfers, is in
+/// `specs/Findings.antt`.
+///
+/// ```rust
+/// for finding in Finding::ALL {
+///     println!(rt; "{} {} ({})", finding.name(), finding.message(), finding.section())?;
+/// }
+/// ```
+#[derive(Clone, Copy, Debug, PartialEq, Eq, Hash)]
+pub enum Finding {
+    /// More bytes came or went than wLength says (8.5.3 and 9.3.5).
+    MoreThanAsked,
+    /// A descriptor came of another type than was asked for (9.4.3).
+    OtherType,
+    /// Of a descriptor neither all bytes came that it says that it has, nor as many as wLength says (9.4.3).
+    OtherLength,
+    /// A byte of a descriptor came that was another one before, with no reset between (9.4.3 and 9.6).
+    OtherBytes,
+    /// STALL of a descriptor of which the device gave bytes before, with no reset between (9.4.3).
+    RefusesGiven,
+    /// STALL of the device descriptor or of configuration 0, which all devices have (9.4.3).
+    RefusesRequired,
+    /// STALL of a configuration that bNumConfigurations of the device, or of its qualifier, counts (9.6.1 and 9.6.2).
+    RefusesCounted,
+    /// STALL of a string of which a descriptor has the index, in a language of the list, or of that list (9.6.7).
+    RefusesNamed,
+    /// STALL of GET_STATUS of the device, which has an address (9.4.5).
+    RefusesStatus,
+}
+
+impl Finding {
+    /// All findings, in the order in which those of one transfer are told.
+    pub const ALL: [Finding; 9] = [
+        Finding::MoreThanAsked,
+        Finding::OtherType,
+        Finding::OtherLength,
+        Finding::OtherBytes,
+        Finding::RefusesGiven,
+        Finding::RefusesRequired,
+        Finding::RefusesCounted,
+        Finding::RefusesNamed,
+        Finding::RefusesStatus,
+    ];
+
+    /// Its name: T1 is of one transfer, C1 to C8 are of a device's conversation.
+    pub fn name(self) -> &'static str {
+        match self {
+            Finding::MoreThanAsked => "T1",
+            Finding::OtherType => "C1",
+            Finding::OtherLength => "C2",
+            Finding::OtherBytes => "C3",
+            Finding::RefusesGiven => "C4",
+            Finding::RefusesRequired => "C5",
+            Finding::RefusesCounted => "C6",
+            Finding::RefusesNamed => "C7",
+            Finding::RefusesStatus => "C8",
+        }
+    }
+
+    /// What was wrong, in words.
+    pub fn message(self) -> &'static str {
+        match self {
+            Finding::MoreThanAsked => "more bytes than wLength",
+            Finding::OtherType => "a descriptor of another type than was asked for",
+            Finding::OtherLength => "neither all bytes of the descriptor nor wLength bytes",
+            Finding::OtherBytes => "the same descriptor had other bytes before",
+            Finding::RefusesGiven => "the device has it: it gave bytes of it",
+            Finding::RefusesRequired => "the device has it: all devices do",
+            Finding::RefusesCounted => "the device has it: bNumConfigurations counts it",
+            Finding::RefusesNamed => "the device has it: a descriptor names it",
+            Finding::RefusesStatus => "the device has an address, so it answers",
+        }
+    }
+
+    /// The sections of USB 2.0 that say so.
+    pub fn section(self) -> &'static str {
+        match self {
+            Finding::MoreThanAsked => "8.5.3, 9.3.5",
+            Finding::OtherType | Finding::OtherLength => "9.4.3",
+            Finding::OtherBytes => "9.4.3, 9.6",
+            Finding::RefusesGiven | Finding::RefusesRequired => "9.4.3",
+            Finding::RefusesCounted => "9.6.1, 9.6.2",
+            Finding::RefusesNamed => "9.6.7",
+            Finding::RefusesStatus => "9.4.5",
+        }
+    }
+}
