@@ -10,7 +10,7 @@ import struct
 import subprocess
 import sys
 
-from readings import ROW_DATA
+from readings import ROW_DATA, packets
 
 FOLDER = os.path.join(ROW_DATA, "captures")
 
@@ -74,6 +74,77 @@ def clocks():
     return section("<") + b"".join(described) + b"".join(enhanced("<", number, units, 1, b"\xd2") for number, (_, _, units) in enumerate(asked))
 
 
+def token(name, address, endpoint=0):
+    return packets.written(name, [address, endpoint])
+
+
+def sent(name, data):
+    return packets.written(name, [data])
+
+
+ACK, NAK, STALL, PRE, FRAME = (packets.written(name, fields) for name, fields in (("Ack", []), ("Nak", []), ("Stall", []), ("Pre", []), ("StartOfFrame", [1])))
+
+
+def asked(address, request):
+    return [token("Setup", address), sent("Data0", bytes.fromhex(request)), ACK]
+
+
+def read(address, request, answer, size=8):
+    """A control transfer with an answer of the device, in packets of this size (USB 2.0, 8.5.3)."""
+    bodies = [answer[at : at + size] for at in range(0, len(answer), size)]
+    bodies += [b""] if len(answer) % size == 0 and len(answer) < int(request[14:16] + request[12:14], 16) else []
+    stage = [it for place, body in enumerate(bodies) for it in (token("In", address), sent(("Data1", "Data0")[place % 2], body), ACK)]
+    return asked(address, request) + stage + [token("Out", address), sent("Data1", b""), ACK]
+
+
+def ordered(address, request):
+    """A control transfer without data."""
+    return [*asked(address, request), token("In", address), sent("Data1", b""), ACK]
+
+
+def refused(address, request):
+    return [*asked(address, request), token("In", address), STALL]
+
+
+DEVICE = bytes.fromhex("120100020000000834127856000101020001")
+SET = bytes.fromhex("0902190001010080320904000001030000000705810308000a")
+OTHER_SET = SET[:8] + b"\xfa" + SET[9:]
+
+
+def enumerated():
+    """A device at full speed whose packets were recorded: NAK, a lost ACK, a packet that comes again, and other endpoints between."""
+    again = [token("In", 7), sent("Data1", SET[:8])]
+    return [
+        FRAME, *read(0, "8006000100004000", DEVICE[:8]), *ordered(0, "0005070000000000"), FRAME,
+        *read(7, "8006000100001200", DEVICE), *asked(7, "8006000200000900"), token("In", 7), NAK, *again, *again, ACK,
+        token("In", 7), sent("Data0", SET[8:9]), ACK, token("Out", 7), sent("Data1", b""), ACK,
+        token("In", 7, 1), NAK, *read(7, "8006000200001900", SET), *read(7, "800600030000ff00", bytes.fromhex("04030904")),
+        *read(7, "800602030904ff00", bytes.fromhex("0a034d0066006700")[:8] + b"\x2e\0"), *ordered(7, "0009010000000000"),
+        *asked(7, "a101000000000200"),
+    ]
+
+
+def broken():
+    """One that is refused what it has, gives other bytes, ends too early, and isn't heard."""
+    return [
+        *read(3, "8006000100001200", DEVICE), *refused(3, "8006000100001200"), *read(3, "8006000200000900", SET[:9]), *refused(3, "8006000200001900"),
+        *read(3, "8006000200001900", OTHER_SET), *refused(3, "800600030000ff00"), *read(3, "800600030000ff00", bytes.fromhex("04030904")),
+        *refused(3, "800601030904ff00"), *refused(3, "800603030904ff00"), *refused(3, "8000000000000200"), *refused(3, "8006000600000a00"),
+        *read(3, "8006000200001900", DEVICE), *read(3, "8006000200001900", SET[:16]), *read(3, "8006000100000900", DEVICE[:16]),
+        *refused(4, "8006000100001200"), *refused(4, "8006000200000900"),
+        token("Setup", 3), sent("Data1", bytes(8)), STALL, PRE, token("Setup", 3), packets.changed(sent("Data0", bytes(8)), [9]), *asked(5, "8006000100004000"),
+        packets.written("Split", [0]), token("Setup", 5), token("In", 5), sent("Data1", DEVICE[:8]), sent("Data0", DEVICE[8:16]), ACK, token("Ping", 5), sent("Data1", b""),
+        *asked(5, "8006000100004000"), token("Out", 5), NAK, b"", b"\x80",
+    ]
+
+
+def heard(link, bodies):
+    """A record every 10 microseconds; the last one is cut."""
+    records = [(9, 10 * number, len(data) + (number + 1 == len(bodies)), data) for number, data in enumerate(bodies)]
+    times = [(f"9.{10 * number:06}000", len(data), original, 0) for number, (_, _, original, data) in enumerate(records)]
+    return pcap("<", 0xA1B2C3D4, link, records), times
+
+
 # Each file, and of its frames the time, or none, the lengths in the file and on the bus, and the interface.
 RECORDS = [(3, 7, 3, b"\xaa\xbb\xcc"), (2, 999_999, 65_536, b"")]
 MICROSECONDS = [("3.000007000", 3, 3, 0), ("2.999999000", 0, 65_536, 0)]
@@ -86,6 +157,8 @@ FILES = {
         ("1700000000.000000000", 1, 1, 0), ("1700000000.123000000", 1, 1, 1), ("1700000000.123456000", 1, 1, 2),
         ("1700000000.123456789", 1, 1, 3), ("1700000000.000000000", 1, 1, 4), ("1700000000.499023437", 1, 1, 5),
         ("1699999999.000000953", 1, 1, 6), ("1700000000.012345678", 1, 1, 7)]),
+    "packets.pcap": heard(294, enumerated()),
+    "broken-packets.pcap": heard(288, broken()),
 }
 
 

@@ -1,8 +1,7 @@
 """A separate reading of the rules of chapter 9, from which the findings beside the descriptor files come.
 
-It was written from the rules in words, in another language and by no function of this repository, and asks each
-question of the whole set anew, without tables. It stands on the listing of descriptors.py. The gate compares what it writes
-(.ci/readings).
+It was written from the rules in words, in another language and by no function of this repository. It stands on the listing of
+descriptors.py. The gate compares what it writes (.ci/readings).
 
     checking file FILE..    writes what is wrong with the descriptor file to the file of that name that ends in .check
     checking set FILE..     the same of a configuration set alone
@@ -69,33 +68,48 @@ def wrong_packet_or_class(sizes, packet, class_, subclass):
 SIZES = (8, 16, 32, 64)
 
 
+def repeated(values):
+    """The places of values that an earlier one equals."""
+    seen = set()
+    for i, value in enumerate(values):
+        if value in seen:
+            yield i
+        seen.add(value)
+
+
+def shared(settings):
+    """The endpoints (setting, endpoint) whose address an earlier one of another interface has."""
+    owners = {}
+    for i, x in enumerate(settings):
+        for j, (address, _) in enumerate(x.endpoints):
+            if owners.setdefault(address, set()) - {x.number}:
+                yield i, j
+            owners[address].add(x.number)
+
+
 def of_set(rule, c):
     """The places (setting, endpoint) of the set's findings of this rule."""
     s, numbers = c.settings, c.numbers()
     pairs = [(x.number, x.alternate) for x in s]
-    owner = lambda i: s[i].number
     endpoints = c.endpoints()
     if rule == 1:
         return [(0, 0)] * (c.declared != len(numbers))
     if rule == 2:
         return [(0, 0)] * (sorted(numbers) != list(range(len(numbers))))
     if rule == 3:
-        return [(i, 0) for i, pair in enumerate(pairs) if pair in pairs[:i]]
+        return [(i, 0) for i in repeated(pairs)]
     if rule == 4:
-        firsts = [i for i, x in enumerate(s) if x.number not in [y.number for y in s[:i]]]
-        return [(i, 0) for i in firsts if (s[i].number, 0) not in pairs]
+        lacking = numbers - {number for number, alternate in pairs if alternate == 0}
+        again = set(repeated(x.number for x in s))
+        return [(i, 0) for i, x in enumerate(s) if x.number in lacking and i not in again]
     if rule == 5:
         return [(i, 0) for i, x in enumerate(s) if x.declared != len(x.endpoints)]
     if rule == 6:
         return [(i, j) for i, j, a, _ in endpoints if a % 16 == 0 or a // 16 % 8]
     if rule == 7:
-        return [(i, j) for i, j, a, _ in endpoints if a in [b for b, _ in s[i].endpoints[:j]]]
+        return [(i, j) for i, x in enumerate(s) for j in repeated(address for address, _ in x.endpoints)]
     if rule == 8:
-        return [
-            (i, j)
-            for i, j, a, _ in endpoints
-            if any(b == a and owner(k) != owner(i) for k, _, b, _ in endpoints if k < i)
-        ]
+        return list(shared(s))
     if rule == 9:
         return [(0, 0)] * (c.attributes < 128 or c.attributes % 32 != 0)
     if rule == 12:

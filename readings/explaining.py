@@ -366,8 +366,7 @@ def setting_remarks(d, speed, interface, later):
         yield f"wMaxPacketSize is {count(size, 'byte')}; in alternate setting 0 it must be 0 (5.6.3)"
     if d[3] % 4 == 3 and size > 64 and interface[3] == 0 and speed == HIGH:
         yield f"wMaxPacketSize is {size} bytes; in alternate setting 0 it must be at most 64 (5.7.3)"
-    follows = later is None or any(x[1] == 4 and x[2] == interface[2] for x in later)
-    if size == 0 and interface[3] == 0 and not follows:
+    if size == 0 and interface[3] == 0 and later is not None and not any(x[1] == 4 and x[2] == interface[2] for x in later):
         yield "packets of 0 bytes hold no data, and no other setting follows"
 
 
@@ -805,32 +804,32 @@ class Explanation:
         header = self.data[at : at + self.data[at]]
         end_of_set = at + little(header[2:4])
         descriptors = list(cut(self.data, at, min(end_of_set, limit)))
+        alone = [d for _, d in descriptors]
         main = header[1] == 2
         part = "main" if main else "other"
         place = (part, self.sets[part])
         self.sets[part] += 1
-        speed = self.speed_of([d for _, d in descriptors])
-        associations = [d for _, d in descriptors[1:] if d[1] == 11]
-        numbers = interface_numbers(d for _, d in descriptors[1:])
-        inner = [d for _, d in descriptors[1:]] if end_of_set <= limit else None
+        speed = self.speed_of(alone)
+        associations = [d for d in alone[1:] if d[1] == 11]
+        numbers = interface_numbers(alone[1:])
+        inner = alone[1:] if end_of_set <= limit else None
         self.of_configuration(header, at, main, place, speed, len(numbers), inner)
         codes, owner, setting, endpoint, association = None, 1, -1, 0, 0
         interface = None
         for i, (p, d) in enumerate(descriptors[1:], 1):
-            later = [x for _, x in descriptors[i + 1 :]] if end_of_set <= limit else None
+            later = alone[i + 1 :] if end_of_set <= limit else None
             if d[1] == 4:
                 owner, setting, endpoint, codes = 2, setting + 1, 0, tuple(d[5:8])
                 interface = d
-                behind = [x[1] for _, x in descriptors[i + 1 :]]
-                has = behind[: behind.index(4)].count(5) if 4 in behind else behind.count(5)
-                own = None if later is None else list(itertools.takewhile(lambda x: x[1] != 4, later))
-                self.of_interface(d, p, place + (setting,), associations, has, own)
+                own = list(itertools.takewhile(lambda x: x[1] != 4, alone[i + 1 :]))
+                has = sum(x[1] == 5 for x in own)
+                self.of_interface(d, p, place + (setting,), associations, has, None if later is None else own)
             elif d[1] == 5:
                 owner = 3
                 self.of_endpoint(d, p, place + (setting, endpoint), speed, codes, setting_remarks(d, speed, interface, later))
                 endpoint += 1
             elif d[1] == 11:
-                before = interface_numbers(x for _, x in descriptors[1:i])
+                before = interface_numbers(alone[1:i])
                 self.of_association(d, p, place + (association,), before)
                 association += 1
             else:

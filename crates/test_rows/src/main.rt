@@ -54,7 +54,7 @@ fn go_through<R: Files + AllocGlobal>(rt: &R, line: &str) -> Result<String> {
             listings::go_round(alloc, &bytes, &read(rt, name, "txt")?, false)?;
             "written again"
         }
-        "dump" | "broken" | "output" => "",
+        "dump" | "broken" | "output" | "capture" => "",
         _ => bail!("neither rows nor an example"),
     };
     Ok(String::from_str(alloc, told)?)

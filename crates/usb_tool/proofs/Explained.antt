@@ -10,7 +10,6 @@ use Rattle.usb_text.specs.declared.output.OutFault.TheVariants as outs
 use Rattle.usb_text.proofs.Pages.{appends_kept, appends_more, front_longer, front_whole}
 use Rattle.usb_text.proofs.WrittenLines.{less_completed, some_lines}
 use Rattle.usb_explain.specs.declared.manner.Manner.{Manner}
-use Rattle.usb_explain.specs.Fragments.{fragment_lines}
 use Rattle.usb_explain.specs.Subjects.{Reading}
 use Rattle.usb_tool.specs.Explains.{Explains, ExplainsFault, ExplainsFaultAs, RefusesAs, RefusesToExplain, ReportsFragment, WithoutMemory, WritesAfter, WritesExplained}
 use Rattle.usb_tool.specs.Faults.{fault_of_input, fault_of_output}

@@ -12,3 +12,4 @@ pub mod NumberLemmas
 pub mod Hexadecimal
 pub mod Explained
 pub mod Remarking
+pub mod PointLemmas

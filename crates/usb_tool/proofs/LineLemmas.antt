@@ -129,24 +129,27 @@ help_unanswered name e = go (bytes_eq (codes "help") name) refl
     go false is = refl
     go true is = absurd (true≢false (sym ((bytes_eq-Decides name (codes "help")).1 (sym ((bytes_eq-Decides (codes "help") name).0 is))) ∙ e))
 
--- of six subcommands the last, `help`, isn't the one that is found
-module _ (x y z v u help : Shape) (rest : List Text) (f : Shape → Bool) where
+-- of seven subcommands the last, `help`, isn't the one that is found
+module _ (x y z v u t help : Shape) (rest : List Text) (f : Shape → Bool) where
   abbrev found : Option (Text × List Row)
-  found = option_map (λ s. rows_at s rest) (find f (x ∷ y ∷ z ∷ v ∷ u ∷ help ∷ []))
+  found = option_map (λ s. rows_at s rest) (find f (x ∷ y ∷ z ∷ v ∷ u ∷ t ∷ help ∷ []))
 
-  named_of_six : (a b c d e : Bool) → x.name ≡ codes "show" → y.name ≡ codes "check" → z.name ≡ codes "build" → v.name ≡ codes "explain" → u.name ≡ codes "enumerate"
-      → f x ≡ a → f y ≡ b → f z ≡ c → f v ≡ d → f u ≡ e → f help ≡ false → is_some found ≡ true → NamesCommand found
-  named_of_six true b c d e show check build explain enumerate first second third fourth fifth last some = inl (rw first (ap Some show))
-  named_of_six false true c d e show check build explain enumerate first second third fourth fifth last some =
+  named_of_seven : (a b c d e g : Bool) → x.name ≡ codes "show" → y.name ≡ codes "check" → z.name ≡ codes "build" → v.name ≡ codes "explain" → u.name ≡ codes "enumerate"
+      → t.name ≡ codes "capture"
+      → f x ≡ a → f y ≡ b → f z ≡ c → f v ≡ d → f u ≡ e → f t ≡ g → f help ≡ false → is_some found ≡ true → NamesCommand found
+  named_of_seven true b c d e g show check build explain enumerate capture first second third fourth fifth sixth last some = inl (rw first (ap Some show))
+  named_of_seven false true c d e g show check build explain enumerate capture first second third fourth fifth sixth last some =
       inr (inl (rw (first, second) (ap Some check)))
-  named_of_six false false true d e show check build explain enumerate first second third fourth fifth last some =
+  named_of_seven false false true d e g show check build explain enumerate capture first second third fourth fifth sixth last some =
       inr (inr (inl (rw (first, second, third) (ap Some build))))
-  named_of_six false false false true e show check build explain enumerate first second third fourth fifth last some =
+  named_of_seven false false false true e g show check build explain enumerate capture first second third fourth fifth sixth last some =
       inr (inr (inr (inl (rw (first, second, third, fourth) (ap Some explain)))))
-  named_of_six false false false false true show check build explain enumerate first second third fourth fifth last some =
-      inr (inr (inr (inr (rw (first, second, third, fourth, fifth) (ap Some enumerate)))))
-  named_of_six false false false false false show check build explain enumerate first second third fourth fifth last some =
-      absurd (true≢false (sym (rw (first, second, third, fourth, fifth, last) at some)))
+  named_of_seven false false false false true g show check build explain enumerate capture first second third fourth fifth sixth last some =
+      inr (inr (inr (inr (inl (rw (first, second, third, fourth, fifth) (ap Some enumerate))))))
+  named_of_seven false false false false false true show check build explain enumerate capture first second third fourth fifth sixth last some =
+      inr (inr (inr (inr (inr (rw (first, second, third, fourth, fifth, sixth) (ap Some capture))))))
+  named_of_seven false false false false false false show check build explain enumerate capture first second third fourth fifth sixth last some =
+      absurd (true≢false (sym (rw (first, second, third, fourth, fifth, sixth, last) at some)))
 
 -- the program's subcommands, and the `help` that building adds
 abbrev sub : ℕ → Shape
@@ -155,7 +158,7 @@ sub k = slice_index_or (built usbdesc_app).subs k help_shape
 named_at : (stop : Option (Text × List Text)) → IsNoHelp stop → is_some (entered (built usbdesc_app) stop) ≡ true → NamesCommand (entered (built usbdesc_app) stop)
 named_at None other some = absurd (true≢false (sym some))
 named_at (Some p) other some =
-    named_of_six (sub 0) (sub 1) (sub 2) (sub 3) (sub 4) (sub 5) p.1 (λ s. answers_to p.0 (label_of s)) _ _ _ _ _ refl refl refl refl refl refl refl refl refl refl (help_unanswered p.0 other) some
+    named_of_seven (sub 0) (sub 1) (sub 2) (sub 3) (sub 4) (sub 5) (sub 6) p.1 (λ s. answers_to p.0 (label_of s)) _ _ _ _ _ _ refl refl refl refl refl refl refl refl refl refl refl refl (help_unanswered p.0 other) some
 
 -- a subcommand is required
 command_met : (rows : List Row) (has : Bool) → check_fault (built usbdesc_app).top rows has ≡ [] → has ≡ true

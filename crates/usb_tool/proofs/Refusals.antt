@@ -67,3 +67,5 @@ cut_short extent tells refuses b text status held holds (faults.List fault) told
 cut_short extent tells refuses b text status held holds (faults.Set fault) told cut = elim cut [ ]
 cut_short extent tells refuses b text status held holds (faults.Trailing at) told cut = elim cut [ ]
 cut_short extent tells refuses b text status held holds (faults.Hex line column) told cut = elim cut [ ]
+cut_short extent tells refuses b text status held holds (faults.Capture why at) told cut = elim cut [ ]
+cut_short extent tells refuses b text status held holds (faults.Lack device lack) told cut = elim cut [ ]

@@ -1,5 +1,5 @@
 -- On what a command takes its input for, and what it tells of that.
-use Rattle.std.proofs.Common.{◌≡◌, ◌≢◌, ◌∙◌, ℕ, ◌+◌, List, Result, Ok, Err, inl, inr, refl, sym, subst}
+use Rattle.std.proofs.Common.{◌≡◌, ◌≢◌, ◌∙◌, ℕ, List, Result, Ok, Err, inl, inr, refl, sym, subst}
 use Rattle.std.specs.Prelude.{IfErr, IfOk, IsErrAnd}
 use Rattle.usb_file_data.specs.FileFaults.{FileFaulty, ReadRefused}
 use Rattle.usb_file_data.specs.Inputs.{InputFaulty, InputRefused}
@@ -67,6 +67,8 @@ refused extent tells shows b held faults.Write h = elim h [ ]
 refused extent tells shows b held faults.TooLarge h = elim h [ ]
 refused extent tells shows b held (faults.List fault) h = elim h [ ]
 refused extent tells shows b held (faults.Hex line column) h = elim h [ ]
+refused extent tells shows b held (faults.Capture why at) h = elim h [ ]
+refused extent tells shows b held (faults.Lack device lack) h = elim h [ ]
 
 -- a command whose input is taken for nothing
 pub not_taken : (extent : Extent) (tells : Telling) (from to : Left) (shows : Faulty) (held : Held) (r : Result ℕ ToolFault) (e : ToolFault)

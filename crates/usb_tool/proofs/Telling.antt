@@ -132,6 +132,8 @@ module _ (c : Conditions) (b log text : List ℕ) (ended : EnumerationEnd) (held
   result_cut (Err (faults.Set fault)) some cut = elim cut [ ]
   result_cut (Err (faults.Trailing at)) some cut = elim cut [ ]
   result_cut (Err (faults.Hex line column)) some cut = elim cut [ ]
+  result_cut (Err (faults.Capture why at)) some cut = elim cut [ ]
+  result_cut (Err (faults.Lack device lack)) some cut = elim cut [ ]
 
 -- the line of a result is there
 success_some : (run : Run) → 0 < length (success_line run)
@@ -166,6 +168,8 @@ run_broken c f b held holds (faults.List fault) taken accepted broke = absurd br
 run_broken c f b held holds (faults.Set fault) taken accepted broke = absurd broke
 run_broken c f b held holds (faults.Trailing at) taken accepted broke = absurd broke
 run_broken c f b held holds (faults.Hex line column) taken accepted broke = absurd broke
+run_broken c f b held holds (faults.Capture why at) taken accepted broke = absurd broke
+run_broken c f b held holds (faults.Lack device lack) taken accepted broke = absurd broke
 
 -- and the fault is passed on
 pub same_broken : {T : Type 0} (P : ToolFault → Type 0) (r : Result T ToolFault) (e : ToolFault) → IsErrAnd r (λ fault. fault ≡ e) → P e → IfErr r P

@@ -1,5 +1,5 @@
 -- What the words of a command line ask for.
-use Rattle.std.specs.Prelude.{◌≡◌, ◌≢◌, ◌&&◌, not, is_some, ℕ, List, [], ◌∷◌, Bool, true, false, Option, Some, None, IfSome, codes, fold, map, option_map, pos, String, string_bytes}
+use Rattle.std.specs.Prelude.{◌≡◌, ◌≢◌, ◌&&◌, not, is_some, ℕ, List, [], ◌∷◌, ◌++◌, Bool, true, false, Option, Some, None, IfSome, codes, fold, map, option_map, pos, String, string_bytes}
 use Rattle.std.specs.Str.{bytes_eq}
 use Rattle.std.specs.Borrow.{Bor}
 use Rattle.std.specs.Global.{Global}
@@ -7,6 +7,7 @@ use Rattle.clap.specs.Words.{App, Row, Rule, Text, first_of, new_app, new_rule, 
 use Rattle.clap.specs.declared.builder.action.ArgAction.TheVariants as actions
 use Rattle.clap.specs.declared.builder.value_parser.ValueParser.TheVariants as parsers
 use Rattle.usb_host.specs.Terms.{everything}
+use Rattle.usb_tool.specs.declared.capturing.Capturing.{Capturing}
 use Rattle.usb_tool.specs.declared.checking.Checking.{Checking}
 use Rattle.usb_tool.specs.declared.choosing.Choosing.{Choosing}
 use Rattle.usb_tool.specs.declared.manner.Explaining.{Explaining}
@@ -31,21 +32,6 @@ number_rule name least most = record (valued_rule name) { parser = Some (parsers
 abbrev pub flag_rule : Text → Rule
 flag_rule name = record (new_rule name) { long = Some name; action = Some actions.SetTrue }
 
-abbrev pub speed_rule : Rule
-speed_rule = chosen_rule (codes "speed")
-
-abbrev pub fates_rule : Rule
-fates_rule = chosen_rule (codes "fates")
-
-abbrev pub damage_rule : Rule
-damage_rule = chosen_rule (codes "damage")
-
-abbrev pub strings_rule : Rule
-strings_rule = chosen_rule (codes "strings")
-
-abbrev pub other_speed_rule : Rule
-other_speed_rule = chosen_rule (codes "other-speed")
-
 -- the numbers that an address, NAKs and attempts may be
 abbrev pub address_rule : Rule
 address_rule = number_rule (codes "address") 1 127
@@ -56,28 +42,45 @@ naks_rule = number_rule (codes "naks") 0 65535
 abbrev pub attempts_rule : Rule
 attempts_rule = number_rule (codes "attempts") 1 8
 
+-- a command with these options more
+abbrev pub with_rules : App → List Rule → App
+with_rules a rules = fold with_rule a rules
+
 -- a command of this name with these options
 abbrev pub command_with : Text → List Rule → App
-command_with name rules = fold with_rule (new_app name) rules
+command_with name rules = with_rules (new_app name) rules
 
 abbrev pub show_app : App
 show_app = command_with (codes "show") (flag_rule (codes "any") ∷ flag_rule (codes "hex") ∷ [])
 
 abbrev pub check_app : App
 check_app = command_with (codes "check")
-    (flag_rule (codes "any") ∷ flag_rule (codes "hex") ∷ flag_rule (codes "remarks") ∷ speed_rule ∷ [])
+    (flag_rule (codes "any") ∷ flag_rule (codes "hex") ∷ flag_rule (codes "remarks") ∷ chosen_rule (codes "speed") ∷ [])
 
 abbrev pub build_app : App
 build_app = command_with (codes "build") (flag_rule (codes "comments") ∷ flag_rule (codes "hex") ∷ [])
 
 abbrev pub explain_app : App
 explain_app = command_with (codes "explain")
-    (flag_rule (codes "brief") ∷ flag_rule (codes "no-places") ∷ flag_rule (codes "utf8") ∷ flag_rule (codes "hex") ∷ flag_rule (codes "loose") ∷ flag_rule (codes "formats") ∷ speed_rule ∷ [])
+    (flag_rule (codes "brief") ∷ flag_rule (codes "no-places") ∷ flag_rule (codes "utf8") ∷ flag_rule (codes "hex") ∷ flag_rule (codes "loose") ∷ flag_rule (codes "formats") ∷ chosen_rule (codes "speed") ∷ [])
+
+-- the options of `enumerate`: what the host is, what befalls the packets and whether they are told, and which strings and sets
+-- are wanted
+abbrev pub host_rules : List Rule
+host_rules = chosen_rule (codes "speed") ∷ address_rule ∷ naks_rule ∷ attempts_rule ∷ []
+
+abbrev pub bus_rules : List Rule
+bus_rules = chosen_rule (codes "fates") ∷ chosen_rule (codes "damage") ∷ flag_rule (codes "log") ∷ flag_rule (codes "brief") ∷ flag_rule (codes "packets") ∷ []
+
+abbrev pub string_rules : List Rule
+string_rules = flag_rule (codes "with-strings") ∷ chosen_rule (codes "strings") ∷ chosen_rule (codes "other-speed") ∷ []
 
 abbrev pub enumerate_app : App
-enumerate_app = command_with (codes "enumerate")
-    (speed_rule ∷ address_rule ∷ naks_rule ∷ attempts_rule ∷ fates_rule ∷ damage_rule ∷ flag_rule (codes "log") ∷ flag_rule (codes "brief") ∷ flag_rule (codes "packets") ∷ flag_rule (codes "with-strings")
-    ∷ strings_rule ∷ other_speed_rule ∷ [])
+enumerate_app = command_with (codes "enumerate") (host_rules ++ (bus_rules ++ string_rules))
+
+abbrev pub capture_app : App
+capture_app = command_with (codes "capture")
+    (flag_rule (codes "data") ∷ flag_rule (codes "brief") ∷ chosen_rule (codes "device") ∷ chosen_rule (codes "from") ∷ chosen_rule (codes "to") ∷ chosen_rule (codes "file") ∷ [])
 
 -- a command that prints its version where it is asked for
 abbrev pub versioned : App → App
@@ -87,10 +90,17 @@ versioned a = record a { top = record a.top { has_version = true } }
 abbrev pub requiring : App → App
 requiring a = record a { top = record a.top { subcommand_required = true } }
 
+-- a command with these subcommands more
+abbrev pub with_commands : App → List App → App
+with_commands a apps = fold (λ a b. with_subcommand a b.top) a apps
+
+-- those for a descriptor file
+abbrev pub file_apps : List App
+file_apps = show_app ∷ check_app ∷ build_app ∷ []
+
 -- the command `usbdesc` with its subcommands
 abbrev pub usbdesc_app : App
-usbdesc_app = fold (λ a b. with_subcommand a b.top) (requiring (versioned (new_app (codes "usbdesc"))))
-    (show_app ∷ check_app ∷ build_app ∷ explain_app ∷ enumerate_app ∷ [])
+usbdesc_app = with_commands (requiring (versioned (new_app (codes "usbdesc")))) (file_apps ++ (explain_app ∷ enumerate_app ∷ capture_app ∷ []))
 
 -- a subcommand of this name was found
 abbrev pub IsNamed : Text → Option (Text × List Row) → Type 0
@@ -118,6 +128,15 @@ pub record HasFlags (o : Explaining) (rows : List Row) : Type 0 where
   pub loose : o.loose ≡ gives (codes "loose") rows
   pub formats : o.formats ≡ gives (codes "formats") rows
   pub speed : text_of o.speed ≡ first_of (codes "speed") rows
+
+-- the flags of `capture` are those that were found, and so are the texts of its options
+pub record HasCapturing (o : Capturing) (rows : List Row) : Type 0 where
+  pub bytes : o.data ≡ gives (codes "data") rows
+  pub brief : o.brief ≡ gives (codes "brief") rows
+  pub device : text_of o.device ≡ first_of (codes "device") rows
+  pub from : text_of o.from ≡ first_of (codes "from") rows
+  pub to : text_of o.to ≡ first_of (codes "to") rows
+  pub file : text_of o.file ≡ first_of (codes "file") rows
 
 -- the flags of `check` are those that were found, and so is the text of its speed
 pub record IsChecking (o : Checking) (rows : List Row) : Type 0 where
@@ -187,6 +206,7 @@ Asks (lines.CheckRemarks o) = Finds (codes "check") (λ rows. (finds_alone rows 
 Asks lines.BuildCommented = Finds (codes "build") (WritesBy false true)
 Asks (lines.BuildHex comments) = Finds (codes "build") (WritesBy true comments)
 Asks (lines.Explain o) = Finds (codes "explain") (HasFlags o)
+Asks (lines.Capture o) = Finds (codes "capture") (HasCapturing o)
 Asks (lines.EnumerateWith o flags) = Finds (codes "enumerate") (λ rows. HasTexts o rows × (flags ≡ flags_of rows) × (flags ≢ no_flags) × (first_of (codes "damage") rows ≡ None) × (chooses_none rows ≡ true))
 Asks (lines.EnumerateDamaged o flags text) = Finds (codes "enumerate") (λ rows. HasTexts o rows × (flags ≡ flags_of rows) × (first_of (codes "damage") rows ≡ Some text.now) × (chooses_none rows ≡ true))
 Asks (lines.EnumerateChosen o flags damage choosing) =

@@ -1,5 +1,5 @@
 -- What `explain` tells of its input, by its options.
-use Rattle.std.specs.Prelude.{◌≡◌, ℕ, List, not, Option, Some, None, option_map, if◌then◌else◌, codes, ◌⊎◌, Bool, true, false, [], ◌++◌, length, Ok, Err}
+use Rattle.std.specs.Prelude.{◌≡◌, ℕ, List, not, Option, Some, None, option_map, if◌then◌else◌, codes, ◌⊎◌, Bool, true, false, ◌++◌, length, Ok, Err}
 use Rattle.std.specs.Borrow.{Bor}
 use Rattle.std.specs.Str.{bytes_eq}
 use Rattle.usb_explain.specs.declared.manner.Manner.{Manner}

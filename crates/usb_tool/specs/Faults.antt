@@ -21,6 +21,15 @@ use Rattle.usb_listing.specs.Listings.{why_message as list_why_message, why_numb
 use Rattle.usb_listing.specs.declared.fault.ListFault.{ListFault}
 use Rattle.usb_listing.specs.declared.fault.ListWhy.{ListWhy}
 use Rattle.usb_listing.specs.declared.fault.ListWhy.TheVariants as lists
+use Rattle.usb_capture.specs.FaultNumbers.{fault_number as capture_number}
+use Rattle.usb_capture.specs.declared.device_file.FileLack.{FileLack}
+use Rattle.usb_capture.specs.declared.device_file.FileLack.TheVariants as lacks
+use Rattle.usb_capture_lines.specs.FaultWords.{capture_meaning}
+use Rattle.usb_capture_lines.specs.declared.recording.DeviceFault.{DeviceFault}
+use Rattle.usb_capture_lines.specs.declared.recording.DeviceFault.TheVariants as devices
+use Rattle.usb_capture_lines.specs.declared.recording.RecordingFault.{RecordingFault}
+use Rattle.usb_capture_lines.specs.declared.recording.RecordingFault.TheVariants as recordings
+use Rattle.usb_capture_lines.specs.declared.selection.DeviceAddress.{DeviceAddress}
 use Rattle.usb_text.specs.declared.output.OutFault.{OutFault}
 use Rattle.usb_text.specs.declared.output.OutFault.TheVariants as outs
 use Rattle.std.specs.declared.io.ErrorKind.{ErrorKind}
@@ -30,6 +39,13 @@ use Rattle.usb_fields.specs.Numbers.{number_in}
 -- the number of a fault
 abbrev pub fault_number : ToolFault → ℕ
 fault_number fault = number_in tool_faults fault
+
+-- what lacks of a device's descriptors
+abbrev pub lack_line : DeviceAddress → FileLack → List ℕ
+lack_line a lacks.Device = codes "usbdesc: capture lacks device descriptor of " ++ decimal a.bus ++ codes "." ++ decimal a.device
+lack_line a (lacks.Configuration index) =
+    codes "usbdesc: capture lacks configuration " ++ decimal index ++ codes " of " ++ decimal a.bus ++ codes "." ++ decimal a.device
+lack_line a lacks.Memory = codes "usbdesc: out of memory"
 
 -- the line of a fault, without its line feed
 abbrev pub fault_line : ToolFault → List ℕ
@@ -46,6 +62,8 @@ fault_line (faults.Trailing at) = codes "usbdesc: trailing bytes at " ++ decimal
 fault_line faults.Memory = codes "usbdesc: out of memory"
 fault_line (faults.Hex line column) =
     codes "usbdesc: hexadecimal fault line " ++ decimal line ++ codes " column " ++ decimal column
+fault_line (faults.Capture why at) = codes "usbdesc: capture fault " ++ decimal (capture_number why) ++ codes " at " ++ decimal at
+fault_line (faults.Lack device lack) = lack_line device lack
 
 -- What a fault means, for people, and what to try then.
 
@@ -60,6 +78,8 @@ fault_meaning (faults.Set fault) = set_why_message fault.why
 fault_meaning (faults.Trailing at) = codes "bytes after the end of the set"
 fault_meaning faults.Memory = codes "there was not enough memory"
 fault_meaning (faults.Hex line column) = codes "no hexadecimal text"
+fault_meaning (faults.Capture why at) = capture_meaning why
+fault_meaning (faults.Lack device lack) = codes "not all of it came in the recording"
 
 -- what to try
 abbrev pub hint_words : Hint → List ℕ
@@ -117,6 +137,19 @@ list_fault_by_why _ fault = faults.List fault
 -- the program's fault for one of a listing
 abbrev pub fault_of_list : ListFault → ToolFault
 fault_of_list fault = list_fault_by_why fault.why fault
+
+-- the program's fault for one of reading and telling of a recording
+abbrev pub fault_of_recording : RecordingFault → ToolFault
+fault_of_recording recordings.Read = faults.Read
+fault_of_recording recordings.TooLarge = faults.TooLarge
+fault_of_recording recordings.Write = faults.Write
+fault_of_recording recordings.Memory = faults.Memory
+fault_of_recording (recordings.Capture why at) = faults.Capture why at
+
+-- and for one of making a file of a device
+abbrev pub fault_of_device : DeviceAddress → DeviceFault → ToolFault
+fault_of_device device (devices.Recording fault) = fault_of_recording fault
+fault_of_device device (devices.Lack lack) = faults.Lack device lack
 
 -- a listing that was not written to its end
 abbrev pub fault_of_output : OutFault → ToolFault

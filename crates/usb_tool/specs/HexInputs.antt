@@ -3,7 +3,6 @@ use Rattle.std.specs.Prelude.{ℕ, List, Some, true, false, ◌⊎◌}
 use Rattle.std.specs.Io.KnownBytes.{Keeps}
 use Rattle.usb_file_data.specs.declared.laws.TheConstants.{FILE_LIMIT}
 use Rattle.usb_hex.specs.Hexadecimal.{HexText}
-use Rattle.usb_text.specs.Output.{Held}
 use Rattle.usb_tool.specs.Commands.{CheckAnyFails, CheckFails, Checked, CheckedAny, ShowAnyFails, ShowFails, Shown, ShownAny}
 use Rattle.usb_tool.specs.Endings.{Failure, Left, ReadFails, ReadsAll, Work}
 use Rattle.usb_tool.specs.Explains.{RefusesHex}

@@ -13,6 +13,8 @@ pub mod OptionValues
 pub mod Damages
 pub mod Settings
 pub mod Choosing
+pub mod CaptureOptions
+pub mod Captures
 pub mod OptionFaults
 pub mod Numbers
 pub mod Runs

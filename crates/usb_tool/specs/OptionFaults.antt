@@ -28,6 +28,10 @@ settings_fault_number faults.Damages = 8
 settings_fault_number faults.PacketsAlone = 9
 settings_fault_number faults.Strings = 10
 settings_fault_number faults.OtherSpeed = 11
+settings_fault_number faults.FileBeside = 12
+settings_fault_number faults.BriefBeside = 13
+settings_fault_number faults.Device = 14
+settings_fault_number faults.Time = 15
 
 -- its line on standard error, without its line feed
 abbrev pub settings_line : SettingsFault → List ℕ
@@ -41,6 +45,10 @@ settings_line faults.Damages = codes "usbdesc: bad damages"
 settings_line faults.PacketsAlone = codes "usbdesc: --packets without --log"
 settings_line faults.Strings = codes "usbdesc: bad strings"
 settings_line faults.OtherSpeed = codes "usbdesc: bad other speed"
+settings_line faults.FileBeside = codes "usbdesc: --file beside other options"
+settings_line faults.BriefBeside = codes "usbdesc: --brief beside --data, --from or --to"
+settings_line faults.Device = codes "usbdesc: bad device"
+settings_line faults.Time = codes "usbdesc: bad time"
 
 -- what it means, for people
 abbrev pub settings_meaning : SettingsFault → List ℕ
@@ -54,6 +62,10 @@ settings_meaning faults.Damages = codes "damage is TRANSACTION:PACKET:BIT,..;.. 
 settings_meaning faults.PacketsAlone = codes "a log shows packets: enumerate --log --packets"
 settings_meaning faults.Strings = codes "strings are needed, wanted or skipped"
 settings_meaning faults.OtherSpeed = codes "the other speed is asked for or not: yes or no"
+settings_meaning faults.FileBeside = codes "--file is for a file alone: capture --file 1.5"
+settings_meaning faults.BriefBeside = codes "--brief leaves out the lines that --data, --from and --to are for"
+settings_meaning faults.Device = codes "a device is its bus and its address: 1.5"
+settings_meaning faults.Time = codes "a time is in seconds, with at most nine digits after the point"
 
 -- the exit status: 2 as for a line that is no command, and 3 where it is out of memory
 abbrev pub settings_status : SettingsFault → ℕ

@@ -7,6 +7,10 @@ use Rattle.clap.specs.Words.{fault_of, subcommand_of}
 use Rattle.clap.specs.declared.error.kind.ErrorKind.{ErrorKind}
 use Rattle.clap.specs.declared.error.kind.ErrorKind.TheVariants as kinds
 use Rattle.usb_text.specs.Output.{AppendsFront, Held}
+use Rattle.usb_tool.specs.CaptureOptions.{IsCaptureCommand, RefusesCapturing}
+use Rattle.usb_tool.specs.Captures.{CaptureDone, CaptureFails}
+use Rattle.usb_tool.specs.declared.capturing.CaptureCommand.{CaptureCommand}
+use Rattle.usb_tool.specs.declared.capturing.Capturing.{Capturing}
 use Rattle.usb_tool.specs.Commands.{BuildCommentedFails, BuildFails, Built, BuiltCommented, CheckAnyFails, CheckFails, Checked, CheckedAny, ShowAnyFails, ShowFails, Shown, ShownAny}
 use Rattle.usb_tool.specs.RemarkChecks.{CheckRemarksFails, CheckedRemarks, IsRunningSpeed, RefusesChecking}
 use Rattle.std.specs.Borrow.{Bor}
@@ -109,6 +113,12 @@ EndsExplanation person o from to held holds errors told status =
     OptionsAreTaken Manner (IsManner o) (λ m. Ends person hints.Nothing (Explained o.loose o.hex m) (ExplainFails o.loose o.hex m)) from to held holds errors told status
     ⊎ OptionsAreRefused person (λ fault. (fault ≡ Speed) × HasBadSpeed o) from to held holds errors told status
 
+-- how `capture` ends with these options
+abbrev pub EndsCapture : Bool → Capturing → Course
+EndsCapture person o from to held holds errors told status =
+    OptionsAreTaken CaptureCommand (IsCaptureCommand o) (λ command. Ends person hints.Nothing (CaptureDone command) (CaptureFails command)) from to held holds errors told status
+    ⊎ OptionsAreRefused person (RefusesCapturing o) from to held holds errors told status
+
 -- what to try where the input of `enumerate` is at fault
 abbrev pub enumerate_hint : Bool → Hint
 enumerate_hint with_strings = if with_strings then hints.Explain else hints.WithStrings
@@ -206,6 +216,7 @@ EndsLine person (lines.CheckRemarks options) = EndsChecking person options
 EndsLine person lines.BuildCommented = Ends person hints.Nothing BuiltCommented BuildCommentedFails
 EndsLine person (lines.BuildHex comments) = Ends person (build_hint comments) (BuiltHex comments) (BuildHexFails comments)
 EndsLine person (lines.Explain options) = EndsExplanation person options
+EndsLine person (lines.Capture options) = EndsCapture person options
 EndsLine person (lines.EnumerateWith options flags) = EndsEnumeration person options flags
 EndsLine person (lines.EnumerateDamaged options flags text) = EndsDamaged person options flags text.now
 EndsLine person (lines.EnumerateChosen options flags damage choosing) = EndsChosen person options flags damage choosing

@@ -71,6 +71,10 @@ RefusesOptions o faults.Damages = ⊥
 RefusesOptions o faults.PacketsAlone = ⊥
 RefusesOptions o faults.Strings = ⊥
 RefusesOptions o faults.OtherSpeed = ⊥
+RefusesOptions o faults.FileBeside = ⊥
+RefusesOptions o faults.BriefBeside = ⊥
+RefusesOptions o faults.Device = ⊥
+RefusesOptions o faults.Time = ⊥
 
 -- the fault of a flag that is for a log where none is asked for: lines of data are left out, or else packets are shown
 abbrev pub flag_alone : EnumerateFlags → Option SettingsFault

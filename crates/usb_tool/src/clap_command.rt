@@ -2,16 +2,18 @@
 ghost use Rattle.std.specs.Prelude.{◌≡◌, IfOk, false};
 ghost use Rattle.clap.specs.Words.{app_of, new_app, rule_of, with_rule, with_subcommand};
 ghost use Rattle.clap.specs.declared.builder.Command.TheViews.{out-Command};
-ghost use Rattle.usb_tool.specs.CommandLine.{address_rule, attempts_rule, build_app, check_app, chosen_rule, damage_rule, enumerate_app, explain_app, fates_rule, flag_rule, naks_rule, other_speed_rule, show_app, speed_rule, strings_rule, usbdesc_app, valued_rule};
+ghost use Rattle.usb_tool.specs.CommandLine.{address_rule, attempts_rule, build_app, bus_rules, capture_app, check_app, chosen_rule, enumerate_app, explain_app, file_apps, flag_rule, host_rules, naks_rule, show_app, string_rules, usbdesc_app, valued_rule, with_commands, with_rules};
 
 use crate::help::{
-    ABOUT, ADDRESS_HELP, ATTEMPTS_HELP, BRIEF_HELP, BRIEF_LOG_HELP, BUILD_ABOUT, BUILD_HELP,
-    BUILD_USAGE, CHECK_ABOUT, CHECK_ANY_HELP, CHECK_HELP, CHECK_USAGE, COMMENTS_HELP, DAMAGE,
-    DAMAGE_HELP, ENUMERATE_ABOUT, ENUMERATE_HELP, ENUMERATE_USAGE, EXPLAIN_ABOUT, EXPLAIN_HELP,
-    EXPLAIN_USAGE, FATES, FATES_HELP, FORMATS_HELP, HEX_HELP, HEX_OUTPUT_HELP, LOG_HELP,
-    LOOSE_HELP, NAKS_HELP, NO_PLACES_HELP, OTHER_SPEED, OTHER_SPEED_HELP, PACKETS_HELP,
-    RAN_AT_HELP, REMARKS_HELP, RUNNING_SPEEDS, SHOW_ABOUT, SHOW_ANY_HELP, SHOW_HELP, SHOW_USAGE,
-    SPEED_HELP, SPEEDS, STRINGS, STRINGS_HELP, UTF8_HELP, VERSION, WITH_STRINGS_HELP,
+    ABOUT, ADDRESS_HELP, ATTEMPTS_HELP, BRIEF_HELP, BRIEF_LINES_HELP, BRIEF_LOG_HELP, BUILD_ABOUT,
+    BUILD_HELP, BUILD_USAGE, CAPTURE_ABOUT, CAPTURE_HELP, CAPTURE_USAGE, CHECK_ABOUT,
+    CHECK_ANY_HELP, CHECK_HELP, CHECK_USAGE, COMMENTS_HELP, DAMAGE, DAMAGE_HELP, DATA_HELP, DEVICE,
+    DEVICE_HELP, ENUMERATE_ABOUT, ENUMERATE_HELP, ENUMERATE_USAGE, EXPLAIN_ABOUT, EXPLAIN_HELP,
+    EXPLAIN_USAGE, FATES, FATES_HELP, FILE_HELP, FORMATS_HELP, FROM_HELP, HEX_HELP,
+    HEX_OUTPUT_HELP, LOG_HELP, LOOSE_HELP, NAKS_HELP, NO_PLACES_HELP, OTHER_SPEED,
+    OTHER_SPEED_HELP, PACKETS_HELP, RAN_AT_HELP, REMARKS_HELP, RUNNING_SPEEDS, SECONDS, SHOW_ABOUT,
+    SHOW_ANY_HELP, SHOW_HELP, SHOW_USAGE, SPEED_HELP, SPEEDS, STRINGS, STRINGS_HELP, TO_HELP,
+    UTF8_HELP, VERSION, WITH_STRINGS_HELP,
 };
 use clap::{Arg, ArgAction, Command, value_parser};
 use std::alloc::{AllocError, Global};
@@ -24,11 +26,19 @@ pub(crate) fn usbdesc<'a>(alloc: Global) -> Result<Command<'a>, AllocError>
         .version(VERSION)
         .about(ABOUT)
         .subcommand_required(true);
-    let usbdesc = add_command(usbdesc, show(alloc)?)?;
-    let usbdesc = add_command(usbdesc, check(alloc)?)?;
-    let usbdesc = add_command(usbdesc, build(alloc)?)?;
+    let usbdesc = add_file_commands(alloc, usbdesc)?;
     let usbdesc = add_command(usbdesc, explain(alloc)?)?;
-    add_command(usbdesc, enumerate(alloc)?)
+    let usbdesc = add_command(usbdesc, enumerate(alloc)?)?;
+    add_command(usbdesc, capture(alloc)?)
+}
+
+/// The command with the subcommands for a descriptor file.
+fn add_file_commands<'a>(alloc: Global, command: Command<'a>) -> Result<Command<'a>, AllocError>
+    ensures { IfOk result (λ c. app_of c ≡ with_commands (app_of command.entry) file_apps) }
+{
+    let command = add_command(command, show(alloc)?)?;
+    let command = add_command(command, check(alloc)?)?;
+    add_command(command, build(alloc)?)
 }
 
 /// The command with one more subcommand, none of whose options its own subcommands take.
@@ -58,7 +68,7 @@ fn check<'a>(alloc: Global) -> Result<Command<'a>, AllocError>
     let check = add_option(check, flag(alloc, "any", CHECK_ANY_HELP))?;
     let check = add_option(check, flag(alloc, "hex", HEX_HELP))?;
     let check = add_option(check, flag(alloc, "remarks", REMARKS_HELP))?;
-    add_option(check, ran_at(alloc))
+    add_option(check, chosen(alloc, "speed", RUNNING_SPEEDS, RAN_AT_HELP))
 }
 
 /// The subcommand `build` with its options.
@@ -83,7 +93,7 @@ fn explain<'a>(alloc: Global) -> Result<Command<'a>, AllocError>
     let explain = add_option(explain, flag(alloc, "hex", HEX_HELP))?;
     let explain = add_option(explain, flag(alloc, "loose", LOOSE_HELP))?;
     let explain = add_option(explain, flag(alloc, "formats", FORMATS_HELP))?;
-    add_option(explain, ran_at(alloc))
+    add_option(explain, chosen(alloc, "speed", RUNNING_SPEEDS, RAN_AT_HELP))
 }
 
 /// The subcommand `enumerate` with its options.
@@ -98,18 +108,59 @@ fn enumerate<'a>(alloc: Global) -> Result<Command<'a>, AllocError>
         ENUMERATE_ABOUT,
         ENUMERATE_HELP,
     );
-    let enumerate = add_option(enumerate, speed(alloc))?;
-    let enumerate = add_option(enumerate, address(alloc))?;
-    let enumerate = add_option(enumerate, naks(alloc))?;
-    let enumerate = add_option(enumerate, attempts(alloc))?;
-    let enumerate = add_option(enumerate, fates(alloc))?;
-    let enumerate = add_option(enumerate, damage(alloc))?;
-    let enumerate = add_option(enumerate, flag(alloc, "log", LOG_HELP))?;
-    let enumerate = add_option(enumerate, flag(alloc, "brief", BRIEF_LOG_HELP))?;
-    let enumerate = add_option(enumerate, flag(alloc, "packets", PACKETS_HELP))?;
-    let enumerate = add_option(enumerate, flag(alloc, "with-strings", WITH_STRINGS_HELP))?;
-    let enumerate = add_option(enumerate, strings(alloc))?;
-    add_option(enumerate, other_speed(alloc))
+    let enumerate = add_host_options(alloc, enumerate)?;
+    let enumerate = add_bus_options(alloc, enumerate)?;
+    add_string_options(alloc, enumerate)
+}
+
+/// The command with the options that say what the host is.
+fn add_host_options<'a>(alloc: Global, command: Command<'a>) -> Result<Command<'a>, AllocError>
+    ensures app { IfOk result (λ c. app_of c ≡ with_rules (app_of command.entry) host_rules) }
+    ensures local { IfOk result (λ c. (out-Command c).has_globals ≡ (out-Command command.entry).has_globals) }
+{
+    let command = add_option(command, chosen(alloc, "speed", SPEEDS, SPEED_HELP))?;
+    let command = add_option(command, address(alloc))?;
+    let command = add_option(command, naks(alloc))?;
+    add_option(command, attempts(alloc))
+}
+
+/// The command with the options that say what befalls the packets, and whether they are told.
+fn add_bus_options<'a>(alloc: Global, command: Command<'a>) -> Result<Command<'a>, AllocError>
+    ensures app { IfOk result (λ c. app_of c ≡ with_rules (app_of command.entry) bus_rules) }
+    ensures local { IfOk result (λ c. (out-Command c).has_globals ≡ (out-Command command.entry).has_globals) }
+{
+    let command = add_option(command, chosen(alloc, "fates", FATES, FATES_HELP))?;
+    let command = add_option(command, chosen(alloc, "damage", DAMAGE, DAMAGE_HELP))?;
+    let command = add_option(command, flag(alloc, "log", LOG_HELP))?;
+    let command = add_option(command, flag(alloc, "brief", BRIEF_LOG_HELP))?;
+    add_option(command, flag(alloc, "packets", PACKETS_HELP))
+}
+
+/// The command with the options that say which strings and sets are wanted.
+fn add_string_options<'a>(alloc: Global, command: Command<'a>) -> Result<Command<'a>, AllocError>
+    ensures app { IfOk result (λ c. app_of c ≡ with_rules (app_of command.entry) string_rules) }
+    ensures local { IfOk result (λ c. (out-Command c).has_globals ≡ (out-Command command.entry).has_globals) }
+{
+    let command = add_option(command, flag(alloc, "with-strings", WITH_STRINGS_HELP))?;
+    let command = add_option(command, chosen(alloc, "strings", STRINGS, STRINGS_HELP))?;
+    add_option(
+        command,
+        chosen(alloc, "other-speed", OTHER_SPEED, OTHER_SPEED_HELP),
+    )
+}
+
+/// The subcommand `capture` with its options.
+fn capture<'a>(alloc: Global) -> Result<Command<'a>, AllocError>
+    ensures app { IfOk result (λ c. app_of c ≡ capture_app) }
+    ensures local { IfOk result (λ c. (out-Command c).has_globals ≡ false) }
+{
+    let capture = command(alloc, "capture", CAPTURE_USAGE, CAPTURE_ABOUT, CAPTURE_HELP);
+    let capture = add_option(capture, flag(alloc, "data", DATA_HELP))?;
+    let capture = add_option(capture, flag(alloc, "brief", BRIEF_LINES_HELP))?;
+    let capture = add_option(capture, chosen(alloc, "device", DEVICE, DEVICE_HELP))?;
+    let capture = add_option(capture, chosen(alloc, "from", SECONDS, FROM_HELP))?;
+    let capture = add_option(capture, chosen(alloc, "to", SECONDS, TO_HELP))?;
+    add_option(capture, chosen(alloc, "file", DEVICE, FILE_HELP))
 }
 
 /// A command of this name, which takes no words of its own.
@@ -165,22 +216,6 @@ fn flag<'a>(alloc: Global, name: &'a str, help: &'a str) -> Arg<'a>
         .action(ArgAction::SetTrue)
 }
 
-/// The speed at which a device ran.
-fn ran_at<'a>(alloc: Global) -> Arg<'a>
-    ensures rule { rule_of result ≡ speed_rule }
-    ensures local { result.global ≡ false }
-{
-    chosen(alloc, "speed", RUNNING_SPEEDS, RAN_AT_HELP)
-}
-
-/// The speed of the device that is enumerated.
-fn speed<'a>(alloc: Global) -> Arg<'a>
-    ensures rule { rule_of result ≡ speed_rule }
-    ensures local { result.global ≡ false }
-{
-    chosen(alloc, "speed", SPEEDS, SPEED_HELP)
-}
-
 fn address<'a>(alloc: Global) -> Arg<'a>
     ensures rule { rule_of result ≡ address_rule }
     ensures local { result.global ≡ false }
@@ -200,32 +235,4 @@ fn attempts<'a>(alloc: Global) -> Arg<'a>
     ensures local { result.global ≡ false }
 {
     valued(alloc, "attempts", ATTEMPTS_HELP).value_parser(value_parser!(u8).range(1..=8))
-}
-
-fn fates<'a>(alloc: Global) -> Arg<'a>
-    ensures rule { rule_of result ≡ fates_rule }
-    ensures local { result.global ≡ false }
-{
-    chosen(alloc, "fates", FATES, FATES_HELP)
-}
-
-fn damage<'a>(alloc: Global) -> Arg<'a>
-    ensures rule { rule_of result ≡ damage_rule }
-    ensures local { result.global ≡ false }
-{
-    chosen(alloc, "damage", DAMAGE, DAMAGE_HELP)
-}
-
-fn strings<'a>(alloc: Global) -> Arg<'a>
-    ensures rule { rule_of result ≡ strings_rule }
-    ensures local { result.global ≡ false }
-{
-    chosen(alloc, "strings", STRINGS, STRINGS_HELP)
-}
-
-fn other_speed<'a>(alloc: Global) -> Arg<'a>
-    ensures rule { rule_of result ≡ other_speed_rule }
-    ensures local { result.global ≡ false }
-{
-    chosen(alloc, "other-speed", OTHER_SPEED, OTHER_SPEED_HELP)
 }

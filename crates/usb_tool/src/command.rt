@@ -1,9 +1,11 @@
 //! What each command does and how it ends, but for `enumerate`.
 ghost use Rattle.std.specs.Prelude.{◌≡◌};
-ghost use Rattle.usb_tool.specs.Runs.{EndsChecking, EndsExplanation, EndsHex, EndsLine, EndsRemarks, any_hint, build_hint};
+ghost use Rattle.usb_tool.specs.Runs.{EndsCapture, EndsChecking, EndsExplanation, EndsHex, EndsLine, EndsRemarks, any_hint, build_hint};
 ghost use Rattle.usb_tool.specs.declared.command_line.Line.TheVariants.{CheckAny};
 
 use crate::build::{run_build, run_build_commented};
+use crate::capture::run_capture;
+use crate::capturing::{Capturing, capture_command};
 use crate::check::{run_check, run_check_any};
 use crate::check_remarks::run_check_remarks;
 use crate::checking::{Checking, running_speed};
@@ -66,6 +68,7 @@ pub(crate) fn carry_out<R: Read, W: Write, E: Write>(
             e,
         ),
         Line::Explain(options) => explain_with(alloc, options, person, r, w, e),
+        Line::Capture(options) => capture_with(alloc, options, person, r, w, e),
         Line::EnumerateWith(options, flags) => enumerate_with(
             alloc, options, *flags, person, r, w, e,
         ),
@@ -122,6 +125,24 @@ fn explain_with<R: Read, W: Write, E: Write>(
             Hint::Nothing,
             e,
         ),
+        Err(fault) => refuse(fault, person, e),
+    }
+}
+
+/// Tells of a recording as the options say, which are refused before anything is read.
+#[tactic(auto, using(crate::proofs::Running::command_ends))]
+fn capture_with<R: Read, W: Write, E: Write>(
+    alloc: Global,
+    options: &Capturing<'_>,
+    person: bool,
+    r: &mut R,
+    w: &mut W,
+    e: &mut E,
+) -> u8
+    ensures { EndsCapture person options.now (R.remaining r.old) (R.remaining r.new) (W.contents w.old) (W.contents w.new) (E.contents e.old) (E.contents e.new) result }
+{
+    match capture_command(options) {
+        Ok(command) => report(&run_capture(alloc, r, w, command), person, Hint::Nothing, e),
         Err(fault) => refuse(fault, person, e),
     }
 }

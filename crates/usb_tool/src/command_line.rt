@@ -2,9 +2,10 @@
 ghost use Rattle.std.specs.Prelude.{◌≡◌, IfOk, Some, codes};
 ghost use Rattle.clap.specs.Words.{fault_of, first_of, found_of, rows_of, subcommand_of, subcommand_rows_of};
 ghost use Rattle.clap.specs.Kinds.{FailsBy};
-ghost use Rattle.usb_tool.specs.CommandLine.{Asks, HasChoosing, HasFlags, IsChecking, HasTexts, flags_of, gives, is_given, text_of, usbdesc_app, word_texts};
+ghost use Rattle.usb_tool.specs.CommandLine.{Asks, HasCapturing, HasChoosing, HasFlags, IsChecking, HasTexts, flags_of, gives, is_given, text_of, usbdesc_app, word_texts};
 ghost use Rattle.usb_tool.specs.inside.Taking.{NamesCommand};
 
+use crate::capturing::Capturing;
 use crate::checking::Checking;
 use crate::choosing::Choosing;
 use crate::clap_command::usbdesc;
@@ -41,6 +42,8 @@ pub enum Line<'a> {
     BuildHex(bool),
     /// What the descriptors of the input mean, in words.
     Explain(Explaining<'a>),
+    /// What a recording says, in lines, or the descriptors of one of its devices.
+    Capture(Capturing<'a>),
     /// `enumerate` with at least one of these flags.
     EnumerateWith(Options<'a>, EnumerateFlags),
     /// `enumerate --damage`, with this text and with any of these flags.
@@ -94,6 +97,7 @@ fn line_of<'a>(matches: &ArgMatches<'a>) -> Line<'a>
         Some((name, options)) if name == "build" => build_of(options),
         Some((name, options)) if name == "explain" => explain_of(options),
         Some((name, options)) if name == "enumerate" => enumerate_of(options),
+        Some((name, options)) if name == "capture" => capture_of(options),
         _ => unreachable!(),
     }
 }
@@ -173,6 +177,25 @@ fn explain_of<'a>(matches: &ArgMatches<'a>) -> Line<'a>
     ensures { Asks result (Some (codes "explain", rows_of (found_of matches.now))) }
 {
     Line::Explain(explaining_of(matches))
+}
+
+fn capture_of<'a>(matches: &ArgMatches<'a>) -> Line<'a>
+    ensures { Asks result (Some (codes "capture", rows_of (found_of matches.now))) }
+{
+    Line::Capture(capturing_of(matches))
+}
+
+fn capturing_of<'a>(matches: &ArgMatches<'a>) -> Capturing<'a>
+    ensures { HasCapturing result (rows_of (found_of matches.now)) }
+{
+    Capturing {
+        data: has_flag(matches, "data"),
+        brief: has_flag(matches, "brief"),
+        device: matches.get_str("device"),
+        from: matches.get_str("from"),
+        to: matches.get_str("to"),
+        file: matches.get_str("file"),
+    }
 }
 
 fn explaining_of<'a>(matches: &ArgMatches<'a>) -> Explaining<'a>

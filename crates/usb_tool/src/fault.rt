@@ -1,16 +1,19 @@
 //! Why a command of the program failed, and the line that says so.
 ghost use Rattle.std.specs.Prelude.{◌≡◌, Some};
-ghost use Rattle.usb_tool.specs.Faults.{fault_line, fault_number, fault_of_file, fault_of_input, fault_of_list, fault_of_output, fault_of_set, status_of};
+ghost use Rattle.usb_tool.specs.Faults.{fault_line, fault_number, fault_of_device, fault_of_file, fault_of_input, fault_of_list, fault_of_output, fault_of_recording, fault_of_set, status_of};
 ghost use Rattle.usb_tool.specs.declared.fault.ToolFault.TheVariants.{Memory};
 ghost use Rattle.std.specs.Prelude.{IfSome};
 ghost use Rattle.usb_tool.specs.Runs.{ReportsLine};
 
+use crate::lack_line::LackLine;
 use arrayvec::ArrayString;
 use std::alloc::AllocError;
 use std::error::Error;
 use std::fmt;
 use std::fmt::{Display, Write as _};
 use std::io::Write;
+use usb_capture::{CaptureFault, FileLack};
+use usb_capture_lines::{DeviceAddress, DeviceFault, RecordingFault};
 use usb_file_data::{FileFault, FileWhy, InputFault};
 use usb_listing::{ListFault, ListWhy};
 use usb_set::{SetFault, SetWhy};
@@ -41,11 +44,24 @@ pub enum ToolFault {
     /// Out of memory.
     Memory,
     /// The input is no hexadecimal text: the line and the column of what is none.
-    Hex { line: usize, column: usize },
+    Hex {
+        line: usize,
+        column: usize,
+    },
+    /// The input is no recording: why, and the place of the part that has the fault.
+    Capture {
+        why: CaptureFault,
+        at: u64,
+    },
+    /// No file can be made of a device's descriptors: what lacks of them in the recording.
+    Lack {
+        device: DeviceAddress,
+        lack: FileLack,
+    },
 }
 
 impl ToolFault {
-    /// The fault's number, from 1 to 9.
+    /// The fault's number, from 1 to 11.
     ///
     /// ```rust
     /// assert_eq!(rt; ToolFault::Trailing(34).number(), 7);
@@ -63,6 +79,8 @@ impl ToolFault {
             ToolFault::Trailing(_) => 7,
             ToolFault::Memory => 8,
             ToolFault::Hex { .. } => 9,
+            ToolFault::Capture { .. } => 10,
+            ToolFault::Lack { .. } => 11,
         }
     }
 }
@@ -95,6 +113,14 @@ impl fmt::Display for ToolFault {
             ToolFault::Memory => write!(f, "usbdesc: out of memory"),
             ToolFault::Hex { line, column } => {
                 write!(f, "usbdesc: hexadecimal fault line {line} column {column}")
+            }
+            ToolFault::Capture { why, at } => {
+                let number = why.number();
+                write!(f, "usbdesc: capture fault {number} at {at}")
+            }
+            ToolFault::Lack { device, lack } => {
+                let (device, lack) = (*device, *lack);
+                write!(f, "{}", LackLine { device, lack })
             }
         }
     }
@@ -167,6 +193,31 @@ impl From<OutFault> for ToolFault {
             OutFault::Write => ToolFault::Write,
             OutFault::Memory => ToolFault::Memory,
         }
+    }
+}
+
+/// That of a recording that was told no further.
+impl From<RecordingFault> for ToolFault {
+    ghost from_gives = { λ e fault. fault ≡ fault_of_recording e };
+
+    fn from(e: RecordingFault) -> ToolFault {
+        match e {
+            RecordingFault::Read => ToolFault::Read,
+            RecordingFault::TooLarge => ToolFault::TooLarge,
+            RecordingFault::Write => ToolFault::Write,
+            RecordingFault::Memory => ToolFault::Memory,
+            RecordingFault::Capture { why, at } => ToolFault::Capture { why, at },
+        }
+    }
+}
+
+/// The program's fault for one of making a file of a device.
+pub(crate) fn fault_of_device(device: DeviceAddress, fault: DeviceFault) -> ToolFault
+    ensures { result ≡ fault_of_device device fault }
+{
+    match fault {
+        DeviceFault::Recording(fault) => ToolFault::from(fault),
+        DeviceFault::Lack(lack) => ToolFault::Lack { device, lack },
     }
 }
 

@@ -320,3 +320,69 @@ pub(crate) const PACKETS_HELP: &str = "Shows the bytes of each packet in the log
 
 /// What `--brief` of `enumerate` says.
 pub(crate) const BRIEF_LOG_HELP: &str = "Leaves the lines of data out of the log";
+
+/// The usage line of `capture`.
+pub(crate) const CAPTURE_USAGE: &str = "usbdesc capture [OPTIONS] < RECORDING";
+
+/// What `capture` does.
+pub(crate) const CAPTURE_ABOUT: &str =
+    "Tells of a recording of a bus on standard input, a line for each control transfer";
+
+/// The text after the help of `capture`.
+pub(crate) const CAPTURE_HELP: &str = "\
+Input:
+  A recording of any length: pcap or pcapng, as tcpdump, Wireshark and QEMU write them, with
+  frames of usbmon or USBPcap or packets of the bus, or the text of Linux's usbmon.
+
+Lines:
+  The time in seconds after the first frame, the device, that is the number of its bus, a
+  point and its address, the request, and what came of it: a number of bytes, 'done', 'STALL'
+  or the status of the system, with what that means after a '?'. What USB 2.0 forbids is below
+  it after a '!'. The last lines have the number of frames and the devices with what came of
+  their descriptors and how many findings there are.
+
+Faults of a recording, 'usbdesc: capture fault N at PLACE', the place in bytes from 0 of the
+part that has the fault; what came before it is told:
+  1  neither pcap, nor pcapng, nor usbmon's text
+  2  a section of neither byte order
+  3  a block of a length that its type doesn't have
+  4  a block whose two lengths differ
+  5  a section of a version other than 1
+  6  a description of an interface of over 65,627 bytes
+  7  a section with over 65,536 interfaces
+  8  an option of an interface that isn't whole
+  9  a packet of an interface that isn't there
+  10 a packet whose data run past its block
+  11 no line of usbmon's text
+
+Exit status:
+  0  the lines are written, and no device has findings, or the file is
+  1  the lines are written, and a device has findings
+  2  the command line is invalid, or the value of an option is
+  3  reading, the recording or writing is at fault, or a part of the file didn't come;
+     standard error says how";
+
+/// What `--data` says.
+pub(crate) const DATA_HELP: &str = "Writes the bytes of each transfer below its line";
+
+/// What `--brief` of `capture` says.
+pub(crate) const BRIEF_LINES_HELP: &str = "Leaves out the lines of transfers";
+
+/// The value of `--device` and `--file`.
+pub(crate) const DEVICE: &str = "BUS.ADDRESS";
+
+/// What `--device` says.
+pub(crate) const DEVICE_HELP: &str = "Tells of this device alone";
+
+/// The value of `--from` and `--to`.
+pub(crate) const SECONDS: &str = "SECONDS";
+
+/// What `--from` says.
+pub(crate) const FROM_HELP: &str = "Leaves out transfers that ended before this time";
+
+/// What `--to` says.
+pub(crate) const TO_HELP: &str = "Leaves out transfers that ended after this time";
+
+/// What `--file` says.
+pub(crate) const FILE_HELP: &str =
+    "Writes the descriptors of this device, a file or where strings lack a dump";

@@ -10,6 +10,8 @@
 //! [`run_explain`] writes what the descriptors of any of these inputs
 //! mean, in words, also where it is the hexadecimal text of one (`specs/Explains.antt`). [`run_hex`] shows or checks the bytes
 //! of such a text (`specs/HexInputs.antt`), and [`run_build_hex`] writes one (`specs/HexOutputs.antt`).
+//! [`run_capture`] tells of a recording of a bus, which may have any length, or writes the descriptors of one of its devices
+//! (`specs/Captures.antt`), by the options that [`capture_command`] reads (`specs/CaptureOptions.antt`).
 //! [`run_enumerate`] enumerates a device that has the descriptors of a file, over a bus that loses
 //! packets and handshakes, and writes what came of that (`specs/Enumerations.antt`). [`run_enumerate_with`] takes a dump
 //! too where it is asked to, and writes a log, whose lines are in the crate `usb_bus`. [`run_enumeration`] takes
@@ -35,6 +37,8 @@
 #![tactic(auto)]
 
 mod build;
+mod capture;
+mod capturing;
 mod check;
 mod check_remarks;
 mod checking;
@@ -53,6 +57,7 @@ mod hex_input;
 mod hex_output;
 mod input;
 mod intake;
+mod lack_line;
 mod manner;
 mod meaning;
 mod numbers;
@@ -64,6 +69,8 @@ mod settings;
 mod show;
 
 pub use build::{run_build, run_build_commented};
+pub use capture::run_capture;
+pub use capturing::{CaptureCommand, Capturing, capture_command};
 pub use check::{run_check, run_check_any};
 pub use check_remarks::{remarks_add_lines_alone, run_check_remarks};
 pub use checking::{Checking, running_speed};
@@ -86,6 +93,7 @@ pub use settings::{
 };
 pub use show::{run_show, run_show_any};
 pub use usb_bus::{BitChange, Fate, Reply, Run, Talk, converse, enumerate, laws};
+pub use usb_capture_lines::{DeviceAddress, Selection};
 pub use usb_explain::{Look, Manner};
 pub use usb_listing::LISTING_LIMIT;
 pub use usb_remarks::SetSpeed;

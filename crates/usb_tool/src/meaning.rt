@@ -4,6 +4,7 @@ ghost use Rattle.usb_tool.specs.Faults.{fault_meaning, hint_at, hint_words};
 
 use crate::fault::ToolFault;
 use std::fmt;
+use usb_capture_lines::capture_meaning;
 use usb_explain::FaultWords;
 
 /// What to try where the input is at fault, or an enumeration had no success.
@@ -73,6 +74,8 @@ pub(crate) fn fault_meaning(fault: ToolFault) -> &'static str
         ToolFault::Trailing(_) => "bytes after the end of the set",
         ToolFault::Memory => "there was not enough memory",
         ToolFault::Hex { .. } => "no hexadecimal text",
+        ToolFault::Capture { why, .. } => capture_meaning(why),
+        ToolFault::Lack { .. } => "not all of it came in the recording",
     }
 }
 

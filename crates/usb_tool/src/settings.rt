@@ -308,10 +308,18 @@ pub enum SettingsFault {
     Strings,
     /// No choice of the other speed has the name.
     OtherSpeed,
+    /// A file is asked for, and lines of a recording too.
+    FileBeside,
+    /// Lines of transfers are left out, and something is asked for that is for these.
+    BriefBeside,
+    /// A text names no device.
+    Device,
+    /// A text is no number of seconds.
+    Time,
 }
 
 impl SettingsFault {
-    /// The fault's number, 1 to 11 without 6: of the first three a lower one is tested first.
+    /// The fault's number, 1 to 15 without 6: of the first three a lower one is tested first.
     ///
     /// ```rust
     /// assert_eq!(rt; SettingsFault::Speed.number(), 2);
@@ -330,6 +338,10 @@ impl SettingsFault {
             SettingsFault::PacketsAlone => 9,
             SettingsFault::Strings => 10,
             SettingsFault::OtherSpeed => 11,
+            SettingsFault::FileBeside => 12,
+            SettingsFault::BriefBeside => 13,
+            SettingsFault::Device => 14,
+            SettingsFault::Time => 15,
         }
     }
 
@@ -366,6 +378,11 @@ impl SettingsFault {
             SettingsFault::PacketsAlone => "a log shows packets: enumerate --log --packets",
             SettingsFault::Strings => "strings are needed, wanted or skipped",
             SettingsFault::OtherSpeed => "the other speed is asked for or not: yes or no",
+            SettingsFault::FileBeside => "--file is for a file alone: capture --file 1.5",
+            SettingsFault::BriefBeside =>
+                "--brief leaves out the lines that --data, --from and --to are for",
+            SettingsFault::Device => "a device is its bus and its address: 1.5",
+            SettingsFault::Time => "a time is in seconds, with at most nine digits after the point",
         }
     }
 }
@@ -386,6 +403,12 @@ impl fmt::Display for SettingsFault {
             SettingsFault::PacketsAlone => f.write_str("usbdesc: --packets without --log"),
             SettingsFault::Strings => f.write_str("usbdesc: bad strings"),
             SettingsFault::OtherSpeed => f.write_str("usbdesc: bad other speed"),
+            SettingsFault::FileBeside => f.write_str("usbdesc: --file beside other options"),
+            SettingsFault::BriefBeside => f.write_str(
+                "usbdesc: --brief beside --data, --from or --to",
+            ),
+            SettingsFault::Device => f.write_str("usbdesc: bad device"),
+            SettingsFault::Time => f.write_str("usbdesc: bad time"),
         }
     }
 }

@@ -133,6 +133,17 @@ fn a_set(rt: HostRuntime) -> Outcome<()> {
 }
 
 #[test]
+fn a_piece_that_ends_no_descriptor(rt: HostRuntime) -> Outcome<()> {
+    let mut decoder = Decoder::new(rt.alloc());
+    assert_eq!(rt; taken(decoder.feed(&MOUSE[..14])?), None);
+    assert!(rt; decoder.keeps(&MOUSE[14..16]));
+    // The association ends with this byte, and it was not taken.
+    assert!(rt; !decoder.keeps(&MOUSE[16..17]));
+    assert_eq!(rt; taken(decoder.feed(&MOUSE[16..])?), Some(27));
+    Ok(())
+}
+
+#[test]
 fn faults_of_a_set(rt: HostRuntime) -> Outcome<()> {
     let mut decoder = Decoder::new(rt.alloc());
     let fault = decoder.feed(&[8]);

@@ -3,14 +3,17 @@ use crate::names::files::file;
 use anyhow::Result as Outcome;
 use clap::Error;
 use std::alloc::{AllocError, Global};
+use usb_capture::FileLack;
 use usb_device::{Description, State};
 use usb_fields::{Sequence, Setup, Speed};
 use usb_file::{DescriptorFile, FileFault, ListFault, NoMemory, list, write_file};
 use usb_host::{Limits, Trouble, Why};
 use usb_set::SetFault;
 use usb_tool::{
-    Fate, FatesFault, Line, Options, Reply, Run, Talk, ToolFault, converse, enumerate, laws,
-    read_fates, read_line, read_speed, run_build, run_check, run_enumerate, run_show, verdict,
+    CaptureCommand, Capturing, DeviceAddress, Fate, FatesFault, Line, Options, Reply, Run,
+    Selection, SettingsFault, Talk, ToolFault, capture_command, converse, enumerate, laws,
+    read_fates, read_line, read_speed, run_build, run_capture, run_check, run_enumerate, run_show,
+    verdict,
 };
 
 fn fate_letter(fate: Fate) -> char {
@@ -247,5 +250,45 @@ fn a_line(rt: HostRuntime) -> Outcome<()> {
     let line: Line<'_> = read_line(rt.alloc(), &words)?;
     assert_eq!(rt; line, Line::Enumerate(options));
     assert_eq!(rt; line_number(&line), 4);
+    Ok(())
+}
+
+#[test]
+fn a_recording(rt: HostRuntime) -> Outcome<()> {
+    let alloc = rt.alloc();
+    let capturing = Capturing {
+        data: false,
+        brief: true,
+        device: None,
+        from: None,
+        to: Some("1.5"),
+        file: None,
+    };
+    let fault: Result<CaptureCommand, SettingsFault> = capture_command(&capturing);
+    assert_eq!(rt; fault.err(), Some(SettingsFault::BriefBeside));
+    let chosen = Capturing {
+        brief: false,
+        ..capturing
+    };
+    let selection = Selection {
+        brief: false,
+        data: false,
+        device: None,
+        from: None,
+        to: Some(1_500_000_000),
+    };
+    let command = capture_command(&chosen)?;
+    assert!(rt; command == CaptureCommand::Lines(selection));
+    // No frame, and no device.
+    let mut text = Vec::new(alloc);
+    let mut input: &[u8] = &[];
+    let told: Result<u8, ToolFault> = run_capture(alloc, &mut input, &mut text, command);
+    assert_eq!(rt; told?, 0);
+    assert_eq!(rt; text.as_slice(), b"0 frames\n".as_slice());
+    let device = DeviceAddress { bus: 1, device: 5 };
+    let file = CaptureCommand::File(device);
+    let lacking = run_capture(alloc, &mut input, &mut text, file);
+    let lack = FileLack::Device;
+    assert_eq!(rt; lacking.err(), Some(ToolFault::Lack { device, lack }));
     Ok(())
 }

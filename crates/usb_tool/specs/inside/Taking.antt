@@ -15,7 +15,7 @@ use Rattle.usb_tool.specs.declared.fault.ToolFault.TheVariants as faults
 abbrev pub NamesCommand : Option (Text × List Row) → Type 0
 NamesCommand found =
     IsNamed (codes "show") found ⊎ (IsNamed (codes "check") found
-    ⊎ (IsNamed (codes "build") found ⊎ (IsNamed (codes "explain") found ⊎ IsNamed (codes "enumerate") found)))
+    ⊎ (IsNamed (codes "build") found ⊎ (IsNamed (codes "explain") found ⊎ (IsNamed (codes "enumerate") found ⊎ IsNamed (codes "capture") found))))
 
 -- all was read, at most what a file can have, and taken for this input
 pub record Takes (is : Form) (from to : Left) (input : Input) : Type 0 where

@@ -11,7 +11,7 @@ returns-clause-app c =
     let hex_is = c.in_ok-explain-4.ensures.app ∙ ap₂ with_rule utf8_is c.flag-4.ensures.rule in
     let loose_is = c.in_ok-explain-5.ensures.app ∙ ap₂ with_rule hex_is c.flag-5.ensures.rule in
     let formats_is = c.in_ok-explain-6.ensures.app ∙ ap₂ with_rule loose_is c.flag-6.ensures.rule in
-    IfOk-weaker c.add_option-7.result _ _ (λ _ added. added ∙ ap₂ with_rule formats_is c.ran_at.ensures.rule) c.add_option-7.ensures.app
+    IfOk-weaker c.add_option-7.result _ _ (λ _ added. added ∙ ap₂ with_rule formats_is c.chosen.ensures.rule) c.add_option-7.ensures.app
 
 pub returns-clause-local : goal.returns-clause-local
 returns-clause-local c =

@@ -1,0 +1,106 @@
+//! What is found in conversations, of lines of usbmon.
+use crate::captures::read_cut;
+use crate::captures::transfers::transfers_of;
+use std::alloc::{AllocError, Global};
+use usb_capture::{Asked, ControlTransfer, Conversations, Finding};
+
+/// A device's descriptor, which names strings 1 to 3 and counts one configuration; the header of its configuration, and a STALL of
+/// all of it; the language list; STALL of a string that is named, of one that isn't, of configuration 1, and of GET_STATUS.
+const REFUSALS: &[u8] = b"aaaa1111 1 S Ci:1:005:0 s 80 06 0100 0000 0012 18 <
+aaaa1111 2 C Ci:1:005:0 0 18 = 12010002 00000040 83044057 00020102 0301
+aaaa1111 3 S Ci:1:005:0 s 80 06 0200 0000 0009 9 <
+aaaa1111 4 C Ci:1:005:0 0 9 = 09022000 01010080 32
+aaaa1111 5 S Ci:1:005:0 s 80 06 0200 0000 0020 32 <
+aaaa1111 6 C Ci:1:005:0 -32 0
+aaaa1111 7 S Ci:1:005:0 s 80 06 0300 0000 00ff 255 <
+aaaa1111 8 C Ci:1:005:0 0 4 = 04030904
+aaaa1111 9 S Ci:1:005:0 s 80 06 0302 0409 00ff 255 <
+aaaa1111 10 C Ci:1:005:0 -32 0
+aaaa1111 11 S Ci:1:005:0 s 80 06 0304 0409 00ff 255 <
+aaaa1111 12 C Ci:1:005:0 -32 0
+aaaa1111 13 S Ci:1:005:0 s 80 06 0302 0407 00ff 255 <
+aaaa1111 14 C Ci:1:005:0 -32 0
+aaaa1111 15 S Ci:1:005:0 s 80 06 0201 0000 0009 9 <
+aaaa1111 16 C Ci:1:005:0 -32 0
+aaaa1111 17 S Ci:1:005:0 s 80 00 0000 0000 0002 2 <
+aaaa1111 18 C Ci:1:005:0 -32 0
+aaaa1111 19 S Ci:1:006:0 s 80 06 0200 0000 0009 9 <
+aaaa1111 20 C Ci:1:006:0 -32 0
+";
+
+/// A string, and its other bytes; the same with another device between; less than the device descriptor, but at first what a
+/// packet has; a string in place of a descriptor; a device without an address; the first string once more, and more of it than
+/// was asked for.
+const ANSWERS: &[u8] = b"aaaa1111 1 S Ci:1:005:0 s 80 06 0301 0409 00ff 255 <
+aaaa1111 2 C Ci:1:005:0 0 4 = 04034100
+aaaa1111 3 S Ci:1:006:0 s 80 06 0301 0409 00ff 255 <
+aaaa1111 4 C Ci:1:006:0 0 4 = 04034200
+aaaa1111 5 S Ci:1:005:0 s 80 06 0301 0409 00ff 255 <
+aaaa1111 6 C Ci:1:005:0 0 4 = 04034200
+aaaa1111 7 S Ci:1:005:0 s 80 06 0100 0000 0040 64 <
+aaaa1111 8 C Ci:1:005:0 0 8 = 12010002 00000008
+aaaa1111 9 S Ci:1:005:0 s 80 06 0100 0000 0040 64 <
+aaaa1111 10 C Ci:1:005:0 0 16 = 12010002 00000008 83044057 00020102
+aaaa1111 11 S Ci:1:005:0 s 80 06 0100 0000 0012 18 <
+aaaa1111 12 C Ci:1:005:0 0 4 = 04030904
+aaaa1111 13 S Co:1:000:0 s 00 05 0007 0000 0000 0
+aaaa1111 14 C Co:1:000:0 0 0
+aaaa1111 15 S Ci:1:005:0 s 80 06 0301 0409 00ff 255 <
+aaaa1111 16 C Ci:1:005:0 0 4 = 04034100
+aaaa1111 17 S Ci:1:005:0 s 80 06 0301 0409 0004 4 <
+aaaa1111 18 C Ci:1:005:0 0 6 = 06034200 4300
+";
+
+/// What is found in each transfer, one after another.
+fn judge(
+    alloc: Global,
+    conversations: &mut Conversations,
+    transfers: &[ControlTransfer],
+) -> Result<Vec<(usize, Finding)>, AllocError> {
+    let mut all = Vec::new(alloc);
+    for (number, transfer) in transfers.iter().enumerate() {
+        for finding in &conversations.take(transfer)? {
+            all.push((number, *finding))?;
+        }
+    }
+    Ok(all)
+}
+
+#[test]
+fn finds_refusals_of_what_a_device_has(rt: HostRuntime) {
+    let (frames, _) = read_cut(rt.alloc(), REFUSALS, 99).expect(&rt, "a capture");
+    let transfers = transfers_of(rt.alloc(), &frames).expect(&rt, "memory");
+    let mut conversations = Conversations::new(rt.alloc());
+    let found = judge(rt.alloc(), &mut conversations, &transfers).expect(&rt, "memory");
+    let wanted = [
+        (2, Finding::RefusesGiven),
+        (4, Finding::RefusesNamed),
+        (8, Finding::RefusesStatus),
+        (9, Finding::RefusesRequired),
+    ];
+    assert!(rt; found.as_slice() == wanted.as_slice());
+    let header = Asked {
+        bus: 1,
+        device: 5,
+        value: 0x0200,
+        index: 0,
+    };
+    assert!(rt; conversations.said(header) == [9, 2, 32, 0, 1, 1, 0, 0x80, 0x32].as_slice());
+}
+
+#[test]
+fn finds_answers_that_dont_fit(rt: HostRuntime) {
+    let (frames, _) = read_cut(rt.alloc(), ANSWERS, 99).expect(&rt, "a capture");
+    let transfers = transfers_of(rt.alloc(), &frames).expect(&rt, "memory");
+    let mut conversations = Conversations::new(rt.alloc());
+    let found = judge(rt.alloc(), &mut conversations, &transfers).expect(&rt, "memory");
+    let wanted = [
+        (2, Finding::OtherBytes),
+        (4, Finding::OtherLength),
+        (5, Finding::OtherType),
+        (8, Finding::MoreThanAsked),
+        (8, Finding::OtherLength),
+        (8, Finding::OtherBytes),
+    ];
+    assert!(rt; found.as_slice() == wanted.as_slice());
+}

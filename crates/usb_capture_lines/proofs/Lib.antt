@@ -1,0 +1,4 @@
+pub mod HearingLemmas
+pub mod TellingLemmas
+pub mod RecordingLemmas
+pub mod RunLemmas

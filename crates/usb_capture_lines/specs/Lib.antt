@@ -1,0 +1,10 @@
+pub mod FaultWords
+pub mod FindingLines
+pub mod Hearing
+pub mod Lines
+pub mod Recordings
+pub mod RecordingRuns
+pub mod RecordingTellers
+pub mod Requests
+pub mod Statuses
+pub mod Telling

@@ -1,0 +1,20 @@
+-- What was written of a recording as its frames came.
+use Rattle.std.specs.Prelude.{◌≡◌, List, reverse}
+use Rattle.std.specs.Io.KnownBytes.{Appends}
+use Rattle.usb_capture.specs.declared.frame.Frame.{Frame}
+use Rattle.usb_capture.specs.Conversations.{Knows}
+use Rattle.usb_capture.specs.DeviceReadings.{HasCurrent}
+use Rattle.usb_text.specs.Output.{Held}
+use Rattle.usb_capture_lines.specs.Hearing.{AreHeard, HasListened, Heard, overs}
+use Rattle.usb_capture_lines.specs.Recordings.{devices_of, tally_of, told_text}
+use Rattle.usb_capture_lines.specs.declared.teller.Teller.{Teller}
+
+-- frames were taken in which this was heard, and what is to be said of them was written; the last ones come first
+pub record HasSaid (frames : List Frame) (heard : List Heard) (teller : Teller) (held holds : Held) : Type 0 where
+  pub are : AreHeard frames heard
+  pub listened : HasListened heard teller.listener
+  pub knows : Knows (overs heard) teller.conversations
+  pub kept : HasCurrent (reverse (overs heard)) teller.readings
+  pub devices : teller.devices.items ≡ devices_of (overs heard)
+  pub tally : teller.tally ≡ tally_of frames
+  pub written : Appends held holds (told_text teller.selection teller.first frames heard)

@@ -1,0 +1,63 @@
+-- What `capture` tells of a recording, and what it makes of a device's descriptors.
+use Rattle.std.specs.Prelude.{◌≡◌, ◌⊎◌, ℕ, Bool, true, false, List, []}
+use Rattle.std.specs.Io.KnownBytes.{Appends, IsAtEnd, Keeps}
+use Rattle.usb_capture.specs.declared.device_file.DeviceFile.{DeviceFile}
+use Rattle.usb_capture.specs.declared.device_file.DeviceFile.TheVariants.{File, Dump}
+use Rattle.usb_capture_lines.specs.RecordingRuns.{HasNoFile, MakesFile, ReadsOn, RecordingStops, RecordingTold}
+use Rattle.usb_capture_lines.specs.declared.recording.DeviceFault.{DeviceFault}
+use Rattle.usb_capture_lines.specs.declared.recording.RecordingFault.{RecordingFault}
+use Rattle.usb_capture_lines.specs.declared.selection.DeviceAddress.{DeviceAddress}
+use Rattle.usb_capture_lines.specs.declared.selection.Selection.{Selection}
+use Rattle.usb_text.specs.Output.{AppendsFront, Held}
+use Rattle.usb_tool.specs.Endings.{Extent, Failure, Left, Work}
+use Rattle.usb_tool.specs.Faults.{fault_of_device, fault_of_recording}
+use Rattle.usb_tool.specs.declared.capturing.CaptureCommand.{CaptureCommand}
+use Rattle.usb_tool.specs.declared.capturing.CaptureCommand.TheVariants as commands
+use Rattle.usb_tool.specs.declared.fault.ToolFault.{ToolFault}
+use Rattle.usb_tool.specs.declared.fault.ToolFault.TheVariants as faults
+
+abbrev pub made_bytes : DeviceFile → List ℕ
+made_bytes (File bytes) = bytes.items
+made_bytes (Dump bytes) = bytes.items
+
+-- all was read, and so much of the file or the dump of a device was written
+pub record WritesFile (extent : Extent) (device : DeviceAddress) (from to : Left) (held holds : Held) : Type 0 where
+  pub file : DeviceFile
+  pub ended : IsAtEnd to
+  pub made : ReadsOn [] (λ bytes. MakesFile device bytes file) from to
+  pub written : extent held holds (made_bytes file)
+
+-- there is none, and nothing was written
+pub record RefusesFile (device : DeviceAddress) (from to : Left) (held holds : Held) (fault : ToolFault) : Type 0 where
+  pub why : DeviceFault
+  pub is : fault ≡ fault_of_device device why
+  pub none : ReadsOn [] (λ bytes. HasNoFile device to bytes why) from to
+  pub kept : Keeps held holds
+
+-- why no more is told of a recording
+pub record StopsRecording (s : Selection) (from to : Left) (held holds : Held) (fault : ToolFault) : Type 0 where
+  pub why : RecordingFault
+  pub is : fault ≡ fault_of_recording why
+  pub stopped : RecordingStops s from to held holds why
+
+-- status 1 says that something was found
+abbrev pub found_status : Bool → ℕ
+found_status true = 1
+found_status false = 0
+
+-- all was read and told, with its status
+pub record TellsRecording (s : Selection) (from to : Left) (held holds : Held) (status : ℕ) : Type 0 where
+  pub found : Bool
+  pub told : RecordingTold s from to held holds found
+  pub ended : status ≡ found_status found
+
+-- what `capture` does
+abbrev pub CaptureDone : CaptureCommand → Work
+CaptureDone (commands.Lines s) from to held holds status = TellsRecording s from to held holds status
+CaptureDone (commands.File device) from to held holds status = WritesFile Appends device from to held holds × (status ≡ 0)
+
+-- how it fails; a front of a file is written where writing it fails
+abbrev pub CaptureFails : CaptureCommand → Failure
+CaptureFails (commands.Lines s) from to held holds fault = StopsRecording s from to held holds fault
+CaptureFails (commands.File device) from to held holds fault =
+    RefusesFile device from to held holds fault ⊎ ((fault ≡ faults.Write) × WritesFile AppendsFront device from to held holds)

@@ -1,0 +1,576 @@
+"""What `usbdesc capture` has to say of recordings, read once more from the formats' documents. It shares no code with the crates.
+
+    recorded FILE..           writes FILE's lines to FILE.said, and with bytes to FILE.bytes
+    recorded --compare FILE.. asks tshark for the number of frames, the requests and their statuses, and says where it differs
+"""
+
+import re
+import struct
+import subprocess
+import sys
+
+from readings import packets
+from readings.enumerating import named, word
+
+# The kernel's document "USB Error codes", and USBD_STATUS (Windows, usb.h).
+ERRNO = {
+    1: "EPERM: nothing may be sent to the device now", 2: "ENOENT: the host took it back before its end",
+    11: "EAGAIN: the host can't send it now", 12: "ENOMEM: the host was out of memory",
+    18: "EXDEV: a part of an isochronous transfer failed", 19: "ENODEV: the device is gone",
+    22: "EINVAL: no such transfer can be made", 28: "ENOSPC: the bus has no bandwidth left",
+    32: "EPIPE: the endpoint is halted", 62: "ETIME: no answer within the time of a packet",
+    63: "ENOSR: the host's data came too late for the bus", 70: "ECOMM: the bus brought data faster than the host stored them",
+    71: "EPROTO: no whole answer; look at wire, clock, the first packet", 75: "EOVERFLOW: more bytes came than were asked for",
+    84: "EILSEQ: a wrong CRC, or no answer; look at wire and clock", 90: "EMSGSIZE: a packet is too long for the endpoint",
+    104: "ECONNRESET: the host took it back before its end", 108: "ESHUTDOWN: the device or the host controller is gone",
+    110: "ETIMEDOUT: no end within the time that the host gave", 113: "EHOSTUNREACH: the device is suspended",
+    121: "EREMOTEIO: fewer bytes came than the driver takes",
+}
+USBD = {
+    0xC0000001: "CRC: a packet with a wrong CRC", 0xC0000002: "BTSTUFF: a packet with a wrong stuffed bit",
+    0xC0000003: "DATA_TOGGLE_MISMATCH: DATA0 in the place of DATA1, or the reverse", 0xC0000004: "STALL_PID: the endpoint is halted",
+    0xC0000005: "DEV_NOT_RESPONDING: no answer; look at wire, clock, power", 0xC0000006: "PID_CHECK_FAILURE: a packet whose PID isn't one",
+    0xC0000007: "UNEXPECTED_PID: a packet that has no place here", 0xC0000008: "DATA_OVERRUN: more bytes came than were asked for",
+    0xC0000009: "DATA_UNDERRUN: fewer bytes came than were asked for",
+    0xC000000C: "BUFFER_OVERRUN: data came faster than the host stored them",
+    0xC000000D: "BUFFER_UNDERRUN: the host's data came too late for the bus", 0xC0000010: "FIFO: the host's data came too late for the bus",
+    0xC0000011: "XACT_ERROR: no whole answer; look at wire, clock, the first packet",
+    0xC0000012: "BABBLE_DETECTED: more bytes came than were asked for",
+    0xC0000013: "DATA_BUFFER_ERROR: the host's memory was too slow for the bus", 0xC0000030: "ENDPOINT_HALTED: the endpoint is halted",
+    0xC0006000: "TIMEOUT: no end within the time that the host gave", 0xC0007000: "DEVICE_GONE: the device is gone",
+    0xC0009000: "HUB_INTERNAL_ERROR: the hub failed", 0xC0010000: "CANCELED: the host took it back before its end",
+    0x80000200: "INVALID_URB_FUNCTION: no such transfer can be made", 0x80000300: "INVALID_PARAMETER: no such transfer can be made",
+    0x80000700: "NO_BANDWIDTH: the bus has no bandwidth left", 0x80000800: "INTERNAL_HC_ERROR: the host controller failed",
+    0x80000900: "ERROR_SHORT_TRANSFER: fewer bytes came than the driver takes",
+}
+REQUESTS = {0: "GET_STATUS", 1: "CLEAR_FEATURE", 3: "SET_FEATURE", 5: "SET_ADDRESS", 6: "GET_DESCRIPTOR", 7: "SET_DESCRIPTOR",
+            8: "GET_CONFIGURATION", 9: "SET_CONFIGURATION", 10: "GET_INTERFACE", 11: "SET_INTERFACE", 12: "SYNCH_FRAME"}
+KINDS = {1: "device", 2: "configuration", 3: "string", 6: "qualifier", 7: "other-speed", 15: "BOS"}
+LINKS = {189: "usbmon", 220: "usbmon", 249: "USBPcap", 288: "packets of the bus", 293: "packets of the bus, low speed",
+         294: "packets of the bus, full speed", 295: "packets of the bus, high speed"}
+BUS = (288, 293, 294, 295)
+CONTROL = 2
+# What USB 2.0 forbids, in the order in which it is told, with its sections.
+FINDINGS = {
+    "T1": "more bytes than wLength (8.5.3, 9.3.5)", "C1": "a descriptor of another type than was asked for (9.4.3)",
+    "C2": "neither all bytes of the descriptor nor wLength bytes (9.4.3)", "C3": "the same descriptor had other bytes before (9.4.3, 9.6)",
+    "C4": "the device has it: it gave bytes of it (9.4.3)", "C5": "the device has it: all devices do (9.4.3)",
+    "C6": "the device has it: bNumConfigurations counts it (9.6.1, 9.6.2)", "C7": "the device has it: a descriptor names it (9.6.7)",
+    "C8": "the device has an address, so it answers (9.4.5)",
+}
+
+
+class Broken(Exception):
+    """The place where bytes are no capture."""
+
+
+class Cut(Exception):
+    """The place of a part that isn't whole."""
+
+
+def counted(number, noun):
+    return f"{number} {noun}{'' if number == 1 else 's'}"
+
+
+def frames_of_pcap(data):
+    """Time in nanoseconds, link type, byte order, cut or not, and bytes of each record."""
+    order = "<" if data[:4] in (b"\xd4\xc3\xb2\xa1", b"\x4d\x3c\xb2\xa1") else ">"
+    unit = 1 if b"\x3c" in data[1:3] and data[:4] in (b"\x4d\x3c\xb2\xa1", b"\xa1\xb2\x3c\x4d") else 1000
+    if len(data) < 24:
+        raise Cut(0)
+    link, at = struct.unpack_from(order + "I", data, 20)[0] & 0xFFFF, 24
+    while at < len(data):
+        if len(data) - at < 16:
+            raise Cut(at)
+        seconds, fraction, captured, original = struct.unpack_from(order + "IIII", data, at)
+        if len(data) - at - 16 < captured:
+            raise Cut(at)
+        yield seconds * 10**9 + fraction * unit, link, order, captured < original, data[at + 16 : at + 16 + captured]
+        at += 16 + captured
+
+
+def options_of(order, data):
+    """The clock of an interface: its options if_tsresol (9) and if_tsoffset (14)."""
+    resolution, offset, at = 6, 0, 0
+    while len(data) - at >= 4:
+        code, length = struct.unpack_from(order + "HH", data, at)
+        if code == 0:
+            break
+        value = data[at + 4 : at + 4 + length]
+        if code == 9:
+            resolution = value[0]
+        if code == 14:
+            offset = struct.unpack(order + "q", value)[0]
+        at += 4 + (length + 3) // 4 * 4
+    return resolution, offset
+
+
+def time_by(clock, units):
+    resolution, offset = clock
+    second = 10**resolution if resolution < 128 else 2 ** (resolution - 128)
+    time = units * 10**9 // second + offset * 10**9
+    return time if 0 <= time < 2**64 else None
+
+
+def frames_of_pcapng(data):
+    order, interfaces, at = "<", [], 0
+    while at < len(data):
+        if len(data) - at < 12:
+            raise Cut(at)
+        if data[at : at + 4] == b"\x0a\x0d\x0d\x0a":
+            magic = data[at + 8 : at + 12]
+            if magic not in (b"\x4d\x3c\x2b\x1a", b"\x1a\x2b\x3c\x4d"):
+                raise Broken(at)
+            order, interfaces = ("<" if magic == b"\x4d\x3c\x2b\x1a" else ">"), []
+        kind, length = struct.unpack_from(order + "II", data, at)
+        if len(data) - at < length:
+            raise Cut(at)
+        body = data[at + 8 : at + length - 4]
+        if kind == 1:
+            link, _, most = struct.unpack_from(order + "HHI", body)
+            interfaces.append((link, most, options_of(order, body[8:])))
+        elif kind in (2, 6):
+            number = struct.unpack_from(order + ("I" if kind == 6 else "H"), body)[0]
+            high, low, captured, original = struct.unpack_from(order + "IIII", body, 4)
+            link, _, clock = interfaces[number]
+            yield time_by(clock, high << 32 | low), link, order, captured < original, body[20 : 20 + captured]
+        elif kind == 3:
+            original, (link, most, _) = struct.unpack_from(order + "I", body)[0], interfaces[0]
+            captured = min(original, most) if most else original
+            yield None, link, order, captured < original, body[4 : 4 + captured]
+        at += length
+
+
+def frames_of_text(data):
+    """The kernel's document "usbmon", the form of the files 1u: the frame of link type 220 that says the same as a line."""
+    at = 0
+    for line in data.split(b"\n")[:-1]:
+        words = line.decode().split(" ")
+        tag, time, event, address = words[:4]
+        kind, bus, device, endpoint = address.split(":")
+        rest = words[4:]
+        flag, setup, status = "-", bytes(8), 0
+        if re.match(r"[-0-9]", rest[0]):
+            status, rest = int(rest[0].split(":")[0]), rest[1:]
+        else:
+            flag = "\0" if rest[0] == "s" else rest[0]
+            if rest[0] == "s":
+                kinds, *others = (int(word, 16) for word in rest[1:6])
+                setup = struct.pack("<BBHHH", kinds, *others)
+            rest = rest[6:]
+        transfer = "ZICB".index(kind[0])
+        length, got, data_tag = (int(rest[0]), b"", "L") if transfer else (0, b"", "L")
+        if transfer and rest[1:] and rest[1] == "=":
+            data_tag, got = "\0", bytes.fromhex("".join(rest[2:]))
+        elif transfer and rest[1:] and rest[1]:
+            data_tag = rest[1]
+        header = struct.pack("<QcBBBHccqiiII8s16x", int(tag, 16), event.encode(), transfer, (0x80 if kind[1] == "i" else 0) + int(endpoint), int(device), int(bus),
+                             flag.encode(), data_tag.encode(), int(time) // 10**6, int(time) % 10**6, status, length, len(got), setup)
+        yield int(time) * 1000, 220, "<", data_tag == "\0" and len(got) < length, header + got
+        at += len(line) + 1
+    if at < len(data):
+        raise Cut(at)
+
+
+def frames_of_front(data):
+    """The first four bytes say what a file is."""
+    if data:
+        raise Cut(0)
+    yield from ()
+
+
+def frames_of(data):
+    if len(data) < 4:
+        return None, frames_of_front(data)
+    if data[:4] == b"\x0a\x0d\x0d\x0a":
+        return "pcapng", frames_of_pcapng(data)
+    if data[:4] in (b"\xa1\xb2\xc3\xd4", b"\xd4\xc3\xb2\xa1", b"\xa1\xb2\x3c\x4d", b"\x4d\x3c\xb2\xa1"):
+        return "pcap", frames_of_pcap(data)
+    return "text", frames_of_text(data)
+
+
+def event_of(link, order, data):
+    """What a frame says of a transfer: its id, letter, pipe, setup packet, status, length, data; None where it says nothing."""
+    if link in (189, 220):
+        header = 48 if link == 189 else 64
+        if len(data) < header or data[8:9] not in b"SCE" or data[9] > 3:
+            return None
+        number, letter, transfer, endpoint, device, bus, flag, status, length, captured = struct.unpack_from(order + "QcBBBHc x 8x 4x I I I".replace(" ", ""), data)
+        setup = data[40:48] if flag == b"\0" else None
+        return number, letter.decode(), letter != b"S", transfer, bus, device, endpoint, setup, status, length, data[header : header + captured], False
+    if link == 249:
+        if len(data) < 27:
+            return None
+        header, number, status, _, info, bus, device, endpoint, transfer, length = struct.unpack_from("<HQIHBHHBBI", data)
+        if header < 27 or len(data) < header or transfer > 3:
+            return None
+        stage = data[27] if transfer == CONTROL and header > 27 else None
+        got, back = data[header : header + length], info & 1
+        setup = got[:8].ljust(8, b"\0") if stage == 0 else None
+        if stage == 0:
+            got, length = got[8:], max(length - 8, 0)
+        return number, "C" if back else "S", bool(back and stage != 1), transfer, bus, device, endpoint, setup, status, length, got, True
+    return None
+
+
+def ending_of(letter, windows, status):
+    if letter == "E":
+        return "refused", status
+    if status == 0:
+        return "done", 0
+    if status == (0xC0000004 if windows else 0xFFFFFFE0):
+        return "stall", 0
+    return "failed", status
+
+
+class Bus:
+    """The transactions with endpoint zero of a bus (USB 2.0, 8.5), and the control transfers whose stages they are (8.5.3)."""
+
+    def __init__(self):
+        self.current, self.is_split, self.open = None, False, {}
+
+    def take(self, time, name, fields):
+        """The transfer that is over with a packet, or with a damaged or cut one, which is named damage; or None."""
+        over, current = None, self.current
+        if name == "Pre":
+            return None
+        if name in packets.DATA and current and current["token"] != "Ping" and current["data"] is None:
+            current["data"] = name, fields[0]
+            return None
+        if current:
+            over = self.end_of({**current, "handshake": name if name in ("Ack", "Nak", "Stall", "Nyet") else None})
+        self.current = None
+        if name in ("Out", "In", "Setup", "Ping") and fields[1] == 0 and not self.is_split:
+            self.current = {"token": name, "address": fields[0], "time": time, "data": None}
+        if name not in packets.DATA:
+            self.is_split = name == "Split"
+        return over
+
+    def end_of(self, transaction):
+        """The transfer that is over with a transaction."""
+        address, token, data, shake = (transaction[it] for it in ("address", "token", "data", "handshake"))
+        going = self.open.pop(address, None)
+        if token == "Setup" and data and data[0] == "Data0" and len(data[1]) == 8:
+            self.open[address] = {"device": (0, address), "time": transaction["time"], "setup": data[1], "data": b"", "length": 0, "cut": False,
+                                  "ending": ("unseen", 0), "toggle": "Data1"}
+            return going
+        if going is None:
+            return None
+        reads = going["setup"][0] >= 128 and any(going["setup"][6:8])
+        # The host says with ACK that it has data from the device; a device that it took them, with ACK or NYET.
+        is_taken, is_of_data = token == "In" or shake in ("Ack", "Nyet"), token == ("In" if reads else "Out")
+        if shake == "Stall":
+            going["ending"] = "stall", 0
+        elif data and token in ("In", "Out") and is_taken and not is_of_data and data[0] == "Data1":
+            going["ending"] = "done", 0
+        if going["ending"][0] != "unseen":
+            # Where the end has no time, that of the setup packet is left.
+            going["time"] = going["time"] if transaction["time"] is None else transaction["time"]
+            return going
+        if data and is_taken and is_of_data and data[0] == going["toggle"]:
+            going["toggle"] = {"Data0": "Data1", "Data1": "Data0"}[going["toggle"]]
+            going["length"] += len(data[1])
+            if len(going["data"]) + len(data[1]) <= 65_535:
+                going["data"] += data[1]
+            else:
+                going["cut"] = True
+        self.open[address] = going
+        return None
+
+
+class Conversations:
+    """What devices said of their descriptors since they may have been reset, and what USB 2.0 forbids in their next transfers."""
+
+    def __init__(self):
+        self.said = {}
+
+    def take(self, transfer):
+        """What is found in a transfer."""
+        (bus, device), setup, data = transfer["device"], transfer["setup"], transfer["data"]
+        ending, (value, index) = transfer["ending"][0], struct.unpack_from("<HH", setup, 2)
+        found = [name for name, holds in zip(FINDINGS, self.tests(transfer, ending, value, index)) if holds]
+        resets = device == 0 or (setup[:2] == b"\x23\3" and setup[2:4] == b"\4\0")
+        for key in [key for key in self.said if key[0] == bus and (resets or (key[1] == device and setup[:2] in (b"\0\5", b"\0\7")))]:
+            del self.said[key]
+        if gives(transfer) and not resets:
+            key = bus, device, value, index
+            self.said[key] = data + self.said.get(key, b"")[len(data):]
+        return found
+
+    def tests(self, transfer, ending, value, index):
+        """Whether each finding holds."""
+        (bus, device), setup, data = transfer["device"], transfer["setup"], transfer["data"]
+        kind, number, asked = value >> 8, value & 255, int.from_bytes(setup[6:8], "little")
+
+        def of(other):
+            return self.said.get((bus, device, other, 0), b"").ljust(18, b"\0")
+
+        before, reads = self.said.get((bus, device, value, index), b""), setup[:2] == b"\x80\6"
+        brings = reads and ending == "done" and not transfer["cut"] and kind in (1, 2, 3, 6, 7) and len(data) > 1
+        refuses = reads and ending == "stall"
+        yield ending in ("done", "stall", "failed") and transfer["length"] > asked
+        yield brings and data[1] != kind
+        yield (brings and data[1] == kind and (kind not in (2, 7) or len(data) >= 4)
+               and transfer["length"] != min(asked, word(data, 2) if kind in (2, 7) else data[0])
+               and not (kind == 1 and transfer["length"] == (data + bytes(8))[7]))
+        yield gives(transfer) and any(one != other for one, other in zip(data, before))
+        yield refuses and before != b""
+        unsaid = refuses and before == b""
+        yield unsaid and value in (0x100, 0x200) and index == 0
+        yield unsaid and index == 0 and (kind == 2 and 0 < number < of(0x100)[17] or kind == 7 and number < of(0x600)[8])
+        yield unsaid and (index == 0 and any(of(0x100)[14:17]) if value == 0x300 else kind == 3 and self.is_named(bus, device, number, index))
+        yield ending == "stall" and setup == b"\x80\0\0\0\0\0\2\0" and device > 0
+
+    def is_named(self, bus, device, number, language):
+        """Whether a descriptor names this string (9.6.7), in a language of the list."""
+        def of(value):
+            return self.said.get((bus, device, value, 0), b"")
+
+        languages, descriptor = of(0x300), of(0x100).ljust(18, b"\0")
+        if language not in [word(languages, at) for at in range(2, len(languages) - 1, 2)]:
+            return False
+        return number in descriptor[14:17] or any(number in indices_in(of(0x200 + configuration)) for configuration in range(descriptor[17]))
+
+
+def indices_in(data):
+    """iConfiguration, iInterface and iFunction of the descriptors of a set, and 0 of others."""
+    while data and data[0] > 1:
+        one = data[: data[0]].ljust(9, b"\0")
+        yield {2: one[6], 7: one[6], 4: one[8], 11: one[7]}.get(one[1], 0)
+        data = data[data[0] :]
+
+
+def gives(transfer):
+    """Whether bytes of the descriptor came that was asked for."""
+    setup, data = transfer["setup"], transfer["data"]
+    return setup[:2] == b"\x80\6" and transfer["ending"][0] == "done" and not transfer["cut"] and len(data) > 1 and data[1] == setup[3]
+
+
+class Recording:
+    """The control transfers of a recording, in the order in which they ended, each with what is found in it, and what is counted."""
+
+    def __init__(self, data):
+        self.form, frames = frames_of(data)
+        self.data, self.times, self.link, self.told, self.count = data, [], None, 0, 0
+        self.over, self.open, self.cut = [], {}, None
+        self.bus, self.conversations = Bus(), Conversations()
+        try:
+            for time, link, order, cut, got in frames:
+                self.take(time, link, event_of(link, order, got), cut, got)
+        except Cut as cut:
+            self.cut = cut.args[0]
+
+    def take(self, time, link, event, cut, got):
+        self.count += 1
+        self.times.append(time)
+        self.link = link if self.link is None else self.link
+        if link in BUS:
+            name, fields = ("damage", []) if cut else packets.read(got)
+            self.told += name != "damage"
+            self.end(self.bus.take(time, name, fields))
+        if event is None:
+            return
+        self.told += 1
+        number, letter, ends, transfer, bus, device, endpoint, setup, status, length, got, windows = event
+        if transfer != CONTROL or endpoint & 0x7F:
+            return
+        earlier = self.open.pop(number, None)
+        if setup is not None:
+            self.end(earlier)
+            self.open[number] = {"device": (bus, device), "time": time, "setup": setup, "data": got, "length": length, "cut": cut, "ending": ("unseen", 0)}
+        elif earlier:
+            earlier["data"] += got
+            earlier["length"] = min(earlier["length"] + length, 0xFFFFFFFF) if windows else length
+            earlier["cut"] |= cut
+            if ends:
+                earlier["ending"] = ending_of(letter, windows, status)
+                # Where the end has no time, that of the setup packet is left.
+                earlier["time"] = earlier["time"] if time is None else time
+                self.end(earlier)
+            else:
+                self.open[number] = earlier
+
+    def end(self, transfer):
+        if transfer:
+            transfer["found"] = self.conversations.take(transfer)
+            self.over.append(transfer)
+
+
+def request_words(setup):
+    kind, request, value, index, length = struct.unpack("<BBHHH", setup)
+    if kind >> 5 & 3 == 0:
+        words = REQUESTS.get(request, "reserved request")
+        if request in (6, 7):
+            words += f" {KINDS.get(value >> 8, f'0x{value >> 8:02x}')} {value & 255}"
+            words += f" 0x{index:04x}" if value >> 8 == 3 and value & 255 else ""
+        elif request in (1, 3, 5, 9, 11):
+            words += f" {value}"
+    else:
+        words = f"{('', 'class', 'vendor', 'reserved')[kind >> 5 & 3]} request 0x{request:02x}"
+    words += {1: f" of interface {index}", 2: f" of endpoint 0x{index & 255:02x}", 3: f" of other {index}"}.get(kind & 31, "")
+    return words + (f", {counted(length, 'byte')}" if length else "")
+
+
+def code_words(status):
+    return str(status - 2**32) if status > 2**32 - 4096 else f"0x{status:08x}"
+
+
+def meaning(status):
+    table, number = (ERRNO, 2**32 - status) if status > 2**32 - 4096 else (USBD, status)
+    return table.get(number, "a status without a name here")
+
+
+def seconds(nanoseconds):
+    return f"{nanoseconds // 10**9}.{nanoseconds // 1000 % 10**6:06}"
+
+
+def column(words, width):
+    return words + " " * max(width - len(words), 1)
+
+
+def time_words(time, origin):
+    if time is None:
+        return "-"
+    return seconds(time - origin) if time >= origin else "-" + seconds(origin - time)
+
+
+def lines_of(transfer, origin, with_data):
+    kind, status = transfer["ending"]
+    reply = {"unseen": "no end", "done": str(transfer["length"]) if any(transfer["setup"][6:8]) else "done", "stall": "STALL",
+             "failed": f"error {code_words(status)}", "refused": f"refused {code_words(status)}"}[kind]
+    yield (column(time_words(transfer["time"], origin), 11) + column("{}.{}".format(*transfer["device"]), 6) + column(request_words(transfer["setup"]), 44)
+           + reply + (", cut" if transfer["cut"] else ""))
+    if kind in ("failed", "refused"):
+        yield " " * 11 + "? " + meaning(status)
+    if with_data:
+        yield " " * 11 + "setup " + transfer["setup"].hex()
+        for at in range(0, len(transfer["data"]), 32):
+            yield " " * 11 + transfer["data"][at : at + 32].hex()
+    for finding in transfer.get("found", []):
+        yield " " * 11 + "! " + FINDINGS[finding]
+
+
+def is_reading(transfer):
+    setup, data = transfer["setup"], transfer["data"]
+    if setup[:2] != b"\x80\x06" or transfer["ending"][0] != "done" or transfer["cut"] or len(data) < 2 or data[1] != setup[3]:
+        return False
+    return len(data) == (struct.unpack("<H", data[2:4].ljust(2, b"\0"))[0] if setup[3] in (2, 7) else data[0])
+
+
+def forget(kept, device):
+    for key in [key for key in kept if key[0] == device]:
+        del kept[key]
+
+
+def readings_of(over):
+    """The last whole reading of each descriptor of the devices that have their addresses at the end. SET_ADDRESS makes a
+    device the owner of its address (9.4.6); another device descriptor than before is one of another device."""
+    kept = {}
+    for transfer in over:
+        (bus, _), setup, data = transfer["device"], transfer["setup"], transfer["data"]
+        if setup[:2] == b"\0\5":
+            forget(kept, (bus, struct.unpack("<H", setup[2:4])[0]))
+        if is_reading(transfer):
+            key = transfer["device"], setup[2:6]
+            if setup[2:4] == b"\0\1" and kept.get(key, data) != data:
+                forget(kept, transfer["device"])
+            kept.pop(key, None)
+            kept[key] = data
+    return kept
+
+
+def device_line(device, kept, findings):
+    """What came of a device: its device descriptor, that of its configurations which was read longest ago, and its findings."""
+    of = {kind: next((data for (owner, words), data in kept.items() if owner == device and words[1] == kind), None) for kind in (1, 2)}
+    words = "no device descriptor came" if of[1] is None else "{:04x}:{:04x}".format(*struct.unpack_from("<HH", of[1], 8))
+    words += ", no configuration came" if of[2] is None else f", configuration of {counted(len(of[2]), 'byte')}"
+    words += f", {counted(findings, 'finding')}" if findings else ""
+    return f"device {column('{}.{}'.format(*device), 6)}{words}"
+
+
+def file_of(over, device):
+    """The descriptor file of a device, or the dump where a part of the rest didn't come; else what lacks, in words."""
+    kept = {words: data for (owner, words), data in readings_of(over).items() if owner == device}
+
+    def part(kind, index=0, language=0):
+        return kept.get(struct.pack("<BBH", index, kind, language))
+
+    def sets(kind, count):
+        return [part(kind, index) for index in range(count)]
+
+    descriptor = part(1)
+    if descriptor is None or len(descriptor) != 18:
+        return "device descriptor"
+    main = sets(2, descriptor[17])
+    if None in main:
+        return f"configuration {main.index(None)}"
+    dump, qualifier = b"".join([descriptor, *main]), part(6)
+    other = [] if qualifier is None else [qualifier, *sets(7, (qualifier + bytes(9))[8])]
+    if None in other:
+        return dump
+    strings, names = [], named(descriptor, main + other[1:])
+    if names:
+        languages = part(3)
+        if languages is None:
+            return dump
+        strings = [languages, *(part(3, index, word(languages, at)) for at in range(2, len(languages) - 1, 2) for index in names)]
+    return dump if None in strings else b"".join([dump, *other, *strings])
+
+
+def status_of(over, device=None):
+    """1 where something is found in transfers, or in those of a device, and else 0."""
+    return int(any(transfer["found"] for transfer in over if device in (None, transfer["device"])))
+
+
+def is_within(transfer, origin, times):
+    """Whether the time of a transfer is within these nanoseconds. One that isn't known is."""
+    least, greatest = times
+    time = None if transfer["time"] is None else max(transfer["time"] - origin, 0)
+    return time is None or (least or 0) <= time <= (2**64 if greatest is None else greatest)
+
+
+def said(data, with_data=True, brief=False, device=None, times=(None, None)):
+    """All lines, or those of a device, of these times, or without transfers."""
+    recording = Recording(data)
+    origin = (recording.times[0] or 0) if recording.times else 0
+    if recording.count:
+        yield f"capture: {recording.form}, {LINKS.get(recording.link, f'link type {recording.link}, no USB')}"
+    for transfer in [*recording.over, *recording.open.values(), *recording.bus.open.values()]:
+        if not brief and device in (None, transfer["device"]) and is_within(transfer, origin, times):
+            yield from lines_of(transfer, origin, with_data)
+    last = recording.times[-1] if recording.times else None
+    yield counted(recording.count, "frame") + ("" if last is None else f", {seconds(max(last - origin, 0))} seconds")
+    if recording.count > recording.told:
+        yield f"no transfer: {counted(recording.count - recording.told, 'frame')}"
+    if recording.cut is not None:
+        yield f"cut: {counted(len(data) - recording.cut, 'byte')} of what begins at {recording.cut}"
+    kept = readings_of(recording.over)
+    for one in dict.fromkeys(transfer["device"] for transfer in recording.over):
+        if device in (None, one):
+            yield device_line(one, kept, sum(len(transfer["found"]) for transfer in recording.over if transfer["device"] == one))
+
+
+def compare(path):
+    """Where tshark reads other control transfers of link types 189, 220 and 249."""
+    fields = ["frame.number", "usb.urb_type", "usb.bmRequestType", "usb.setup.bRequest", "usb.urb_status", "usb.transfer_type", "usb.endpoint_address"]
+    words = ["tshark", "-r", path, "-T", "fields", *(word for field in fields for word in ("-e", field))]
+    rows = [line.split("\t") for line in subprocess.run(words, capture_output=True, check=True).stdout.decode().splitlines()]
+    with open(path, "rb") as file:
+        recording = Recording(file.read())
+    asked = sum(1 for row in rows if row[2] and int(row[6] or "0", 16) & 0x7F == 0)
+    mine = len(recording.over) + len(recording.open)
+    if len(rows) != recording.count or asked != mine:
+        print(f"{path}: tshark has {len(rows)} frames and {asked} requests, and not {recording.count} and {mine}")
+        return 1
+    return 0
+
+
+if __name__ == "__main__":
+    if sys.argv[1:2] == ["--compare"]:
+        sys.exit(max(map(compare, sys.argv[2:])))
+    for name in sys.argv[1:]:
+        with open(name, "rb") as read:
+            data = read.read()
+        for suffix, with_data in (("said", False), ("bytes", True)):
+            with open(f"{name}.{suffix}", "w", encoding="ascii") as out:
+                out.writelines(f"{line}\n" for line in said(data, with_data))
