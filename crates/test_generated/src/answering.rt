@@ -5,7 +5,7 @@ use crate::numbers::Numbers;
 use crate::tally::Tally;
 use anyhow::Result;
 use std::alloc::{AllocError, Global};
-use usb_device::Device;
+use usb_device::{Description, Device};
 use usb_fields::{Answer, Speed, Toggle, Transaction};
 use usb_file::{DescriptorFile, write_file};
 use usb_host::{Action, Choice, Host, Limits, NamedStrings, Step};
@@ -41,11 +41,20 @@ pub(crate) fn lied_to(example: &Example, tally: &mut Tally) -> Result<()> {
     let description = example.description()?;
     let mut numbers = Numbers(2);
     for _ in 0..HOSTS {
-        let mut answered = Answered::new(tally.alloc, &mut numbers)?;
-        answered.ask(&mut Device::new(&description), &mut numbers)?;
-        answered.settle(&mut numbers, &example.bytes, tally)?;
+        lie_to_one(&description, &example.bytes, &mut numbers, tally)?;
     }
     Ok(())
+}
+
+fn lie_to_one(
+    description: &Description,
+    bytes: &[u8],
+    numbers: &mut Numbers,
+    tally: &mut Tally,
+) -> Result<()> {
+    let mut answered = Answered::new(tally.alloc, numbers)?;
+    answered.ask(&mut Device::new(description), numbers)?;
+    answered.settle(numbers, bytes, tally)
 }
 
 /// Hosts of all six choices, which are answered by the device of the example, and now and then otherwise where strings are
@@ -54,19 +63,39 @@ pub(crate) fn choosing(example: &Example, tally: &mut Tally) -> Result<()> {
     let description = example.description()?;
     let mut numbers = Numbers(6);
     for number in 0..HOSTS {
-        let choice = Choice {
-            strings: match number % 3 {
-                0 => NamedStrings::Needed,
-                1 => NamedStrings::Wanted,
-                _ => NamedStrings::Skipped,
-            },
-            other_speed: number % 6 < 3,
-        };
-        let mut answered = Answered::bearing(tally.alloc, 4, choice, &mut numbers)?;
-        answered.ask_for_strings(&mut Device::new(&description), &mut numbers)?;
-        answered.settle(&mut numbers, &example.bytes, tally)?;
+        lie_about_strings(
+            &description,
+            &example.bytes,
+            choice_of(number),
+            &mut numbers,
+            tally,
+        )?;
     }
     Ok(())
+}
+
+/// The choice of this number among six.
+fn choice_of(number: u32) -> Choice {
+    Choice {
+        strings: match number % 3 {
+            0 => NamedStrings::Needed,
+            1 => NamedStrings::Wanted,
+            _ => NamedStrings::Skipped,
+        },
+        other_speed: number % 6 < 3,
+    }
+}
+
+fn lie_about_strings(
+    description: &Description,
+    bytes: &[u8],
+    choice: Choice,
+    numbers: &mut Numbers,
+    tally: &mut Tally,
+) -> Result<()> {
+    let mut answered = Answered::bearing(tally.alloc, 4, choice, numbers)?;
+    answered.ask_for_strings(&mut Device::new(description), numbers)?;
+    answered.settle(numbers, bytes, tally)
 }
 
 /// Hosts that are given long lists of answers: by the device of the example, which is not ready most of the time, and now
@@ -75,12 +104,20 @@ pub(crate) fn at_length(example: &Example, tally: &mut Tally) -> Result<()> {
     let description = example.description()?;
     let mut numbers = Numbers(5);
     for _ in 0..LISTS {
-        let mut answered = Answered::patient(tally.alloc, &mut numbers)?;
-        let mut device = Device::new(&description);
-        let end = answered.ask_at_length(&mut device, &mut numbers, &example.bytes)?;
-        answered.close(end, tally)?;
+        ask_one_at_length(&description, &example.bytes, &mut numbers, tally)?;
     }
     Ok(())
+}
+
+fn ask_one_at_length(
+    description: &Description,
+    bytes: &[u8],
+    numbers: &mut Numbers,
+    tally: &mut Tally,
+) -> Result<()> {
+    let mut answered = Answered::patient(tally.alloc, numbers)?;
+    let end = answered.ask_at_length(&mut Device::new(description), numbers, bytes)?;
+    answered.close(end, tally)
 }
 
 /// Which lies a host is given, and how often: once in so many times, or never at 0. And how often the device is ready for it.
@@ -96,6 +133,15 @@ struct Lies {
 struct End {
     kind: String,
     told: String,
+}
+
+impl End {
+    /// The line of a host that has ended so.
+    // Of what it has to say alone: a proof of a text made beside a host takes five minutes.
+    fn line(&self, alloc: Global, attempts: u8, transactions: u64) -> Result<String> {
+        let (kind, told) = (&self.kind, &self.told);
+        Ok(format!(in alloc; "{kind} {told} attempts {attempts} transactions {transactions}\n")?)
+    }
 }
 
 /// A host, how many transactions it may ask for, and how many it has asked for.
@@ -290,9 +336,10 @@ impl Answered {
 
     /// Adds the line of this host, and whether it has ended as it had ended at first, if it had, within so many
     /// transactions as it may ask for.
-    fn close(self, first: Option<End>, tally: &mut Tally) -> Result<()> {
+    fn close(&self, first: Option<End>, tally: &mut Tally) -> Result<()> {
         let end = self.end()?;
-        tally.begin(self.line(&end)?.as_str())?;
+        let line = end.line(self.alloc, self.host.attempts(), self.transactions)?;
+        tally.begin(line.as_str())?;
         let is_kept = match &first {
             Some(first) => *first == end,
             None => self.host.outcome().is_none(),
@@ -306,28 +353,23 @@ impl Answered {
         }
     }
 
-    /// The line of this host, which has ended so.
-    fn line(&self, end: &End) -> Result<String> {
-        let (kind, told, attempts) = (&end.kind, &end.told, self.host.attempts());
-        Ok(format!(in self.alloc;
-            "{kind} {told} attempts {attempts} transactions {}\n",
-            self.transactions
-        )?)
-    }
-
-    /// Adds the line of this host. One that has ended is answered some more, and must keep its outcome.
-    fn settle(mut self, numbers: &mut Numbers, bytes: &[u8], tally: &mut Tally) -> Result<()> {
-        let end = self.end()?;
-        tally.begin(self.line(&end)?.as_str())?;
-        let more = if self.host.next() == Action::Ended {
-            MORE
-        } else {
-            0
-        };
-        for _ in 0..more {
+    /// Some more answers and resets, once it has ended.
+    fn answer_more(&mut self, numbers: &mut Numbers, bytes: &[u8]) {
+        if self.host.next() != Action::Ended {
+            return;
+        }
+        for _ in 0..MORE {
             self.host.take(any_answer(numbers, bytes));
             self.host.reset_done();
         }
+    }
+
+    /// Adds the line of this host. One that has ended is answered some more, and must keep its outcome.
+    fn settle(&mut self, numbers: &mut Numbers, bytes: &[u8], tally: &mut Tally) -> Result<()> {
+        let end = self.end()?;
+        let line = end.line(self.alloc, self.host.attempts(), self.transactions)?;
+        tally.begin(line.as_str())?;
+        self.answer_more(numbers, bytes);
         if self.end()? == end {
             tally.count(end.kind)
         } else {

@@ -29,6 +29,9 @@ const LOSSES: usize = 3 * PLACES;
 /// How many transactions in a row are busy: as many as are retried.
 const BUSY: usize = 16;
 
+/// How many lists an example gives at most.
+const GIVEN: usize = 64;
+
 /// Of so many fates one passes, in the list that is longer than 100,000.
 const FAR: usize = 40_001;
 
@@ -65,14 +68,14 @@ impl Lists {
     }
 
     /// How many numbers there are for lists.
-    pub(crate) fn count(self, example: &Example) -> usize {
+    pub(crate) fn count(self) -> usize {
         match self {
             Lists::Every(length) => COUNTS.get(length).copied().unwrap_or(0),
             Lists::Long => LONG,
             Lists::Losses => LOSSES * LOSSES,
             Lists::Busy => PLACES,
             Lists::Far => 1,
-            Lists::Given => example.more.split(',').count(),
+            Lists::Given => GIVEN,
         }
     }
 
@@ -85,10 +88,10 @@ impl Lists {
     ) -> Result<Option<Vec<Fate>>> {
         match self {
             Lists::Long => Ok(Some(long(example.alloc, numbers)?)),
-            Lists::Given => {
-                let letters = example.more.split(',').nth(number).unwrap_or("");
-                Ok(Some(read_fates(example.alloc, letters)?))
-            }
+            Lists::Given => match example.more.split(',').nth(number) {
+                Some(letters) => Ok(Some(read_fates(example.alloc, letters)?)),
+                None => Ok(None),
+            },
             // Two losses, of which the first comes before the second, or one that is both.
             Lists::Losses
                 if number / LOSSES != number % LOSSES

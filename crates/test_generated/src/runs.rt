@@ -44,29 +44,51 @@ impl Runs {
     /// that its owner answers, or enumerations by a command.
     pub(crate) fn all(&self, example: &Example, word: &str, tally: &mut Tally) -> Result<()> {
         let description = example.description()?;
-        let limits = self.limits;
-        let command = Command::of(word);
-        let mut numbers = Numbers(if command.is_none() { 3 } else { 4 });
-        for number in 0..self.lists.count(example) {
-            let Some(fates) = self.lists.list(example, number, &mut numbers)? else {
-                continue;
-            };
-            match (word, command) {
-                (_, Some(command)) => {
-                    tally.begin("")?;
-                    let _ = command.answer(
-                        &example.bytes,
-                        &command.settings(limits, fates),
-                        tally,
-                    )?;
-                }
-                ("talk", _) => self.talk(&description, &fates, tally)?,
-                ("answered", _) => make_all(&description, limits.naks(), &fates, tally)?,
-                ("written", _) => writes::make_talk(&description, limits.naks(), &fates, tally)?,
-                _ => bail!("{word} is no run"),
+        let is_command = Command::of(word).is_some();
+        let mut numbers = Numbers(if is_command { 4 } else { 3 });
+        for number in 0..self.lists.count() {
+            if let Some(fates) = self.lists.list(example, number, &mut numbers)? {
+                self.one(example, &description, word, fates, tally)?;
             }
         }
         Ok(())
+    }
+
+    /// A run under these fates.
+    fn one(
+        &self,
+        example: &Example,
+        description: &Description,
+        word: &str,
+        fates: Vec<Fate>,
+        tally: &mut Tally,
+    ) -> Result<()> {
+        match Command::of(word) {
+            Some(command) => {
+                tally.begin("")?;
+                let settings = command.settings(self.limits, fates);
+                let _ = command.answer(&example.bytes, &settings, tally)?;
+                Ok(())
+            }
+            None => self.transfers(description, word, &fates, tally),
+        }
+    }
+
+    /// Transfers without a command.
+    fn transfers(
+        &self,
+        description: &Description,
+        word: &str,
+        fates: &[Fate],
+        tally: &mut Tally,
+    ) -> Result<()> {
+        let naks = self.limits.naks();
+        match word {
+            "talk" => self.talk(description, fates, tally),
+            "answered" => make_all(description, naks, fates, tally),
+            "written" => writes::make_talk(description, naks, fates, tally),
+            _ => bail!("{word} is no run"),
+        }
     }
 
     /// A talk, and what came of it.

@@ -15,8 +15,6 @@ pub(crate) struct Asked<'a> {
     pub group: &'a str,
     /// The place.
     pub place: u32,
-    /// The words after these two.
-    pub words: &'a str,
 }
 
 /// What the first line says, if there is one.
@@ -33,13 +31,8 @@ pub(crate) fn read_asked<'a, R: Read>(
     let Some((group, rest)) = line.split_once(' ') else {
         return Ok(None);
     };
-    let (place, words) = rest.split_once(' ').unwrap_or((rest, ""));
-    let place = place.parse::<u32>().unwrap_or(0);
-    Ok(Some(Asked {
-        group,
-        place,
-        words,
-    }))
+    let place = rest.parse::<u32>().unwrap_or(0);
+    Ok(Some(Asked { group, place }))
 }
 
 /// Reads a line, byte by byte, so that what follows it stays with the reader. How many bytes it has.

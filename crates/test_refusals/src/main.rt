@@ -1,11 +1,10 @@
-//! Fails each allocation in turn: each call of the libraries, and the program `usbdesc`, must succeed or report out of memory.
+//! Fails each allocation in turn: each call of the libraries must succeed or report out of memory.
 //! `.ci/refusals` plays it.
 //!
 //! The first line of the input is the name of a group of calls and the place of the refused request among those that the
 //! group makes, as `sets 12`. [`begin`] makes as many requests first as are wanted so that this one is the [`REFUSED`]th
 //! of the program. [`tell`] prints the name of each call that answers *out of memory* or something wrong; where no call
-//! met the refusal, the group's name and `end` are printed. The line `usbdesc 12 check` runs that program
-//! with the words after the place, on the input after the line.
+//! met the refusal, the group's name and `end` are printed.
 //!
 //! Without input nothing is refused, all answers are printed, and the calls on inputs past every round number are made
 //! too.
@@ -16,7 +15,6 @@
 mod answer;
 mod asked;
 mod bus;
-mod command;
 mod device;
 mod enumeration;
 mod files;
@@ -37,12 +35,10 @@ mod words;
 use answer::again;
 use asked::{LONGEST, begin, read_asked};
 use bus::{LOSSES, talk};
-use command::run_with;
 use enumeration::{EVERYTHING_ONCE, ONCE, TWICE, enumerate_under};
 use requests::make_each;
 use samples::{EVERYTHING, MOUSE};
 use std::io;
-use std::process::ExitCode;
 use telling::tell;
 use usb_fields::Speed;
 
@@ -57,31 +53,20 @@ const GROUPS: [&str; 7] = [
     "plenty",
 ];
 
-fn main(rt: HostRuntime) -> io::Result<ExitCode> {
+fn main(rt: HostRuntime) -> io::Result<()> {
     let mut buffer = [0u8; LONGEST];
     let Some(asked) = read_asked(&mut rt.reader(), &mut buffer)? else {
         for group in GROUPS {
             go_through(&rt, group, true)?;
         }
-        return Ok(ExitCode::SUCCESS);
+        return Ok(());
     };
     begin(rt.alloc(), asked.place);
-    if asked.group == "usbdesc" {
-        let (mut writer, mut errors) = (io::writer(&rt), rt.stderr());
-        let status = run_with(
-            rt.alloc(),
-            asked.words,
-            &mut rt.reader(),
-            &mut writer,
-            &mut errors,
-        );
-        return Ok(ExitCode::from(status));
-    }
     go_through(&rt, asked.group, false)?;
     if Box::new(rt.alloc(), 0u64).is_err() {
         println!(rt; "{group} end", group = asked.group)?;
     }
-    Ok(ExitCode::SUCCESS)
+    Ok(())
 }
 
 /// Makes the calls of a group, and prints what came of them.
