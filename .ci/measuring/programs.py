@@ -86,7 +86,7 @@ class Proved:
         return linked(f"{self.room}/ours", made)
 
     def library(self):
-        return built.build("usb_c", f"{self.room}/usb_c.a")
+        return built.build("usb_c", f"{self.room}/usb_c.a", cpu=lowering.CPU)
 
 
 def walk(room, library):

@@ -32,7 +32,7 @@ def crate_of(name, root=ROOT):
     return rtlib.Crate(f"{root}/crates/{name}", root, {})
 
 
-def build(name, out, root=ROOT, cpu="x86-64", toolchain=f"{KIT}/toolchain"):
+def build(name, out, root=ROOT, cpu="x86-64", toolchain=f"{KIT}/toolchain", target=None):
     """Builds a crate's archive or object over the libraries that `rt ci` built, for any processor of x86-64: a program for a
     newer one asks for glibc 2.33. The other words are rt's, since rt lib would prove all libraries once more. Gives `out`."""
     crate = crate_of(name, root)
@@ -40,7 +40,7 @@ def build(name, out, root=ROOT, cpu="x86-64", toolchain=f"{KIT}/toolchain"):
     if lacking:
         fail(f"rt ci has not built {' '.join(lacking)}")
     os.makedirs(f"{crate.folder}/out", exist_ok=True)
-    words = [*crate.words(["--cpu", cpu]), "--toolchain", toolchain, "--incremental", "out/incremental"]
+    words = [*crate.words(["--cpu", cpu, *(["--target", target] if target else ())]), "--toolchain", toolchain, "--incremental", "out/incremental"]
     run(f"{KIT}/bin/rattle", "build", *words, "-o", out, cwd=crate.folder)
     return out
 

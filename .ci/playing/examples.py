@@ -7,10 +7,12 @@ import re
 from playing.calls import fronts, is_dump, names_of_dump
 from playing.row import Fault
 from playing.run import Run, ends_with
+from readings import recorded
 
 # Each file of these must be named by the list.
 LISTED = ["rows/*.txt", "enumerate/*.txt", "sets/*.bin", "files/*.file", "rules/*.file", "dumps/*.descriptors"]
 LISTED += ["listings/*.txt", "explain/*.bin", "explain/*.descriptors", "hexadecimal/*", "mistakes/*.bin"]
+LISTED += ["captures/*.pcap", "captures/*.pcapng", "captures/*.text"]
 
 
 def bytes_of(name, ending=""):
@@ -110,7 +112,37 @@ def output(line):
     yield Run(words, bytes_of(source), int(status), text, b"".join(b"usbdesc: %b\n" % fault for fault in faults))
 
 
-KINDS = {"set": set_, "file": file, "dump": dump, "listing": listing, "commented": listing, "broken": listing, "output": output}
+def told_in(data, words, **options):
+    """The run with these words over a recording, whose lines the second reading has."""
+    lines = "".join(f"{line}\n" for line in recorded.said(data, **options))
+    return Run(["capture", *words], data, recorded.status_of(recorded.Recording(data).over, options.get("device")), lines.encode())
+
+
+def file_in(data, recording, device):
+    """The run that makes a file of a device."""
+    words, made = "{}.{}".format(*device), recorded.file_of(recording.over, device)
+    if isinstance(made, str):
+        return ends_with(["capture", "--file", words], data, f"3 usbdesc: capture lacks {made} of {words}")
+    return Run(["capture", "--file", words], data, 0, made)
+
+
+def capture(name):
+    """A recording, with each option, and cut: a short one at each byte."""
+    data = bytes_of(name)
+    recording = recorded.Recording(data)
+    status = recorded.status_of(recording.over)
+    yield Run(["capture"], data, status, bytes_of(name, ".said"))
+    yield Run(["capture", "--data"], data, status, bytes_of(name, ".bytes"))
+    yield told_in(data, ["--brief"], with_data=False, brief=True)
+    yield told_in(data, ["--from", "0.001", "--to", "93.5"], with_data=False, times=(10**6, 935 * 10**8))
+    for device in [*dict.fromkeys(it["device"] for it in recording.over), (9, 9)]:
+        yield told_in(data, ["--device", "{}.{}".format(*device)], with_data=False, device=device)
+        yield file_in(data, recording, device)
+    for length in range(0, len(data), 1 if len(data) < 500 else len(data) // 40):
+        yield told_in(data[:length], [], with_data=False)
+
+
+KINDS = {"set": set_, "file": file, "dump": dump, "listing": listing, "commented": listing, "broken": listing, "output": output, "capture": capture}
 
 
 def lines_of_list():

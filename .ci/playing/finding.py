@@ -17,7 +17,8 @@ SET = bytes([9, 2, 25, 0, 1, 1, 0, 0x80, 50, 9, 4, 0, 0, 1, 255, 0, 0, 0, 7, 5, 
 BARE = bytes([9, 2, 9, 0, 0, 1, 0, 0x80, 50])
 DEVICE = bytes([18, 1, 0, 2, 0, 0, 0, 64, 0x83, 4, 0x40, 0x57, 0, 1, 1, 2, 3, 1])
 VERSIONS = (0x100, 0x101, 0x110, 0x200, 0x201, 0x210, 0x250, 0x300, 0x310, 0x320)
-MOST_SECONDS = 10
+# So many times as long may it take among four times the bytes: 16 where its time grows as the square.
+MOST = 8
 
 
 def fail(why):
@@ -93,21 +94,25 @@ def at_random(cases):
 
 
 def hostile():
-    """16 MB that look like the beginnings of sets."""
+    """What looks like the beginnings of sets."""
     header = b"\t\2\xff\xff\1\1\0\x80\x32"
     yield from (header, header + b"\2\x30", b"\t\2\xff\xff", header + b"\x0b\x30" + bytes(9), header + b"\xfd\x30", b"\x12\1\0\2\0\0\0\x40", b"\xff", b"\t")
 
 
+def seconds(piece, length):
+    """The seconds of a processor that a search among so many bytes takes."""
+    data = (piece * (length // len(piece) + 1))[:length]
+    start = time.process_time()
+    sum(1 for _ in usb.find(data))
+    return time.process_time() - start
+
+
 def main():
     counts = [compared(data) for data in (*examples(), *built(), *at_random(int(sys.argv[1]) if len(sys.argv) > 1 else 300))]
-    slowest = 0
     for piece in hostile():
-        data = (piece * (2 ** 24 // len(piece) + 1))[:2 ** 24]
-        start = time.process_time()
-        sum(1 for _ in usb.find(data))
-        slowest = max(slowest, time.process_time() - start)
-        if slowest > MOST_SECONDS:
-            fail(f"{piece.hex()} repeated takes {slowest:.1f} s")
+        times = seconds(piece, 2 ** 24) / seconds(piece, 2 ** 22)
+        if times > MOST:
+            fail(f"{piece.hex()} repeated to 16 MB takes {times:.1f} times as long as to 4 MB")
     print(f"what stands among {len(counts)} runs of bytes: {sum(counts)} found, as a second reading has them")
 
 

@@ -75,14 +75,20 @@ HEXADECIMAL = {
     "Wireshark": lambda data: in_lines(data, lambda at, b: f"{at:04x}   {b.hex(' '):47}   {shown(b)}"),
 }
 
-# Long texts: digits, and what is no hexadecimal text up to its last character.
+# Long texts that are no hexadecimal ones up to their last character.
 LONG = 40_000_000
-DIGITS = LONG * b"0"
+
+
+def in_vain(line):
+    """Such a text of about this many characters, of these lines."""
+    return lambda length: length // len(line) * line + b"z"
+
+
 NO_TEXTS = {
-    "line feeds": LONG * b"\n" + b"z",
-    "blanks": LONG * b" " + b"z",
-    "tabs": LONG * b"\t" + b"z",
-    "braces": LONG * b"{" + b"z",
-    "lines of slashes": LONG // 3 * b"//\n" + b"z",
-    "slashes": LONG * b"/" + b"z",
+    "line feeds": in_vain(b"\n"),
+    "blanks": in_vain(b" "),
+    "tabs": in_vain(b"\t"),
+    "braces": in_vain(b"{"),
+    "lines of slashes": in_vain(b"//\n"),
+    "slashes": in_vain(b"/"),
 }

@@ -45,9 +45,24 @@ def said():
     return sources.text_of(NUMBERS).partition("\n")[0].removeprefix("# ")
 
 
+def above():
+    """The cells above their bound, each reason of a table once."""
+    found, titles = numbers(), {}
+    for table in tables.tables():
+        for row, (title, cells) in enumerate(table.rows):
+            for column, cell in enumerate(cells):
+                pair = found.get(key(table, row, column))
+                if pair and pair[0] / pair[1] > cell.bound:
+                    told = f"{title}, {table.columns[column]}" if len(table.columns) > 1 else title
+                    titles.setdefault((table.name, tables.reason_of(f"{table.name}, {title}")), []).append(told)
+    return "\n".join(f"- {name} ({'; '.join(told)}): {reason}" for (name, reason), told in titles.items())
+
+
 def printed(name):
     if name == "said":
         return said()
+    if name == "above":
+        return above()
     found = numbers()
     table = next(it for it in tables.tables() if it.name == name)
     if not any(it.startswith(f"{table.name}, ") for it in found):

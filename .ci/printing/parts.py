@@ -51,14 +51,14 @@ def of_row(path, number, most=None):
 def of_output(name):
     """What the program writes with options, as `testdata/list` says it, with the line that is typed for it."""
     found = re.search(rf"^output {re.escape(name)} 0 (\S+) (.*)$", sources.text_of("testdata/list"), flags=re.M)
-    typed = f"$ (cd crates/usbdesc && rt try -- {found[2]} < ../../testdata/{found[1]})"
+    typed = f"$ dist/usbdesc {found[2]} < testdata/{found[1]}"
     return fenced([typed, *sources.text_of(f"testdata/{name}").splitlines()], "console")
 
 
 def of_counts():
     """How much `testdata/list` names, by its kinds."""
     words = {"rows": "files of rows", "set": "sets", "file": "files", "dump": "dumps", "listing": "listings"}
-    words |= {"commented": "listings with comments", "broken": "broken listings"}
+    words |= {"commented": "listings with comments", "broken": "broken listings", "capture": "recordings"}
     kinds = re.findall(r"^(\w+) ", sources.text_of("testdata/list"), flags=re.M)
     return ", ".join(f"{kinds.count(kind)} {word}" for kind, word in words.items()) + "."
 

@@ -60,6 +60,7 @@ def linked(target, objects, room, out):
     if target == "wasm32":
         run(targets.linker(room, "wasm-ld"), "--no-entry", "--gc-sections", "--stack-first", "-z", "stack-size=1048576", "--export=start",
             "--allow-undefined", *objects, "-o", out)
+        targets.shrunk(out)
     elif target in SCRIPTS:
         run(LLD, "-T", f"{PLACE}/{SCRIPTS[target]}.ld", "--gc-sections", *objects, "-o", out)
     else:
@@ -89,9 +90,9 @@ def ran(target, made, folder, seconds=3600):
     return ended.stdout, ended.returncode
 
 
-def in_node(package, program, said):
-    """Whether all texts of testdata are the same by the package for npm and by the program."""
-    words = ["node", f"{ROOT}/.ci/processors/wasm.mjs", package, os.path.abspath(program), f"{ROOT}/testdata"]
+def in_node(package, program, is_proved, said):
+    """Whether all texts of testdata are the same by the package for npm and by the program, and the module is within its bound."""
+    words = ["node", f"{ROOT}/.ci/processors/wasm.mjs", package, program, f"{ROOT}/testdata", *["proved"] * is_proved]
     ended = subprocess.run(words, capture_output=True, text=True, check=False)
     for line in (ended.stdout + ended.stderr).splitlines():
         said(f"npm: {line}")

@@ -8,6 +8,7 @@ import declared
 from playing.built import LLD, run
 
 NOT_THERE = 8  # SHT_NOBITS
+WRITABLE = 1  # SHF_WRITE
 ALLOCATED = 2  # SHF_ALLOC
 # The groups, by what the names of their exports have after nzg_.
 GROUPS = {
@@ -50,14 +51,24 @@ def bound_of(target, group):
     return BOUNDS[group][BOUNDED.index(target)] if target in BOUNDED and group in BOUNDS else None
 
 
-def in_flash(path):
-    """Bytes of the sections that lie in memory and have content: an ELF of 32 bits."""
+def sections(path):
+    """The sections of an ELF of 32 bits that lie in memory: type, flags and length."""
     with open(path, "rb") as it:
         data = it.read()
     at, = struct.unpack_from("<I", data, 32)
     size, count = struct.unpack_from("<HH", data, 46)
-    rows = [struct.unpack_from("<10I", data, at + i * size) for i in range(count)]
-    return sum(row[5] for row in rows if row[1] != NOT_THERE and row[2] & ALLOCATED)
+    rows = (struct.unpack_from("<10I", data, at + i * size) for i in range(count))
+    return [(row[1], row[2], row[5]) for row in rows if row[2] & ALLOCATED]
+
+
+def in_flash(path):
+    """Bytes of the sections that have content."""
+    return sum(length for kind, _, length in sections(path) if kind != NOT_THERE)
+
+
+def in_ram(path):
+    """Bytes of those that are written."""
+    return sum(length for _, flags, length in sections(path) if flags & WRITABLE)
 
 
 def measured(made, script, room):
