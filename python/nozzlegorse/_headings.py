@@ -1,14 +1,15 @@
 """The text of `explain` by descriptor: the heading of each, what is said below it, and its fields in words."""
 from __future__ import annotations
 
-import re
-from collections.abc import Iterable, Iterator
-from typing import NamedTuple
+from ._value import Value
 
-_HEADING = re.compile(r"( *)(.*) @(\d+)\+\d+")
+# The modules re, typing and collections would take half of an import.
+TYPE_CHECKING = False
+if TYPE_CHECKING:
+    from collections.abc import Iterable, Iterator
 
 
-class Heading(NamedTuple):
+class Heading(Value):
     """A descriptor in words: its heading without the place, its findings and remarks, and each field that has a line, by name, with what
     the line says."""
 
@@ -18,13 +19,21 @@ class Heading(NamedTuple):
     fields: list[tuple[str, str]]
 
 
+def _parts(line: str) -> tuple[str, int] | None:
+    """The words and the place of a line that is a heading: of ` device @0+18`, ` device` and 0."""
+    words, at, bounds = line.rpartition(" @")
+    place, plus, length = bounds.partition("+")
+    return (words, int(place)) if at and plus and place.isdecimal() and length.isdecimal() else None
+
+
 def headings(text: str) -> dict[int, Heading]:
     """Each heading of an explanation with places, by its place."""
     found, indent, last = {}, 0, Heading("", [], [], [])
     for line in text.splitlines():
-        if is_heading := _HEADING.fullmatch(line):
-            indent, last = len(is_heading[1]) + 4, Heading(is_heading[2], [], [], [])
-            found[int(is_heading[3])] = last
+        if parts := _parts(line):
+            words, place = parts[0].lstrip(" "), parts[1]
+            indent, last = len(parts[0]) - len(words) + 4, Heading(words, [], [], [])
+            found[place] = last
             continue
         name, _, words = line.strip().partition(" ")
         if name in ("!", "?"):

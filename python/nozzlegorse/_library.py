@@ -101,50 +101,62 @@ _TYPES = {"void": None, "void *": ctypes.c_void_p, "bool": ctypes.c_bool, "size_
           "const uint8_t *": ctypes.c_char_p, "uint8_t *": ctypes.c_void_p}
 
 
-# Without the module re, which takes a quarter of an import.
+# Declarations are read without the module re, and a type is made when it is first asked for: both take much of an import.
+*_STRUCTS, _CALLS = " ".join(DECLARATIONS.split()).split("};")
+_MEMBERS = dict(it.strip().removeprefix("struct nzg_").split(" {") for it in _STRUCTS)
+_SIGNATURES = {head.rpartition(" ")[2]: (head.rpartition(" ")[0], parameters)
+               for head, parameters in (it.strip().split("(") for it in _CALLS.split(");")[:-1])}
+
+
+def _type(kind: str) -> type | None:
+    """The type that C writes so. Threads that ask at the same time get the same."""
+    if kind not in _TYPES:
+        name, pointer, _ = kind.removeprefix("const ").removeprefix("struct nzg_").partition(" *")
+        _TYPES.setdefault(kind, ctypes.POINTER(structs[name]) if pointer else structs[name])
+    return _TYPES[kind]
+
+
 def _field(kind: str, declared: str) -> tuple[str, type]:
     name, _, count = declared.rstrip("]").partition("[")
-    it = _TYPES[kind + " *" * name.startswith("*")]
+    it = _type(kind + " *" * name.startswith("*"))
     return name.lstrip("*"), it * int(count) if count else it
 
 
-def _struct(name: str, body: str) -> type:
-    fields = []
-    for declared in body.split(";")[:-1]:
-        first, *others = declared.split(", ")
-        kind, _, first = first.strip().rpartition(" ")
-        fields += [_field(kind, it) for it in (first, *others)]
-    return type(name, (ctypes.Structure,), {"_fields_": fields})
+class _Structs(dict):
+    """The structs that are declared, by their names without nzg_."""
+
+    def __missing__(self, name: str) -> type:
+        fields = []
+        for declared in _MEMBERS[name].split(";")[:-1]:
+            first, *others = declared.split(", ")
+            kind, _, first = first.strip().rpartition(" ")
+            fields += [_field(kind, it) for it in (first, *others)]
+        return self.setdefault(name, type(name, (ctypes.Structure,), {"_fields_": fields}))
 
 
-def _declared(library, text: str) -> dict[str, type]:
-    """Gives each call of a library its types; the structs that are declared, by their names without nzg_."""
-    structs = {}
-    *declared, calls = " ".join(text.split()).split("};")
-    for it in declared:
-        name, body = it.strip().removeprefix("struct nzg_").split(" {")
-        it = structs[name] = _struct(name, body)
-        pointer = ctypes.POINTER(it)
-        _TYPES.update({f"struct nzg_{name}": it, f"struct nzg_{name} *": pointer, f"const struct nzg_{name} *": pointer})
-    for it in calls.split(");")[:-1]:
-        head, parameters = it.strip().split("(")
-        result, _, name = head.rpartition(" ")
-        call = getattr(library, name)
-        call.restype, call.argtypes = _TYPES[result], [_TYPES[it] for it in parameters.split(", ")]
-    return structs
+class _Library(ctypes.PyDLL):
+    """The library, whose calls have their types."""
+
+    def __getattr__(self, name: str):
+        if name not in _SIGNATURES:
+            raise AttributeError(name)
+        result, parameters = _SIGNATURES[name]
+        call = self[name]
+        call.restype, call.argtypes = _type(result), [_type(it) for it in parameters.split(", ")]
+        setattr(self, name, call)
+        return call
 
 
-def load(name: str) -> ctypes.PyDLL:
+def load(name: str, kind: type = ctypes.PyDLL) -> ctypes.PyDLL:
     """A library of this name in the folder of NOZZLEGORSE_LIBRARY, else beside this file, else in the system. PyDLL keeps one call at
     a time, so that threads may share a handle."""
     given, beside = os.environ.get("NOZZLEGORSE_LIBRARY"), os.path.join(os.path.dirname(os.path.abspath(__file__)), f"{name}.so")
     if given:
-        return ctypes.PyDLL(given if name == "libnozzlegorse" else os.path.join(os.path.dirname(given), f"{name}.so"))
-    return ctypes.PyDLL(beside if os.path.exists(beside) else f"{name}.so.0")
+        return kind(given if name == "libnozzlegorse" else os.path.join(os.path.dirname(given), f"{name}.so"))
+    return kind(beside if os.path.exists(beside) else f"{name}.so.0")
 
 
-lib = load("libnozzlegorse")
-structs = _declared(lib, DECLARATIONS)
+lib, structs = load("libnozzlegorse", _Library), _Structs()
 
 
 def number(value: int, least: int, most: int, name: str) -> int:

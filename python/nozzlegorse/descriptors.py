@@ -1,11 +1,13 @@
 """Descriptors as values: what `read` and `walk` give, and the rules that `check` finds broken."""
 from __future__ import annotations
 
-from collections.abc import Iterator
-
 from . import _library as c
 from ._value import Value, new
 from .faults import done
+
+TYPE_CHECKING = False  # The module collections takes a tenth of an import.
+if TYPE_CHECKING:
+    from collections.abc import Iterator
 
 ROLES = (None, "device", "configuration", "interface", "endpoint", "association", "raw", "qualifier", "languages", "string")
 PARTS = ("device", "main", "other")

@@ -16,14 +16,13 @@ import zipfile
 from typing import NamedTuple
 
 import pages
-from playing.built import ROOT, TARGET
+import systems
+from playing.built import ROOT
 
 SUMMARY = "USB 2.0 descriptors, and both ends of the control pipe, by a proved library"
 # What is tried on the bench of C, and what of examples is in no package: the first has lines for the top of the repository.
 ON_BENCH = ("tiny.c", "tiny_host.c", "tiny_stack.c", "hosted.h")
 UNPACKED = ("README.md", "rust/firmware/Cargo.lock", "rust/firmware/.gitignore")
-# Python's installers know of no glibc before this one.
-WHEEL = "py3-none-manylinux_2_17_x86_64"
 CONFIG = """prefix={prefix}
 libdir=${{prefix}}/{libdir}
 includedir=${{prefix}}/include
@@ -38,10 +37,10 @@ Cflags: -I${{includedir}}
 MAINTAINER = "Nozzlegorse maintainers <maintainers@users.noreply.nozzlegorse.example>"
 CONTROL = """Package: nozzlegorse
 Version: {version}
-Architecture: amd64
+Architecture: {architecture}
 Maintainer: {maintainer}
 Installed-Size: {size}
-Depends: libc6 (>= 2.14)
+Depends: {needs}
 Recommends: python3 (>= 3.10)
 Section: utils
 Priority: optional
@@ -105,6 +104,7 @@ class Made(NamedTuple):
     command: pages.CommandHelp
     epoch: int
     repository: str = ""
+    system: systems.System = systems.NATIVE
 
     def for_python(self):
         """The version as Python's installers have it, by which what precedes a release is older than that."""
@@ -223,7 +223,7 @@ def packed(files, epoch):
 
 
 def plain(made):
-    top = f"nozzlegorse-{made.version}-linux-x86_64"
+    top = f"nozzlegorse-{made.version}-{made.system.name}"
     files = installed(made, "lib", "${pcfiledir}/../..")
     return f"{top}.tar.gz", packed({f"{top}/{path}": it for path, it in files.items()}, made.epoch)
 
@@ -235,7 +235,7 @@ def crate(made):
         manifest = files["Cargo.toml"][0].replace(b'\nreadme = ', f'\nrepository = "{made.repository}"\nreadme = '.encode())
         files["Cargo.toml"] = manifest, 0o644
     files |= shared() | {"include/nozzlegorse.h": (read(f"{made.room}/nozzlegorse.h"), 0o644)}
-    files[f"lib/{TARGET}/libnozzlegorse.a"] = read(f"{made.room}/libnozzlegorse.a"), 0o644
+    files[f"lib/{made.system.target}/libnozzlegorse.a"] = read(f"{made.room}/libnozzlegorse.a"), 0o644
     files["LICENSE"] = read(f"{ROOT}/LICENSE"), 0o644
     return f"{top}.crate", packed({f"{top}/{path}": it for path, it in files.items()}, made.epoch)
 
@@ -256,11 +256,12 @@ def changelog(made):
 
 def debian(made):
     """An archive of ar with three members, each at an even place."""
-    files = {f"./usr/{path}": it for path, it in installed(made, f"lib/{TARGET.replace('-unknown', '')}", "/usr").items()}
+    files = {f"./usr/{path}": it for path, it in installed(made, made.system.library_folder(), "/usr").items()}
     files["./usr/share/doc/nozzlegorse/changelog.gz"] = gzip.compress(changelog(made), 9, mtime=0), 0o644
     regular = {path: content for path, (content, _) in sorted(files.items()) if isinstance(content, bytes)}
     homepage = f"Homepage: {made.repository}\n" * bool(made.repository)
-    of_package = {"version": made.for_debian(), "maintainer": MAINTAINER, "homepage": homepage, "summary": SUMMARY}
+    of_package = {"version": made.for_debian(), "maintainer": MAINTAINER, "homepage": homepage, "summary": SUMMARY,
+                  "architecture": made.system.debian, "needs": made.system.needs}
     texts = {
         "control": CONTROL.format(**of_package, size=sum(map(len, regular.values())) // 1024),
         "md5sums": "".join(f"{hashlib.md5(content).hexdigest()}  {path[2:]}\n" for path, content in regular.items()),
@@ -271,7 +272,7 @@ def debian(made):
     whole = b"!<arch>\n"
     for name, data in (("debian-binary", b"2.0\n"), ("control.tar.gz", packed(about, made.epoch)), ("data.tar.gz", packed(files, made.epoch))):
         whole += f"{name:<16}{made.epoch:<12}{0:<6}{0:<6}{'100644':<8}{len(data):<10}`\n".encode() + data + b"\n" * (len(data) % 2)
-    return f"nozzlegorse_{made.for_debian()}_amd64.deb", whole
+    return f"nozzlegorse_{made.for_debian()}_{made.system.debian}.deb", whole
 
 
 def metadata(made):
@@ -293,7 +294,7 @@ def wheel(made):
     files["nozzlegorse/nozzlegorse.html"] = read(f"{made.room}/nozzlegorse.html"), 0o644
     files["nozzlegorse/include/nozzlegorse.h"] = read(f"{made.room}/nozzlegorse.h"), 0o644
     files[f"{info}/METADATA"] = metadata(made).encode(), 0o644
-    files[f"{info}/WHEEL"] = f"Wheel-Version: 1.0\nGenerator: nozzlegorse\nRoot-Is-Purelib: false\nTag: {WHEEL}\n".encode(), 0o644
+    files[f"{info}/WHEEL"] = f"Wheel-Version: 1.0\nGenerator: nozzlegorse\nRoot-Is-Purelib: false\nTag: {made.system.wheel}\n".encode(), 0o644
     files[f"{info}/LICENSE"] = read(f"{ROOT}/LICENSE"), 0o644
     digests = {path: base64.urlsafe_b64encode(hashlib.sha256(data).digest()).rstrip(b"=").decode() for path, (data, _) in files.items()}
     record = "".join(f"{path},sha256={digest},{len(files[path][0])}\n" for path, digest in digests.items())
@@ -304,4 +305,4 @@ def wheel(made):
             row = zipfile.ZipInfo(path, time.gmtime(made.epoch)[:6])
             row.external_attr, row.compress_type = (0o100000 | mode) << 16, zipfile.ZIP_DEFLATED
             archive.writestr(row, data)
-    return f"{name}-{WHEEL}.whl", whole.getvalue()
+    return f"{name}-{made.system.wheel}.whl", whole.getvalue()

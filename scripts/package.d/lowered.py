@@ -51,6 +51,10 @@ OVER_POINTERS = set("extractvalue insertvalue ret phi select".split())
 DECLARED = re.compile(r"rattle_(?:re|de)?alloc|llvm\.(?:mem(?:set|move|cpy)|trap|assume|ct(?:pop|tz|lz)|bswap|[us](?:min|max|(?:add|sub|mul)\.with\.overflow)|lifetime\.\w+)[\w.]*|__sysv_signal")
 # Attributes that say something of x86-64, or ask for what isn't there elsewhere.
 OF_X86 = r'"(?:target-cpu|target-features|tune-cpu|probe-stack|stack-probe-size|frame-pointer)"="[^"]*"|\b(?:sanitize_address|uwtable(?:\(\w+\))?)\b'
+# What the sources say is inlined, for speed. In the smallest code none of it is. In small code what writes and reads texts isn't, by which
+# that is half as large again; a device and a host keep it, without which they take half as many instructions again.
+INLINED = r"\b(?:alwaysinline|inlinehint)\b"
+OF_TEXTS = re.compile(r'define internal [^@]*@"(?:usb_(?:explain|hex|listing|names|remarks|text)|itoa|memchr)::.* (#\d+) \{\n')
 
 # The functions for memory. What they get and give on x86-64 is a pair of words; nzg_lowered_alloc and nzg_lowered_realloc are C, in
 # lowered_memory.c, and say no by a null pointer.
@@ -155,6 +159,11 @@ def constant(line):
         kinds += [kind, "i32"] if kind == "ptr" else [kind]
         values += [value, "i32 0"] if kind == "ptr" else [value]
     return f"{cut[1]}<{{ {', '.join(kinds)} }}> <{{ {', '.join(values)} }}>{cut[4]}\n"
+
+
+def apart(number):
+    """The attributes of a number without what is inlined."""
+    return f"{number}000"
 
 
 RULES = {}
@@ -312,7 +321,8 @@ class Lowering:
         if REFUSED.search(re.sub(r'@"[^"]*"', "", line)):
             refuse("a function of this form isn't known", line)
         if line.startswith("define internal "):
-            return line
+            found = OF_TEXTS.fullmatch(line) if self.size == SIZES["s"] else None
+            return f"{line[: found.start(1)]}{apart(found[1])} {{\n" if found else line
         head = re.fullmatch(r"define (?:noundef )?(zeroext )?(void|ptr|i1|i8|i16|i32|i64) @(\w+)\(([^{}]*)\{\n", line)
         if not head or not PARAMETERS.fullmatch(head[4]):
             refuse("an export of this type isn't known", line)
@@ -334,11 +344,13 @@ class Lowering:
         """Of the module's own functions: none of x86-64, and what is to be small."""
         if line.split()[1] not in self.own:
             return line
-        kept = re.sub(OF_X86, "", line)
+        kept = re.sub(f"{OF_X86}|{INLINED}" if self.size == SIZES["z"] else OF_X86, "", line)
         if '"' in kept:
             refuse("an attribute isn't known", line)
         unwinding = "" if "nounwind" in kept else "nounwind "
-        return kept.replace("{ ", f"{{ {unwinding}{self.size}", 1)
+        made = kept.replace("{ ", f"{{ {unwinding}{self.size}", 1)
+        number = line.split()[1]
+        return made + (re.sub(INLINED, "", made).replace(number, apart(number), 1) if self.size == SIZES["s"] else "")
 
     def outside(self, line):
         """A line outside of functions."""

@@ -2,6 +2,7 @@
 
 import json
 import os
+import shutil
 
 import archives
 import declared
@@ -19,9 +20,14 @@ OPTIONS = {
     "i386": ["--target=i386-unknown-none-elf", "-march=i586"],
     "wasm32": ["--target=wasm32-unknown-unknown", "-mcpu=lime1"],
 }
-# Small where flash is, and fast where a page waits.
-SIZES = dict.fromkeys(OPTIONS, "s") | {"wasm32": ""}
+# Small where flash is, and smallest what is fetched from a network.
+SIZES = dict.fromkeys(OPTIONS, "s") | {"wasm32": "z"}
+# Of small code functions that are the same are one.
+SMALL = ["-Xclang", "-fmerge-functions"]
 SECTIONS = ["-ffunction-sections", "-fdata-sections"]
+# What makes WebAssembly smaller, and what of it the processor `lime1` has.
+OPTIMIZER = shutil.which("wasm-opt")
+FEATURES = ["--enable-bulk-memory", "--enable-multivalue", "--enable-mutable-globals", "--enable-nontrapping-float-to-int", "--enable-sign-ext"]
 HEADERS = ["-I", f"{ROOT}/callers/c/plain", "-I", f"{ROOT}/include"]
 # The compiler for rattle: what it is given is kept.
 KEEPING = """#!/bin/sh
@@ -48,11 +54,15 @@ def compiled(source, target, out, *more):
 
 
 def object_of(text, target, room, guard=False, size=None):
-    """An object of the module's exports."""
+    """An object of the module's exports. Small code goes through LLVM's passes twice: the second time finds what the first left."""
     size = SIZES[target] if size is None else size
-    code, made = f"{room}/{target}.ll", f"{room}/{target}.o"
+    code, once, made = (f"{room}/{target}.{it}" for it in ("ll", "bc", "o"))
     unproved.write(code, lowered.Lowering(target, guard, size).module(text))
-    run(CLANG, "--no-default-config", *OPTIONS[target], *SECTIONS, f"-O{size or 2}", "-Wno-override-module", "-c", "-x", "ir", code, "-o", made)
+    words = [CLANG, "--no-default-config", *OPTIONS[target], *SECTIONS, f"-O{size or 2}", *(SMALL if size else ()), "-Wno-override-module", "-c", "-x", "ir"]
+    if size:
+        run(*words, "-emit-llvm", code, "-o", once)
+        os.replace(once, code)
+    run(*words, code, "-o", made)
     os.remove(code)
     return made
 
@@ -97,6 +107,13 @@ def wasm(made, room, names=None):
     return f"{room}/nozzlegorse.wasm"
 
 
+def shrunk(module):
+    """A module of WebAssembly made smaller by Debian's binaryen, where that is installed."""
+    if OPTIMIZER:
+        run(OPTIMIZER, *FEATURES, "-Oz", "--converge", module, "-o", module)
+    return module
+
+
 def javascript(made, version, room):
     """The files of the package for npm, by their names."""
     header = declared.text_of_header()
@@ -106,7 +123,7 @@ def javascript(made, version, room):
         "package.json": json.dumps(about, indent=4).encode() + b"\n",
         "declared.mjs": declared.javascript(header).encode(),
         "declared.d.mts": declared.types(header).encode(),
-        "nozzlegorse.wasm": archives.read(wasm(made, room)),
+        "nozzlegorse.wasm": archives.read(shrunk(wasm(made, room))),
         "LICENSE": archives.read(f"{ROOT}/LICENSE"),
     }
 
