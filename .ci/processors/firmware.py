@@ -8,10 +8,11 @@ import sys
 
 import targets
 from playing.built import LLD, ROOT, run
-from processors import machines, sizes
+from processors import sizes
 
 PLACE = f"{ROOT}/examples/firmware"
 SOURCES = (f"{PLACE}/main.c", f"{PLACE}/semihosting.c", f"{PLACE}/start.c", f"{ROOT}/callers/targets/runtime.c", f"{targets.HERE}/lowered_memory.c")
+SCRIPTS = {"thumbv7em": "mps2", "thumbv6m": "mps2", "riscv32imac": "virt"}
 # Sixteen reports to the right, then down.
 REPORTS = "reports:" + 16 * " 000400" + " 000004"
 
@@ -19,7 +20,7 @@ REPORTS = "reports:" + 16 * " 000400" + " 000004"
 def built(target, made, room):
     """The firmware, with nothing of the library but what it calls."""
     objects = [targets.compiled(it, target, f"{room}/{os.path.basename(it)}.o", "-fno-builtin", "-I", f"{ROOT}/callers/c") for it in SOURCES]
-    run(LLD, "-T", f"{PLACE}/mps2.ld", "--gc-sections", *objects, made, "-o", f"{room}/mouse.elf")
+    run(LLD, "-T", f"{PLACE}/{SCRIPTS[target]}.ld", "--gc-sections", *objects, made, "-o", f"{room}/mouse.elf")
     return f"{room}/mouse.elf"
 
 

@@ -11,18 +11,17 @@ import tempfile
 
 from nozzlegorse import ends
 
-QEMU = ["qemu-system-arm", "-M", "mps2-an386", "-cpu", "cortex-m4", "-nographic", "-monitor", "none", "-serial", "none",
-        "-semihosting-config", "enable=on,target=native", "-kernel"]
-OF_X86_64 = 62
+SEMIHOSTING = ["-nographic", "-monitor", "none", "-serial", "none", "-semihosting-config", "enable=on,target=native", "-kernel"]
+# What runs a program, by the processor that its head names. One for this machine runs as it is, over the model of a peripheral.
+RUN_BY = {40: ["qemu-system-arm", "-M", "mps2-an386", "-cpu", "cortex-m4", *SEMIHOSTING], 243: ["qemu-system-riscv32", "-M", "virt", "-bios", "none", *SEMIHOSTING], 62: []}
 RESET, TRANSACTION, ACKED = range(3)
 STAGES = {"setup": 0, "in": 1, "out": 2}
 REPLIES = ("ack", "nak", "stall", "data", "silence")
 
 
 def run_by(firmware):
-    """A program for this machine, over the model of a peripheral, runs as it is."""
     with open(firmware, "rb") as program:
-        return [firmware] if program.read(20)[18] == OF_X86_64 else [*QEMU, firmware]
+        return [*RUN_BY[program.read(20)[18]], firmware]
 
 
 class Firmware:

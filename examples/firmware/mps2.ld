@@ -1,5 +1,5 @@
 /* 64 kB of flash and 20 kB of RAM, as a small microcontroller has, at the places of QEMU's mps2-an386. */
-ENTRY(start)
+ENTRY(run)
 MEMORY {
     flash (rx) : ORIGIN = 0, LENGTH = 64K
     ram (rwx) : ORIGIN = 0x20000000, LENGTH = 20K

@@ -182,14 +182,15 @@ class Plug:
         if setup == FIRST or self.is_fresh:
             self.reset()
         if self.is_fresh and setup != FIRST:
-            self._transfer(SET_ADDRESS, b"")
+            self.transfer(SET_ADDRESS, b"")
         self.is_fresh = setup == FIRST
-        return self._transfer(setup, data)
+        return self.transfer(setup, data)
 
     def _serve(self, stage: str, **more):
         return self.device.serve(Transaction(self.device.state().address, stage, **more))
 
-    def _transfer(self, setup: bytes, data: bytes) -> bytes | Later | None:
+    def transfer(self, setup: bytes, data: bytes) -> bytes | Later | None:
+        """A control transfer at the device. A device of another kind has this call of its own."""
         self._serve("setup", setup_bytes=setup)
         if setup[6:8] != b"\0\0" and setup[0] < 0x80:
             if not self._write(setup, data):
