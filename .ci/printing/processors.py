@@ -11,9 +11,8 @@ CORNERS = {"flash": "Exports", "stack": "Call", "compared": "Target", "wrong": "
 
 
 def printed(table):
-    said, found = records.read()
-    if table == "said":
-        return said
+    """A table, after a line that says of what code it is."""
+    codes, found = records.read()
     rows = {}
     for (name, row, column), text in found.items():
         if name == table:
@@ -24,4 +23,4 @@ def printed(table):
     for row, cells in rows.items():
         title = f"`{row}`" if row.startswith("nzg_") or table == "compared" else row
         lines.append(f"| {' | '.join([title, *(cells.get(it, '') for it in columns)])} |")
-    return "\n".join(lines)
+    return "\n".join([f"Of {codes[table]}.", "", *lines])

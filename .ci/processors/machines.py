@@ -10,7 +10,7 @@ import targets
 from playing.built import CLANG, LLD, ROOT, fail, run
 
 PLACE = f"{ROOT}/callers/targets"
-PARTS = ("platform", "steps", "ends", "facts", "words")
+PARTS = ("platform", "steps", "ends", "scripts", "facts", "words")
 SEMIHOSTING = ["-nographic", "-monitor", "none", "-serial", "none", "-semihosting-config", "enable=on,target=native"]
 ARM = ["qemu-system-arm", "-M", "mps2-an386", "-cpu", "cortex-m4", *SEMIHOSTING]
 RISCV = ["qemu-system-riscv32", "-M", "virt", "-bios", "none", *SEMIHOSTING]
@@ -90,9 +90,9 @@ def ran(target, made, folder, seconds=3600):
     return ended.stdout, ended.returncode
 
 
-def in_node(package, program, is_proved, said):
+def in_node(package, program, is_bounded, said):
     """Whether all texts of testdata are the same by the package for npm and by the program, and the module is within its bound."""
-    words = ["node", f"{ROOT}/.ci/processors/wasm.mjs", package, program, f"{ROOT}/testdata", *["proved"] * is_proved]
+    words = ["node", f"{ROOT}/.ci/processors/wasm.mjs", package, program, f"{ROOT}/testdata", *["bounded"] * is_bounded]
     ended = subprocess.run(words, capture_output=True, text=True, check=False)
     for line in (ended.stdout + ended.stderr).splitlines():
         said(f"npm: {line}")

@@ -27,8 +27,7 @@ GROUPS = {
     "packets": r"packet_\w+|crc\d+",
     "everything": r"\w+",
 }
-# What none may be over, of the sources before a proof too: of thumbv7em, thumbv6m and riscv32imac. Of proved code texts are larger,
-# since it has inlined what its sources say, and all else is smaller.
+# What none may be over, of proved code and of code near to that: of thumbv7em, thumbv6m and riscv32imac.
 BOUNDED = ("thumbv7em", "thumbv6m", "riscv32imac")
 BOUNDS = {
     "a device": (46_000, 58_000, 74_000),
@@ -38,11 +37,12 @@ BOUNDS = {
     "both ends": (59_000, 75_000, 96_000),
     "a transfer": (3_000, 3_750, 5_250),
     "a write": (3_500, 4_000, 5_500),
-    "a walk": (3_000, 2_750, 3_750),
+    "a walk": (3_250, 3_000, 4_000),
     "a walk with fields": (36_000, 37_000, 39_000),
     "findings": (34_000, 42_000, 55_000),
     "remarks": (41_000, 50_000, 64_000),
     "texts": (206_000, 214_000, 260_000),
+    "packets": (3_300, 3_650, 4_400),
     "everything": (256_000, 275_000, 337_000),
 }
 

@@ -1,11 +1,11 @@
-// node wasm.mjs PACKAGE USBDESC TESTDATA [proved]: each input of testdata by the package and by the program. The same texts, the same
-// bytes? Of proved code the module has a bound.
+// node wasm.mjs PACKAGE USBDESC TESTDATA [bounded]: each input of testdata by the package and by the program. The same texts, the same
+// bytes? Where it is bounded the module is within its bound.
 import { readFileSync, readdirSync, statSync } from 'node:fs';
 import { spawnSync } from 'node:child_process';
 import { gzipSync } from 'node:zlib';
 import { resolve } from 'node:path';
 
-const [folder, usbdesc, testdata, isProved] = process.argv.slice(2);
+const [folder, usbdesc, testdata, isBounded] = process.argv.slice(2);
 const MOST = 320_000, MOST_PACKED = 110_000;
 const { load, Fault, enumerations } = await import(`${resolve(folder)}/index.mjs`);
 const usb = await load();
@@ -105,4 +105,4 @@ const module = readFileSync(`${folder}/nozzlegorse.wasm`), packed = gzipSync(mod
 const keyboard = new Uint8Array(readFileSync(`${testdata}/dumps/holtek-keyboard.descriptors`));
 console.log(`${inputs.length} inputs: ${told.texts} texts as of usbdesc, ${told.others} others; ${told.built} built back, ${ends} enumerated; ${told.descriptors} descriptors with ${told.fields} fields; ${usb.pages()} pages of memory`);
 console.log(`nozzlegorse.wasm: ${module.length} bytes, ${packed.length} packed; explain of a keyboard's dump ${median(() => usb.explain(keyboard))} ms`);
-process.exit(told.others || isProved && (module.length > MOST || packed.length > MOST_PACKED) ? 1 : 0);
+process.exit(told.others || isBounded && (module.length > MOST || packed.length > MOST_PACKED) ? 1 : 0);

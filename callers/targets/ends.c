@@ -18,7 +18,7 @@ void any_setup(uint8_t *setup) {
     if (one_in(12)) fill(setup, 8);
 }
 
-static void say_packet(const struct nzg_packet *packet) {
+void say_packet(const struct nzg_packet *packet) {
     say_list(" ", packet->reply);
     say_list(" ", packet->toggle);
     say_list(" ", packet->length);
@@ -31,11 +31,18 @@ static void say_setup(const uint8_t *setup) {
     say_hex(setup, 8);
 }
 
+void say_due(const struct nzg_transaction *due) {
+    say_list(" ", due->address);
+    say_list(" ", due->stage);
+    say_list(" ", due->toggle);
+    say_setup(due->setup);
+}
+
 /* --- a device ---------------------------------------------------------------------------------------------------------- */
 
 static uint8_t stage, toggle;
 
-static void say_state(struct nzg_device *device) {
+void say_state(struct nzg_device *device) {
     struct nzg_state state = {0};
     say_list("state ", nzg_device_state(device, &state));
     say_list(" ", state.halts);
@@ -172,10 +179,8 @@ static void spoil(struct nzg_packet *packet, uint32_t trouble_in) {
 
 static void exchange(struct nzg_host *host, struct nzg_device *device, const struct nzg_transaction *next, uint32_t trouble_in) {
     struct nzg_packet packet = {0};
-    say_list("send ", next->address);
-    say_list(" ", next->stage);
-    say_list(" ", next->toggle);
-    say_setup(next->setup);
+    say("send");
+    say_due(next);
     nzg_device_serve(device, next, file, 0, !one_in(9), &packet);
     if (packet.reply == NZG_DATA && !one_in(30)) nzg_device_acked(device);
     spoil(&packet, trouble_in);
@@ -194,7 +199,7 @@ static void say_forgiven(struct nzg_host *host) {
     }
 }
 
-static void say_outcome(struct nzg_host *host) {
+void say_outcome(struct nzg_host *host) {
     struct nzg_trouble trouble = {0};
     struct nzg_answer answer = nzg_host_outcome(host, &trouble, room, ROOM);
     say_answer(" outcome", answer);

@@ -1,6 +1,6 @@
 /* The same calls on every processor. What each gave is printed, so that two processors differ by `cmp`. The files are those that
  * the file `list` names, a line each; `counts` has how many steps each device gets, how often each file is mutated, and whether
- * each request for memory is refused and the stack is measured. */
+ * each request for memory is refused and the stack is measured; `scripts` has steps of both ends. */
 #include "steps.h"
 
 uint8_t file[66000], room[ROOM];
@@ -110,6 +110,7 @@ int main(void) {
         play((uint32_t)length, &wanted);
     }
     rules();
+    scripts();
     struct memory memory = memory_now();
     say_list("requests ", memory.calls);
     say_list(" live ", memory.live);

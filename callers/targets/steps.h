@@ -17,6 +17,11 @@ void say_answer(const char *what, struct nzg_answer answer);
 /* An answer and the bytes that it wrote into the room. */
 void say_text(const char *what, struct nzg_answer answer);
 void say_list(const char *what, uint64_t number);
+void say_packet(const struct nzg_packet *packet);
+void say_due(const struct nzg_transaction *due);
+/* What a device keeps, and what came of a host: a line each. */
+void say_state(struct nzg_device *device);
+void say_outcome(struct nzg_host *host);
 
 void device_steps(uint32_t length, uint8_t speed, uint32_t steps);
 void host_steps(uint32_t length, uint8_t speed, uint32_t trouble_in);
@@ -29,4 +34,5 @@ void pieces(uint32_t length);
 void enumerations(uint32_t length);
 void refusals(uint32_t length);
 void stacks(uint32_t length);
+void scripts(void);
 #endif
