@@ -1,11 +1,11 @@
-//! The control transfers that the frames of a recording tell of.
+//! The control transfers of the frames of a recording.
 ghost use Rattle.std.specs.Prelude.{◌≡◌, ◌++◌, ◌∷◌, [], List, Ok, Err, IfOk, is_ok};
 ghost use Rattle.std.specs.Option.{option_to_list};
 ghost use Rattle.usb_capture.specs.declared.control_transfer.ControlTransfer.{ControlTransfer};
 ghost use Rattle.usb_capture.specs.declared.frame.Frame.{Frame};
 ghost use Rattle.usb_capture.specs.declared.transaction.Transaction.{Transaction};
 ghost use Rattle.usb_capture.specs.BusTransfers.{HasMade};
-ghost use Rattle.usb_capture_lines.specs.Hearing.{HasListened, Heard, HeardIn, over_by, told_with};
+ghost use Rattle.usb_capture_lines.specs.Observations.{HasObserved, Observed, IsObserved, over_by, decoded_with};
 
 use crate::tally::one_more;
 use std::alloc::{AllocError, Global};
@@ -18,24 +18,24 @@ use usb_capture::{
 ///
 /// It holds the transfers whose end hasn't come, and one transaction.
 #[derive(Debug, Drop)]
-pub(crate) struct Listener {
+pub(crate) struct Observer {
     controls: ControlTransfers,
     transactions: BusTransactions,
     transfers: BusTransfers,
     /// How many frames were an event or a whole packet.
-    told: u64,
+    decoded: u64,
 }
 
-impl Listener {
-    /// One that has heard nothing.
-    pub(crate) fn new(alloc: Global) -> Listener
-        ensures { HasListened [] result }
+impl Observer {
+    /// One that has observed nothing.
+    pub(crate) fn new(alloc: Global) -> Observer
+        ensures { HasObserved [] result }
     {
-        Listener {
+        Observer {
             controls: ControlTransfers::new(alloc),
             transactions: BusTransactions::new(alloc),
             transfers: BusTransfers::new(alloc),
-            told: 0,
+            decoded: 0,
         }
     }
 
@@ -45,8 +45,8 @@ impl Listener {
         number: u64,
         frame: &Frame,
     ) -> Result<Option<ControlTransfer>, AllocError>
-        ensures { IfOk result (λ over. (heard : List Heard) → HasListened heard self.old
-            → (x : Heard) × HeardIn frame.now x × HasListened (x ∷ heard) self.new × (over ≡ over_by heard x)) }
+        ensures { IfOk result (λ over. (observed : List Observed) → HasObserved observed self.old
+            → (x : Observed) × IsObserved frame.now x × HasObserved (x ∷ observed) self.new × (over ≡ over_by observed x)) }
     {
         match Event::of_frame(frame) {
             Ok(event) => self.take_event(&event),
@@ -59,10 +59,10 @@ impl Listener {
 
     /// Takes an event of a host.
     fn take_event(&mut self, event: &Event<'_>) -> Result<Option<ControlTransfer>, AllocError>
-        ensures { IfOk result (λ over. (heard : List Heard) → HasListened heard self.old
-            → HasListened (Ok event.now ∷ heard) self.new × (over ≡ over_by heard (Ok event.now))) }
+        ensures { IfOk result (λ over. (observed : List Observed) → HasObserved observed self.old
+            → HasObserved (Ok event.now ∷ observed) self.new × (over ≡ over_by observed (Ok event.now))) }
     {
-        self.told = one_more(self.told);
+        self.decoded = one_more(self.decoded);
         self.controls.take(event)
     }
 
@@ -71,10 +71,10 @@ impl Listener {
         &mut self,
         packet: &RecordedPacket<'_>,
     ) -> Result<Option<ControlTransfer>, AllocError>
-        ensures { IfOk result (λ over. (heard : List Heard) → HasListened heard self.old
-            → HasListened (Err packet.now ∷ heard) self.new × (over ≡ over_by heard (Err packet.now))) }
+        ensures { IfOk result (λ over. (observed : List Observed) → HasObserved observed self.old
+            → HasObserved (Err packet.now ∷ observed) self.new × (over ≡ over_by observed (Err packet.now))) }
     {
-        self.told = told_with(packet, self.told);
+        self.decoded = decoded_with(packet, self.decoded);
         match self.transactions.take(packet)? {
             Some(transaction) => self.take_transaction(transaction),
             None => Ok(None),
@@ -90,16 +90,16 @@ impl Listener {
             → HasMade (before ++ transaction ∷ []) (given ++ option_to_list over) self.new.transfers) }
         ensures controls { self.new.controls ≡ self.old.controls }
         ensures transactions { self.new.transactions ≡ self.old.transactions }
-        ensures told { self.new.told ≡ self.old.told }
+        ensures decoded { self.new.decoded ≡ self.old.decoded }
     {
         self.transfers.take(&transaction)
     }
 
     /// How many frames were an event or a whole packet.
-    pub(crate) fn told(&self) -> u64
-        ensures { result ≡ self.now.told }
+    pub(crate) fn decoded(&self) -> u64
+        ensures { result ≡ self.now.decoded }
     {
-        self.told
+        self.decoded
     }
 
     /// The transfers of hosts whose end hasn't come.
@@ -117,12 +117,12 @@ impl Listener {
     }
 }
 
-/// How many frames told of a transfer, with that of this packet.
-fn told_with(packet: &RecordedPacket<'_>, told: u64) -> u64
-    ensures { result ≡ told_with (is_ok packet.now.packet) told }
+/// How many frames were an event or a whole packet, with that of this packet.
+fn decoded_with(packet: &RecordedPacket<'_>, decoded: u64) -> u64
+    ensures { result ≡ decoded_with (is_ok packet.now.packet) decoded }
 {
     match packet.packet {
-        Ok(_) => one_more(told),
-        Err(_) => told,
+        Ok(_) => one_more(decoded),
+        Err(_) => decoded,
     }
 }

@@ -1,0 +1,103 @@
+-- What is observed in one frame more.
+use Rattle.std.proofs.Common.{◌≡◌, List, [], ◌∷◌, ◌++◌, append-nil, refl, sym, ap, ◌∙◌, subst}
+use Rattle.std.proofs.lemmas.List.{append_cancel_left}
+use Rattle.std.specs.Prelude.{Option, Some, None, Ok, Err, is_ok, option_and_then}
+use Rattle.std.specs.Option.{option_to_list}
+use Rattle.usb_capture.specs.declared.bus_transactions.BusTransactions.{BusTransactions}
+use Rattle.usb_capture.specs.declared.bus_transfers.BusTransfers.{BusTransfers}
+use Rattle.usb_capture.specs.declared.control_transfer.ControlTransfer.{ControlTransfer}
+use Rattle.usb_capture.specs.declared.control_transfers.ControlTransfers.{ControlTransfers}
+use Rattle.usb_capture.specs.declared.event.Event.{Event}
+use Rattle.usb_capture.specs.declared.recorded_packet.RecordedPacket.{RecordedPacket}
+use Rattle.usb_capture.specs.declared.transaction.Transaction.{Transaction}
+use Rattle.usb_capture.specs.BusTransfers.{HasMade, none_open, pipes_after, pipes_in, transfer_over, transfers_in}
+use Rattle.usb_capture.specs.PacketSizes.{sizes_in}
+use Rattle.usb_capture.specs.Transactions.{HasHeard, bus_after, idle, over_with}
+use Rattle.usb_capture.specs.Transfers.{HasTaken, over_in}
+use Rattle.usb_capture.proofs.Folds.{given_push}
+use Rattle.usb_capture.proofs.TransferLemmas.{over_push}
+use Rattle.usb_capture_lines.specs.Observations.{HasObserved, Observed, events, over_by, packets, decoded_with, transaction_over, transactions}
+use Rattle.usb_capture_lines.specs.declared.observer.Observer.{Observer}
+
+-- what is given with the last element is known by the list with it
+abbrev first : {A : Type 0} → List A → Option A
+first [] = None
+first (x ∷ xs) = Some x
+
+first_of : {A : Type 0} (o : Option A) → first (option_to_list o) ≡ o
+first_of None = refl
+first_of (Some x) = refl
+
+same_given : {A : Type 0} (xs : List A) (a b : Option A) → xs ++ option_to_list a ≡ xs ++ option_to_list b → a ≡ b
+same_given xs a b is = sym (first_of a) ∙ ap first (append_cancel_left xs (option_to_list a) (option_to_list b) is) ∙ first_of b
+
+pub event_observed : (over : Option ControlTransfer) (observed : List Observed) (event : Event) (old new : ControlTransfers)
+    → ((before : List Event) (given : List ControlTransfer) → HasTaken before given old → HasTaken (before ++ event ∷ []) (given ++ option_to_list over) new)
+    → HasTaken (events observed) (over_in [] (events observed)) old
+    → HasTaken (events (Ok event ∷ observed)) (over_in [] (events (Ok event ∷ observed))) new × (over ≡ over_by observed (Ok event))
+event_observed over observed event old new takes has =
+    let h = takes (events observed) (over_in [] (events observed)) has in
+    ((h.0, refl), same_given (over_in [] (events observed)) over (over_by observed (Ok event)) (h.1 ∙ over_push [] (events observed) event))
+
+packet_observed : (over : Option Transaction) (observed : List Observed) (packet : RecordedPacket) (old new : BusTransactions)
+    → ((before : List RecordedPacket) (given : List Transaction) → HasHeard before given old → HasHeard (before ++ packet ∷ []) (given ++ option_to_list over) new)
+    → HasHeard (packets observed) (transactions observed) old
+    → HasHeard (packets (Err packet ∷ observed)) (transactions (Err packet ∷ observed)) new
+    × (transactions (Err packet ∷ observed) ≡ transactions observed ++ option_to_list over) × (over ≡ transaction_over observed packet)
+packet_observed over observed packet old new hears has =
+    let h = hears (packets observed) (transactions observed) has in (
+      (h.0, refl),
+      sym h.1,
+      same_given (transactions observed) over (transaction_over observed packet) (h.1 ∙ given_push bus_after over_with idle (packets observed) packet),
+    )
+
+transaction_heard : (over : Option ControlTransfer) (observed : List Observed) (packet : RecordedPacket) (one : Transaction) (old new : BusTransfers)
+    → ((before : List Transaction) (given : List ControlTransfer) → HasMade before given old → HasMade (before ++ one ∷ []) (given ++ option_to_list over) new)
+    → HasMade (transactions observed) (transfers_in (transactions observed)) old
+    → transactions (Err packet ∷ observed) ≡ transactions observed ++ one ∷ []
+    → HasMade (transactions (Err packet ∷ observed)) (transfers_in (transactions (Err packet ∷ observed))) new
+    × (over ≡ transfer_over one (pipes_in (transactions observed)))
+transaction_heard over observed packet one old new makes has is =
+    let before = transactions observed in
+    let m = makes before (transfers_in before) has in (
+      subst (λ ts. HasMade ts (transfers_in ts) new) (sym is) (m.0, refl, m.2 ∙ ap sizes_in m.1),
+      same_given (transfers_in before) over (transfer_over one (pipes_in before)) (m.1 ∙ given_push pipes_after transfer_over none_open before one),
+    )
+
+-- a packet with which a transaction is over
+pub heard_transaction : (over : Option ControlTransfer) (given : Option Transaction) (one : Transaction) (packet : RecordedPacket) (observed : List Observed) (old new : Observer) (bus : BusTransactions)
+    → given ≡ Some one
+    → ((before : List RecordedPacket) (so_far : List Transaction) → HasHeard before so_far old.transactions → HasHeard (before ++ packet ∷ []) (so_far ++ option_to_list given) bus)
+    → ((before : List Transaction) (so_far : List ControlTransfer) → HasMade before so_far old.transfers → HasMade (before ++ one ∷ []) (so_far ++ option_to_list over) new.transfers)
+    → new.controls ≡ old.controls → new.transactions ≡ bus → new.decoded ≡ decoded_with (is_ok packet.packet) old.decoded
+    → HasObserved observed old → HasObserved (Err packet ∷ observed) new × (over ≡ over_by observed (Err packet))
+heard_transaction over given one packet observed old new bus is hears makes controls bus-is decoded has =
+    let p = packet_observed given observed packet old.transactions bus hears has.bus in
+    let m = transaction_heard over observed packet one old.transfers new.transfers makes has.made (p.1 ∙ ap (λ o. transactions observed ++ option_to_list o) is) in (
+      record {
+        taken = subst (HasTaken (events observed) (over_in [] (events observed))) (sym controls) has.taken;
+        bus = subst (HasHeard (packets (Err packet ∷ observed)) (transactions (Err packet ∷ observed))) (sym bus-is) p.0;
+        made = m.0;
+        decoded = decoded ∙ ap (decoded_with (is_ok packet.packet)) has.decoded;
+      },
+      m.1 ∙ ap (option_and_then (λ t. transfer_over t (pipes_in (transactions observed)))) (sym is ∙ p.2),
+    )
+
+-- and one with which none is
+pub heard_no_transaction : (given : Option Transaction) (packet : RecordedPacket) (observed : List Observed) (old new : Observer)
+    → given ≡ None
+    → ((before : List RecordedPacket) (so_far : List Transaction) → HasHeard before so_far old.transactions → HasHeard (before ++ packet ∷ []) (so_far ++ option_to_list given) new.transactions)
+    → new.controls ≡ old.controls → new.transfers ≡ old.transfers → new.decoded ≡ decoded_with (is_ok packet.packet) old.decoded
+    → HasObserved observed old → HasObserved (Err packet ∷ observed) new × (None ≡ over_by observed (Err packet))
+heard_no_transaction given packet observed old new is hears controls transfers decoded has =
+    let p = packet_observed given observed packet old.transactions new.transactions hears has.bus in
+    let same : transactions (Err packet ∷ observed) ≡ transactions observed = p.1 ∙ ap (λ o. transactions observed ++ option_to_list o) is ∙ append-nil (transactions observed) in (
+      record {
+        taken = subst (HasTaken (events observed) (over_in [] (events observed))) (sym controls) has.taken;
+        bus = p.0;
+        made = subst (λ ts. HasMade ts (transfers_in ts) new.transfers) (sym same)
+            (subst (HasMade (transactions observed) (transfers_in (transactions observed))) (sym transfers) has.made);
+        decoded = decoded ∙ ap (decoded_with (is_ok packet.packet)) has.decoded;
+      },
+      ap (option_and_then (λ t. transfer_over t (pipes_in (transactions observed)))) (sym is ∙ p.2),
+    )
