@@ -4,7 +4,6 @@ use Rattle.std.proofs.lemmas.List.{append_cancel_left}
 use Rattle.std.specs.Prelude.{Option, Some, None, Ok, Err, is_ok, option_and_then}
 use Rattle.std.specs.Option.{option_to_list}
 use Rattle.usb_capture.specs.declared.bus_transactions.BusTransactions.{BusTransactions}
-use Rattle.usb_capture.specs.declared.bus_transfers.BusTransfers.{BusTransfers}
 use Rattle.usb_capture.specs.declared.control_transfer.ControlTransfer.{ControlTransfer}
 use Rattle.usb_capture.specs.declared.control_transfers.ControlTransfers.{ControlTransfers}
 use Rattle.usb_capture.specs.declared.event.Event.{Event}
@@ -51,53 +50,31 @@ packet_observed over observed packet old new hears has =
       same_given (transactions observed) over (transaction_over observed packet) (h.1 ∙ given_push bus_after over_with idle (packets observed) packet),
     )
 
-transaction_heard : (over : Option ControlTransfer) (observed : List Observed) (packet : RecordedPacket) (one : Transaction) (old new : BusTransfers)
-    → ((before : List Transaction) (given : List ControlTransfer) → HasMade before given old → HasMade (before ++ one ∷ []) (given ++ option_to_list over) new)
-    → HasMade (transactions observed) (transfers_in (transactions observed)) old
-    → transactions (Err packet ∷ observed) ≡ transactions observed ++ one ∷ []
-    → HasMade (transactions (Err packet ∷ observed)) (transfers_in (transactions (Err packet ∷ observed))) new
-    × (over ≡ transfer_over one (pipes_in (transactions observed)))
-transaction_heard over observed packet one old new makes has is =
-    let before = transactions observed in
-    let m = makes before (transfers_in before) has in (
-      subst (λ ts. HasMade ts (transfers_in ts) new) (sym is) (m.0, refl, m.2 ∙ ap sizes_in m.1),
-      same_given (transfers_in before) over (transfer_over one (pipes_in before)) (m.1 ∙ given_push pipes_after transfer_over none_open before one),
-    )
+-- the transfer that is over with a transaction, if one is
+transfer_with : (given : Option Transaction) (transfer : Option ControlTransfer) (before : List Transaction)
+    → transfers_in before ++ option_to_list transfer ≡ transfers_in (before ++ option_to_list given)
+    → transfer ≡ option_and_then (λ t. transfer_over t (pipes_in before)) given
+transfer_with None transfer before is =
+    same_given (transfers_in before) transfer None (is ∙ ap transfers_in (append-nil before) ∙ sym (append-nil (transfers_in before)))
+transfer_with (Some one) transfer before is =
+    same_given (transfers_in before) transfer (transfer_over one (pipes_in before)) (is ∙ given_push pipes_after transfer_over none_open before one)
 
--- a packet with which a transaction is over
-pub heard_transaction : (over : Option ControlTransfer) (given : Option Transaction) (one : Transaction) (packet : RecordedPacket) (observed : List Observed) (old new : Observer) (bus : BusTransactions)
-    → given ≡ Some one
+-- a packet, and the transaction that is over with it, if one is
+pub observed_more : (transfer : Option ControlTransfer) (given : Option Transaction) (packet : RecordedPacket) (observed : List Observed) (old new : Observer) (bus : BusTransactions)
     → ((before : List RecordedPacket) (so_far : List Transaction) → HasHeard before so_far old.transactions → HasHeard (before ++ packet ∷ []) (so_far ++ option_to_list given) bus)
-    → ((before : List Transaction) (so_far : List ControlTransfer) → HasMade before so_far old.transfers → HasMade (before ++ one ∷ []) (so_far ++ option_to_list over) new.transfers)
+    → ((before : List Transaction) (so_far : List ControlTransfer) → HasMade before so_far old.transfers → HasMade (before ++ option_to_list given) (so_far ++ option_to_list transfer) new.transfers)
     → new.controls ≡ old.controls → new.transactions ≡ bus → new.decoded ≡ decoded_with (is_ok packet.packet) old.decoded
-    → HasObserved observed old → HasObserved (Err packet ∷ observed) new × (over ≡ over_by observed (Err packet))
-heard_transaction over given one packet observed old new bus is hears makes controls bus-is decoded has =
+    → HasObserved observed old → HasObserved (Err packet ∷ observed) new × (transfer ≡ over_by observed (Err packet)) × (given ≡ transaction_over observed packet)
+observed_more transfer given packet observed old new bus hears makes controls bus-is decoded has =
+    let before = transactions observed in
     let p = packet_observed given observed packet old.transactions bus hears has.bus in
-    let m = transaction_heard over observed packet one old.transfers new.transfers makes has.made (p.1 ∙ ap (λ o. transactions observed ++ option_to_list o) is) in (
+    let m = makes before (transfers_in before) has.made in (
       record {
         taken = subst (HasTaken (events observed) (over_in [] (events observed))) (sym controls) has.taken;
         bus = subst (HasHeard (packets (Err packet ∷ observed)) (transactions (Err packet ∷ observed))) (sym bus-is) p.0;
-        made = m.0;
+        made = subst (λ ts. HasMade ts (transfers_in ts) new.transfers) (sym p.1) (m.0, refl, m.2 ∙ ap sizes_in m.1);
         decoded = decoded ∙ ap (decoded_with (is_ok packet.packet)) has.decoded;
       },
-      m.1 ∙ ap (option_and_then (λ t. transfer_over t (pipes_in (transactions observed)))) (sym is ∙ p.2),
-    )
-
--- and one with which none is
-pub heard_no_transaction : (given : Option Transaction) (packet : RecordedPacket) (observed : List Observed) (old new : Observer)
-    → given ≡ None
-    → ((before : List RecordedPacket) (so_far : List Transaction) → HasHeard before so_far old.transactions → HasHeard (before ++ packet ∷ []) (so_far ++ option_to_list given) new.transactions)
-    → new.controls ≡ old.controls → new.transfers ≡ old.transfers → new.decoded ≡ decoded_with (is_ok packet.packet) old.decoded
-    → HasObserved observed old → HasObserved (Err packet ∷ observed) new × (None ≡ over_by observed (Err packet))
-heard_no_transaction given packet observed old new is hears controls transfers decoded has =
-    let p = packet_observed given observed packet old.transactions new.transactions hears has.bus in
-    let same : transactions (Err packet ∷ observed) ≡ transactions observed = p.1 ∙ ap (λ o. transactions observed ++ option_to_list o) is ∙ append-nil (transactions observed) in (
-      record {
-        taken = subst (HasTaken (events observed) (over_in [] (events observed))) (sym controls) has.taken;
-        bus = p.0;
-        made = subst (λ ts. HasMade ts (transfers_in ts) new.transfers) (sym same)
-            (subst (HasMade (transactions observed) (transfers_in (transactions observed))) (sym transfers) has.made);
-        decoded = decoded ∙ ap (decoded_with (is_ok packet.packet)) has.decoded;
-      },
-      ap (option_and_then (λ t. transfer_over t (pipes_in (transactions observed)))) (sym is ∙ p.2),
+      transfer_with given transfer before m.1 ∙ ap (option_and_then (λ t. transfer_over t (pipes_in before))) p.2,
+      p.2,
     )

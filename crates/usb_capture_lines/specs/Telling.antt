@@ -15,6 +15,6 @@ pub record HasSaid (frames : List Frame) (observed : List Observed) (teller : Te
   pub observer : HasObserved observed teller.observer
   pub knows : Knows (overs observed) teller.conversations
   pub kept : HasCurrent (reverse (overs observed)) teller.readings
-  pub devices : teller.devices.items ≡ devices_of (overs observed)
+  pub devices : teller.devices.items ≡ devices_of observed
   pub tally : teller.tally ≡ tally_of frames
   pub written : Appends held holds (told_text teller.selection teller.first frames observed)
