@@ -115,7 +115,7 @@ def output(line):
 def told_in(data, words, **options):
     """The run with these words over a recording, whose lines the second reading has."""
     lines = "".join(f"{line}\n" for line in recorded.said(data, **options))
-    return Run(["capture", *words], data, recorded.status_of(recorded.Recording(data).over, options.get("device")), lines.encode())
+    return Run(["capture", *words], data, recorded.status_of(recorded.Recording(data), options.get("device")), lines.encode())
 
 
 def file_in(data, recording, device):
@@ -130,12 +130,12 @@ def capture(name):
     """A recording, with each option, and cut: a short one at each byte."""
     data = bytes_of(name)
     recording = recorded.Recording(data)
-    status = recorded.status_of(recording.over)
+    status = recorded.status_of(recording)
     yield Run(["capture"], data, status, bytes_of(name, ".said"))
     yield Run(["capture", "--data"], data, status, bytes_of(name, ".bytes"))
     yield told_in(data, ["--brief"], with_data=False, brief=True)
     yield told_in(data, ["--from", "0.001", "--to", "93.5"], with_data=False, times=(10**6, 935 * 10**8))
-    for device in [*dict.fromkeys(it["device"] for it in recording.over), (9, 9)]:
+    for device in [*filter(None, recording.findings()), (9, 9)]:
         yield told_in(data, ["--device", "{}.{}".format(*device)], with_data=False, device=device)
         yield file_in(data, recording, device)
     for length in range(0, len(data), 1 if len(data) < 500 else len(data) // 40):

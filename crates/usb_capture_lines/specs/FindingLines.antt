@@ -1,8 +1,18 @@
--- What USB 2.0 forbids, in words, with its sections.
-use Rattle.std.specs.Prelude.{ℕ, List, ◌++◌, codes}
+-- The lines of what USB 2.0 forbids, with its sections.
+use Rattle.std.specs.Prelude.{ℕ, List, ◌++◌, codes, Option, Some, None}
 use Rattle.std.specs.List.{flat_map}
+use Rattle.std.specs.Fmt.{decimal}
+use Rattle.usb_text.specs.Lines.{column}
+use Rattle.usb_wire.specs.declared.damage.Damage.{Damage}
+use Rattle.usb_wire.specs.declared.damage.Damage.TheVariants.{Empty, Pid, Reserved, Length, Crc5, Crc16}
 use Rattle.usb_capture.specs.declared.finding.Finding.{Finding}
 use Rattle.usb_capture.specs.declared.finding.Finding.TheVariants.{MoreThanAsked, OtherType, OtherLength, OtherBytes, RefusesGiven, RefusesRequired, RefusesCounted, RefusesNamed, RefusesStatus}
+use Rattle.usb_capture.specs.declared.packet_finding.PacketFinding.{PacketFinding}
+use Rattle.usb_capture.specs.declared.packet_finding.PacketFinding.TheVariants.{Damaged, NoHandshake, NoRequest, SetupRefused, Toggle, Long, NoShortPacket}
+use Rattle.usb_capture_lines.specs.BusFindings.{device_of}
+use Rattle.usb_capture_lines.specs.Lines.{address_words, time_column}
+use Rattle.usb_capture_lines.specs.declared.bus_finding.BusFinding.{BusFinding}
+use Rattle.usb_capture_lines.specs.declared.selection.DeviceAddress.{DeviceAddress}
 
 abbrev pub finding_words : Finding → List ℕ
 finding_words MoreThanAsked = codes "more bytes than wLength (8.5.3, 9.3.5)"
@@ -21,3 +31,34 @@ finding_line finding = codes "           ! " ++ finding_words finding ++ codes "
 -- below a transfer, a line for each finding
 abbrev pub finding_lines : List Finding → List ℕ
 finding_lines found = flat_map finding_line found
+
+-- a device, if it is known
+abbrev pub device_name : Option DeviceAddress → List ℕ
+device_name None = codes "-"
+device_name (Some a) = address_words a.bus a.device
+
+unfoldable pub frame_words : ℕ → List ℕ
+frame_words number = codes ", frame " ++ decimal number ++ codes "\n"
+
+abbrev pub damage_words : Damage → List ℕ
+damage_words Empty = codes "a packet without a byte (8.3.1)"
+damage_words Pid = codes "wrong check bits of a PID (8.3.1)"
+damage_words Reserved = codes "a reserved PID (8.3.1)"
+damage_words Length = codes "a length that its PID doesn't have (8.4)"
+damage_words Crc5 = codes "a wrong 5-bit CRC (8.3.5.1)"
+damage_words Crc16 = codes "a wrong 16-bit CRC (8.3.5.2)"
+
+abbrev pub packet_words : PacketFinding → List ℕ
+packet_words (Damaged damage) = damage_words damage
+packet_words NoHandshake = codes "no handshake (8.5)"
+packet_words NoRequest = codes "SETUP without eight bytes of DATA0 (8.5.3)"
+packet_words SetupRefused = codes "NAK, STALL or NYET of SETUP (8.4.6.4)"
+packet_words Toggle = codes "a wrong data toggle (8.5.3, 8.6)"
+packet_words Long = codes "a packet over bMaxPacketSize0 (5.5.3, 9.6.1)"
+packet_words NoShortPacket = codes "no short packet at the end (5.5.3, 8.5.3.2)"
+
+-- in packets: when it was, whose it is, what is wrong, and which frame has the packet or the token of the transaction
+unfoldable pub bus_finding_line : ℕ → BusFinding → List ℕ
+bus_finding_line origin found =
+    time_column origin found.time ++ column 6 (device_name (device_of found))
+    ++ codes "! " ++ packet_words found.finding ++ frame_words found.number
