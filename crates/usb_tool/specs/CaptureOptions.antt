@@ -19,10 +19,14 @@ is_point byte = byte == 46
 abbrev pub around_point : List ℕ → Option (List ℕ × List ℕ)
 around_point text = if nat_lt (position_or_len is_point text) (length text) then Some (before_first is_point text, after_first is_point text) else None
 
+-- a number of a bus or an address, maybe with zeros before it, as lsusb writes them: a plus, which is 43, is none
+abbrev pub device_number : List ℕ → Option ℕ
+device_number text = if slice_index text 0 == 43 then None else number_of 16 text
+
 -- a device: the number of its bus, a point, and its address
 abbrev pub device_of : List ℕ → Option DeviceAddress
 device_of text =
-    option_and_then (λ (p : List ℕ × List ℕ). option_and_then (λ bus. option_map (λ device. record { bus = bus; device = device }) (number_of 16 p.1)) (number_of 16 p.0)) (around_point text)
+    option_and_then (λ (p : List ℕ × List ℕ). option_and_then (λ bus. option_map (λ device. record { bus = bus; device = device }) (device_number p.1)) (device_number p.0)) (around_point text)
 
 -- nanoseconds of a whole number of seconds, and of at most nine digits after a point: a plus, which is 43, is none
 abbrev pub whole_time : List ℕ → Option ℕ

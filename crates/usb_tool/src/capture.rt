@@ -13,8 +13,8 @@ use usb_capture_lines::{DeviceAddress, Selection, read_device, tell_recording};
 
 /// Reads a recording of a bus to its end, however long it is, and writes its lines as its bytes come, or the descriptors of
 /// one of its devices. It keeps no more of a recording than a
-/// [`RecordingTeller`](usb_capture_lines::RecordingTeller). The number in `Ok` is 1
-/// where something was found in the transfers of a device whose lines are wanted, and else 0.
+/// [`RecordingTeller`](usb_capture_lines::RecordingTeller). The number in `Ok` is 1 where a device whose lines are wanted,
+/// or a packet without one, breaks a rule of chapter 8 or 9, and else 0.
 ///
 /// ```rust
 /// let mut input: &[u8] = b"ffff8800 1000000 S Ci:1:005:0 s 80 06 0100 0000 0012 18 <

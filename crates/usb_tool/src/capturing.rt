@@ -1,6 +1,6 @@
 //! What the options of `capture` mean.
 ghost use Rattle.std.specs.Prelude.{◌≡◌, ◌≤◌, ◌-◌, ◌*◌, ◌^◌, IfErr, IfOk, IfSome, option_map};
-ghost use Rattle.usb_tool.specs.CaptureOptions.{IsCaptureCommand, IsFileCommand, IsLinesCommand, IsSelected, RefusesCapturing, RefusesFile, RefusesSelecting, around_point, asks_lines, asks_transfers, device_of, device_said, fraction_of, time_of, time_said, whole_time};
+ghost use Rattle.usb_tool.specs.CaptureOptions.{IsCaptureCommand, IsFileCommand, IsLinesCommand, IsSelected, RefusesCapturing, RefusesFile, RefusesSelecting, around_point, asks_lines, asks_transfers, device_number, device_of, device_said, fraction_of, time_of, time_said, whole_time};
 ghost use Rattle.usb_tool.specs.OptionValues.{number_of};
 
 use crate::settings::SettingsFault;
@@ -133,9 +133,19 @@ fn device_of(text: &str) -> Option<DeviceAddress>
 {
     let (bus, device) = around_point(text)?;
     Some(DeviceAddress {
-        bus: short_number(bus)?,
-        device: short_number(device)?,
+        bus: device_number(bus)?,
+        device: device_number(device)?,
     })
+}
+
+/// The number of a bus or an address, maybe with zeros before it, as lsusb writes them.
+fn device_number(text: &str) -> Option<u16>
+    ensures { result ≡ device_number text.now }
+{
+    if byte_at(text.as_bytes(), 0) == b'+' {
+        return None;
+    }
+    short_number(text)
 }
 
 /// The time that an option names, if it is given, in nanoseconds.
