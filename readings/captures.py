@@ -138,6 +138,81 @@ def broken():
     ]
 
 
+NAME = bytes.fromhex("1003") + "wrong12".encode("utf-16-le")
+
+
+def right():
+    """An enumeration in which nothing is wrong: a busy device, other endpoints, and a string with an empty packet after whole ones."""
+    return [
+        FRAME, *read(0, "8006000100004000", DEVICE[:8]), *ordered(0, "0005070000000000"), FRAME, *read(7, "8006000100001200", DEVICE),
+        *asked(7, "8006000200000900"), token("In", 7), NAK, token("In", 7), sent("Data1", SET[:8]), ACK, token("In", 7), sent("Data0", SET[8:9]), ACK,
+        token("Out", 7), sent("Data1", b""), NAK, token("Out", 7), sent("Data1", b""), ACK, token("In", 7, 1), NAK,
+        *read(7, "8006000200001900", SET), *read(7, "800600030000ff00", bytes.fromhex("04030904")), *read(7, "800602030904ff00", NAME),
+        *refused(7, "8006000600000a00"), *ordered(7, "0009010000000000"), token("In", 7, 1), sent("Data0", bytes(16)), ACK, FRAME,
+    ]
+
+
+def wrong():
+    """What chapter 8 forbids in packets: each kind of damage, of no device that is known but for the last, and each of the others."""
+    setup = token("Setup", 7)
+    return [
+        b"", packets.changed(ACK, [4]), b"\xf0", ACK + b"\0", packets.changed(setup, [20]),
+        *read(0, "8006000100004000", DEVICE), *ordered(0, "0005070000000000"), *read(7, "8006000100001200", DEVICE),
+        # The second packet has the toggle of the first one, which came before its ACK and after it.
+        *asked(7, "8006000200001900"), token("In", 7), sent("Data1", SET[:8]), packets.changed(ACK, [0]), token("In", 7), sent("Data1", SET[:8]), ACK,
+        token("In", 7), sent("Data1", SET[:8]), ACK, token("In", 7), sent("Data0", SET[8:16]), ACK, token("In", 7), sent("Data1", SET[16:24]), ACK,
+        token("In", 7), sent("Data0", SET[24:]), ACK, token("Out", 7), sent("Data1", b""), ACK,
+        # Nine bytes, where bMaxPacketSize0 is eight, and two whole packets without an empty one after them.
+        *read(7, "8006000200000900", SET[:9], 9),
+        *asked(7, "800602030904ff00"), token("In", 7), sent("Data1", NAME[:8]), ACK, token("In", 7), sent("Data0", NAME[8:]), ACK, token("Out", 7), sent("Data1", b""), ACK,
+        setup, sent("Data1", bytes(8)), ACK, setup, sent("Data0", bytes(7)), STALL, setup, sent("Data0", bytes(8)), NAK,
+        token("In", 8), FRAME, setup, packets.changed(sent("Data0", bytes(8)), [9]), setup, FRAME,
+    ]
+
+
+def in_turn():
+    """Two devices that have address 0 in turn, of other sizes and names, each after a reset, and then addresses of their own."""
+    other = DEVICE[:7] + b"\x40" + b"\x21\x43" + DEVICE[10:]
+    return [
+        *read(0, "8006000100001200", DEVICE), *ordered(0, "0005070000000000"), *read(7, "8006000200001900", SET),
+        *read(0, "8006000100001200", other, 64), *ordered(0, "0005080000000000"), *read(8, "8006000200001900", OTHER_SET, 64),
+        *read(0, "8006000100001200", DEVICE), *ordered(0, "0005090000000000"), *read(7, "8006000100001200", DEVICE), *read(8, "8006000100001200", other, 64), FRAME,
+    ]
+
+
+def monitored(order, letter, device, setup, status, data, length=None):
+    """struct usbmon_packet of the kernel's document, 64 bytes, of endpoint zero of bus 1: its id is the device's address."""
+    size = len(data) if length is None else length
+    head = struct.pack(order + "QBBBBHBBqiiII", 0xFFFF8800 + device, ord(letter), 2, 0x80, device, 1, 0 if setup else ord("-"), 0 if data else ord("<"), 0, 0, status, size, len(data))
+    return head + (setup or bytes(8)) + bytes(16) + data
+
+
+def of_windows(stage, device, back, status, data):
+    """USBPcap's header of a control transfer, 28 bytes, of bus 2."""
+    return struct.pack("<HQIHBHHBBIB", 28, 0x1000 + device, status, 8, back, 2, device, 0x80, 2, len(data), stage) + data
+
+
+def links():
+    """A transfer of each of three link types, each by an interface of its own, one after another and within one another."""
+    setup = bytes.fromhex("8006000100001200")
+    frames = [
+        (0, monitored("<", "S", 5, setup, -115, b"", 18)), (1, of_windows(0, 6, 0, 0, setup)), *((2, body) for body in read(7, setup.hex(), DEVICE)[:6]),
+        (1, of_windows(3, 6, 1, 0, DEVICE)), (0, monitored("<", "C", 5, None, 0, DEVICE)), *((2, body) for body in read(7, setup.hex(), DEVICE)[6:]),
+        (1, of_windows(0, 6, 0, 0, setup)), (1, of_windows(3, 6, 1, 0xC0000004, b"")), (0, monitored("<", "S", 5, setup, -115, b"", 18)[:63]),
+    ]
+    return section("<") + b"".join(interface("<", link) for link in (220, 249, 288)) + b"".join(
+        enhanced("<", number, 10 * place, len(body), body) for place, (number, body) in enumerate(frames))
+
+
+TEXT = b"""ffff8801 2000000 S Ci:1:000:0 s 80 06 0100 0000 0040 64 <
+ffff8801 2000250 C Ci:1:000:0 0 18 = 12010002 00000008 34127856 00010102 0001
+ffff8801 1999000 S Co:1:000:0 s 00 05 0007 0000 0000 0
+ffff8801 1999500 C Co:1:000:0 0 0
+ffff8801 2000600 S Ci:1:007:0 s 80 06 0200 0000 0009 9 <
+ffff8801 2000700 C Ci:1:007:0 -71 0
+"""
+
+
 def heard(link, bodies):
     """A record every 10 microseconds; the last one is cut."""
     records = [(9, 10 * number, len(data) + (number + 1 == len(bodies)), data) for number, data in enumerate(bodies)]
@@ -145,7 +220,7 @@ def heard(link, bodies):
     return pcap("<", 0xA1B2C3D4, link, records), times
 
 
-# Each file, and of its frames the time, or none, the lengths in the file and on the bus, and the interface.
+# Each file, and of its frames the time, or none, the lengths in the file and on the bus, and the interface, where tshark is asked.
 RECORDS = [(3, 7, 3, b"\xaa\xbb\xcc"), (2, 999_999, 65_536, b"")]
 MICROSECONDS = [("3.000007000", 3, 3, 0), ("2.999999000", 0, 65_536, 0)]
 NANOSECONDS = [("3.000000007", 3, 3, 0), ("2.000999999", 0, 65_536, 0)]
@@ -159,6 +234,11 @@ FILES = {
         ("1699999999.000000953", 1, 1, 6), ("1700000000.012345678", 1, 1, 7)]),
     "packets.pcap": heard(294, enumerated()),
     "broken-packets.pcap": heard(288, broken()),
+    "right-packets.pcap": heard(294, right()),
+    "wrong-packets.pcap": heard(288, wrong()),
+    "in-turn.pcap": heard(288, in_turn()),
+    "links.pcapng": (links(), None),
+    "short.text": (TEXT, None),
 }
 
 
@@ -166,6 +246,8 @@ def compare():
     """Says where tshark reads other frames."""
     differs = False
     for name, (data, wanted) in FILES.items():
+        if wanted is None:
+            continue
         fields = ("frame.time_epoch", "frame.cap_len", "frame.len", "frame.interface_id")
         words = ["tshark", "-r", "-", "-T", "fields", *(word for field in fields for word in ("-e", field))]
         ran = subprocess.run(words, input=data, capture_output=True, check=True).stdout.decode()

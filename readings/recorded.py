@@ -58,6 +58,15 @@ FINDINGS = {
     "C6": "the device has it: bNumConfigurations counts it (9.6.1, 9.6.2)", "C7": "the device has it: a descriptor names it (9.6.7)",
     "C8": "the device has an address, so it answers (9.4.5)",
 }
+# In packets: by their damage, and of a transaction with endpoint zero.
+DAMAGES = {
+    "Empty": "a packet without a byte (8.3.1)", "Pid": "wrong check bits of a PID (8.3.1)", "Reserved": "a reserved PID (8.3.1)",
+    "Length": "a length that its PID doesn't have (8.4)", "Crc5": "a wrong 5-bit CRC (8.3.5.1)", "Crc16": "a wrong 16-bit CRC (8.3.5.2)",
+}
+TRANSACTIONS = {
+    "NoHandshake": "no handshake (8.5)", "NoRequest": "SETUP without eight bytes of DATA0 (8.5.3)", "SetupRefused": "NAK, STALL or NYET of SETUP (8.4.6.4)",
+    "Toggle": "a wrong data toggle (8.5.3, 8.6)", "Long": "a packet over bMaxPacketSize0 (5.5.3, 9.6.1)", "NoShortPacket": "no short packet at the end (5.5.3, 8.5.3.2)",
+}
 
 
 class Broken(Exception):
@@ -227,55 +236,107 @@ class Bus:
     """The transactions with endpoint zero of a bus (USB 2.0, 8.5), and the control transfers whose stages they are (8.5.3)."""
 
     def __init__(self):
-        self.current, self.is_split, self.open = None, False, {}
+        self.current, self.is_split, self.open, self.sizes = None, False, {}, {}
 
-    def take(self, time, name, fields):
-        """The transfer that is over with a packet, or with a damaged or cut one, which is named damage; or None."""
-        over, current = None, self.current
+    def take(self, place, name, fields):
+        """The transaction that is over with a packet, or with a damaged or cut one, which is named damage; or None."""
+        current = self.current
         if name == "Pre":
             return None
         if name in packets.DATA and current and current["token"] != "Ping" and current["data"] is None:
             current["data"] = name, fields[0]
             return None
-        if current:
-            over = self.end_of({**current, "handshake": name if name in ("Ack", "Nak", "Stall", "Nyet") else None})
         self.current = None
         if name in ("Out", "In", "Setup", "Ping") and fields[1] == 0 and not self.is_split:
-            self.current = {"token": name, "address": fields[0], "time": time, "data": None}
+            self.current = {"token": name, "address": fields[0], "place": place, "data": None}
         if name not in packets.DATA:
             self.is_split = name == "Split"
-        return over
+        return current and {**current, "handshake": name if name in ("Ack", "Nak", "Stall", "Nyet") else None}
 
     def end_of(self, transaction):
         """The transfer that is over with a transaction."""
         address, token, data, shake = (transaction[it] for it in ("address", "token", "data", "handshake"))
-        going = self.open.pop(address, None)
-        if token == "Setup" and data and data[0] == "Data0" and len(data[1]) == 8:
-            self.open[address] = {"device": (0, address), "time": transaction["time"], "setup": data[1], "data": b"", "length": 0, "cut": False,
-                                  "ending": ("unseen", 0), "toggle": "Data1"}
+        going, time = self.open.pop(address, None), transaction["place"][1]
+        if is_request(transaction):
+            self.open[address] = {"device": (0, address), "time": time, "setup": data[1], "data": b"", "length": 0, "cut": False,
+                                  "ending": ("unseen", 0), "toggle": "Data1", "unheard": False, "last": 0}
             return going
         if going is None:
             return None
-        reads = going["setup"][0] >= 128 and any(going["setup"][6:8])
         # The host says with ACK that it has data from the device; a device that it took them, with ACK or NYET.
-        is_taken, is_of_data = token == "In" or shake in ("Ack", "Nyet"), token == ("In" if reads else "Out")
+        is_taken, is_of_data = token == "In" or shake in ("Ack", "Nyet"), token == ("In" if reads(going) else "Out")
         if shake == "Stall":
             going["ending"] = "stall", 0
-        elif data and token in ("In", "Out") and is_taken and not is_of_data and data[0] == "Data1":
+        elif is_status(going, transaction):
             going["ending"] = "done", 0
         if going["ending"][0] != "unseen":
             # Where the end has no time, that of the setup packet is left.
-            going["time"] = going["time"] if transaction["time"] is None else transaction["time"]
+            going["time"] = going["time"] if time is None else time
             return going
         if data and is_taken and is_of_data and data[0] == going["toggle"]:
             going["toggle"] = {"Data0": "Data1", "Data1": "Data0"}[going["toggle"]]
             going["length"] += len(data[1])
+            going["last"] = len(data[1])
             if len(going["data"]) + len(data[1]) <= 65_535:
                 going["data"] += data[1]
             else:
                 going["cut"] = True
+        if data:
+            going["unheard"] = shake != "Ack"
         self.open[address] = going
         return None
+
+    def learn(self, transfer):
+        """bMaxPacketSize0 of the device of an address. SET_ADDRESS brings another device there."""
+        setup = transfer["setup"]
+        if is_reading(transfer) and setup[3] == 1:
+            self.sizes[transfer["device"][1]] = transfer["data"][7]
+        elif setup[:2] == b"\0\5" and transfer["ending"][0] == "done":
+            self.sizes.pop(setup[2], None)
+
+    def found_in(self, transaction):
+        """What is wrong in a transaction, by name, before it is taken."""
+        address, token, data, shake = (transaction[it] for it in ("address", "token", "data", "handshake"))
+        going = None if is_request(transaction) else self.open.get(address)
+        size = self.sizes.get(address, 0) if address else 0
+        tests = {
+            "NoHandshake": shake is None,
+            "NoRequest": token == "Setup" and not is_request(transaction),
+            "SetupRefused": token == "Setup" and shake in ("Nak", "Stall", "Nyet"),
+            "Toggle": going and has_wrong_toggle(going, token, data),
+            "Long": token in ("In", "Out") and data and 0 < size < len(data[1]),
+            "NoShortPacket": going and reads(going) and going["length"] < word(going["setup"], 6) and 0 < size <= going["last"]
+            and shake != "Stall" and is_status(going, transaction),
+        }
+        return [name for name in TRANSACTIONS if tests[name]]
+
+
+def is_request(transaction):
+    """Whether a transaction begins a transfer: SETUP with eight bytes of DATA0 (8.5.3)."""
+    data = transaction["data"]
+    return bool(transaction["token"] == "Setup" and data and data[0] == "Data0" and len(data[1]) == 8)
+
+
+def reads(transfer):
+    """Whether the device sends the data stage (9.3.1)."""
+    return transfer["setup"][0] >= 128 and any(transfer["setup"][6:8])
+
+
+def is_status(transfer, transaction):
+    """Whether a transaction is the status stage: the other way than the data, with DATA1, taken by whom it is for (8.5.3)."""
+    token, data, shake = (transaction[it] for it in ("token", "data", "handshake"))
+    if not data or data[0] != "Data1":
+        return False
+    return token == "Out" and shake in ("Ack", "Nyet") if reads(transfer) else token == "In"
+
+
+def has_wrong_toggle(transfer, token, data):
+    """Whether a data packet is neither the next one nor one from the device that may come again (8.5.3, 8.6.4)."""
+    if not data or token not in ("In", "Out"):
+        return False
+    if token == ("In" if reads(transfer) else "Out"):
+        return data[0] != transfer["toggle"] and not (token == "In" and transfer["unheard"])
+    return data[0] != "Data1"
 
 
 class Conversations:
@@ -347,12 +408,13 @@ def gives(transfer):
 
 
 class Recording:
-    """The control transfers of a recording, in the order in which they ended, each with what is found in it, and what is counted."""
+    """The control transfers of a recording, in the order in which they ended, each with what is found in it, what is wrong in
+    packets, each with its place, and what is counted."""
 
     def __init__(self, data):
         self.form, frames = frames_of(data)
         self.data, self.times, self.link, self.told, self.count = data, [], None, 0, 0
-        self.over, self.open, self.cut = [], {}, None
+        self.over, self.open, self.cut, self.order = [], {}, None, []
         self.bus, self.conversations = Bus(), Conversations()
         try:
             for time, link, order, cut, got in frames:
@@ -365,9 +427,7 @@ class Recording:
         self.times.append(time)
         self.link = link if self.link is None else self.link
         if link in BUS:
-            name, fields = ("damage", []) if cut else packets.read(got)
-            self.told += name != "damage"
-            self.end(self.bus.take(time, name, fields))
+            self.take_packet((self.count, time), cut, got)
         if event is None:
             return
         self.told += 1
@@ -390,10 +450,34 @@ class Recording:
             else:
                 self.open[number] = earlier
 
+    def take_packet(self, place, cut, got):
+        """Takes a packet: the transfer that is over comes first, then what is wrong in the transaction, and in the packet."""
+        name, fields = ("damage", []) if cut else packets.read(got)
+        self.told += name != "damage"
+        over = self.bus.take(place, name, fields)
+        device = over and (0, over["address"])
+        if over:
+            found = self.bus.found_in(over)
+            transfer = self.bus.end_of(over)
+            if transfer:
+                self.bus.learn(transfer)
+            self.end(transfer)
+            self.order += [{"place": over["place"], "device": device, "words": TRANSACTIONS[one]} for one in found]
+        if name == "damage" and not cut:
+            self.order.append({"place": place, "device": device, "words": DAMAGES[packets.damage_of(got)]})
+
     def end(self, transfer):
         if transfer:
             transfer["found"] = self.conversations.take(transfer)
             self.over.append(transfer)
+            self.order.append(transfer)
+
+    def findings(self):
+        """How many findings each device has, in the order in which they are first seen; of None are those of no device that is known."""
+        counts = {}
+        for one in self.order:
+            counts[one["device"]] = counts.get(one["device"], 0) + (1 if "words" in one else len(one["found"]))
+        return counts
 
 
 def request_words(setup):
@@ -448,6 +532,13 @@ def lines_of(transfer, origin, with_data):
             yield " " * 11 + transfer["data"][at : at + 32].hex()
     for finding in transfer.get("found", []):
         yield " " * 11 + "! " + FINDINGS[finding]
+
+
+def finding_line(one, origin):
+    """The line of what is wrong in packets."""
+    number, time = one["place"]
+    device = "{}.{}".format(*one["device"]) if one["device"] else "-"
+    return column(time_words(time, origin), 11) + column(device, 6) + f"! {one['words']}, frame {number}"
 
 
 def is_reading(transfer):
@@ -517,16 +608,16 @@ def file_of(over, device):
     return dump if None in strings else b"".join([dump, *other, *strings])
 
 
-def status_of(over, device=None):
-    """1 where something is found in transfers, or in those of a device, and else 0."""
-    return int(any(transfer["found"] for transfer in over if device in (None, transfer["device"])))
+def status_of(recording, device=None):
+    """1 where something is found, or of a device, and else 0."""
+    return int(any(count for one, count in recording.findings().items() if device in (None, one)))
 
 
-def is_within(transfer, origin, times):
-    """Whether the time of a transfer is within these nanoseconds. One that isn't known is."""
+def is_within(time, origin, times):
+    """Whether a time is within these nanoseconds. One that isn't known is."""
     least, greatest = times
-    time = None if transfer["time"] is None else max(transfer["time"] - origin, 0)
-    return time is None or (least or 0) <= time <= (2**64 if greatest is None else greatest)
+    after = None if time is None else max(time - origin, 0)
+    return after is None or (least or 0) <= after <= (2**64 if greatest is None else greatest)
 
 
 def said(data, with_data=True, brief=False, device=None, times=(None, None)):
@@ -535,9 +626,11 @@ def said(data, with_data=True, brief=False, device=None, times=(None, None)):
     origin = (recording.times[0] or 0) if recording.times else 0
     if recording.count:
         yield f"capture: {recording.form}, {LINKS.get(recording.link, f'link type {recording.link}, no USB')}"
-    for transfer in [*recording.over, *recording.open.values(), *recording.bus.open.values()]:
-        if not brief and device in (None, transfer["device"]) and is_within(transfer, origin, times):
-            yield from lines_of(transfer, origin, with_data)
+    for one in [*recording.order, *recording.open.values(), *recording.bus.open.values()]:
+        is_packet = "words" in one
+        time = one["place"][1] if is_packet else one["time"]
+        if not brief and device in (None, one["device"]) and is_within(time, origin, times):
+            yield from [finding_line(one, origin)] if is_packet else lines_of(one, origin, with_data)
     last = recording.times[-1] if recording.times else None
     yield counted(recording.count, "frame") + ("" if last is None else f", {seconds(max(last - origin, 0))} seconds")
     if recording.count > recording.told:
@@ -545,9 +638,9 @@ def said(data, with_data=True, brief=False, device=None, times=(None, None)):
     if recording.cut is not None:
         yield f"cut: {counted(len(data) - recording.cut, 'byte')} of what begins at {recording.cut}"
     kept = readings_of(recording.over)
-    for one in dict.fromkeys(transfer["device"] for transfer in recording.over):
+    for one, count in recording.findings().items():
         if device in (None, one):
-            yield device_line(one, kept, sum(len(transfer["found"]) for transfer in recording.over if transfer["device"] == one))
+            yield f"no device    {counted(count, 'finding')}" if one is None else device_line(one, kept, count)
 
 
 def compare(path):

@@ -115,7 +115,7 @@ def output(line):
 def told_in(data, words, **options):
     """The run with these words over a recording, whose lines the second reading has."""
     lines = "".join(f"{line}\n" for line in recorded.said(data, **options))
-    return Run(["capture", *words], data, recorded.status_of(recorded.Recording(data).over, options.get("device")), lines.encode())
+    return Run(["capture", *words], data, recorded.status_of(recorded.Recording(data), options.get("device")), lines.encode())
 
 
 def file_in(data, recording, device):
@@ -130,7 +130,7 @@ def capture(name):
     """A recording, with each option, and cut: a short one at each byte."""
     data = bytes_of(name)
     recording = recorded.Recording(data)
-    status = recorded.status_of(recording.over)
+    status = recorded.status_of(recording)
     yield Run(["capture"], data, status, bytes_of(name, ".said"))
     yield Run(["capture", "--data"], data, status, bytes_of(name, ".bytes"))
     yield told_in(data, ["--brief"], with_data=False, brief=True)

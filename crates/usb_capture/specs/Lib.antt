@@ -8,6 +8,7 @@ pub mod DeviceReadings
 pub mod Events
 pub mod FaultNumbers
 pub mod Files
+pub mod FindingWords
 pub mod Folds
 pub mod PacketFindings
 pub mod PacketSizes

@@ -1,5 +1,5 @@
 -- What chapter 8 of USB 2.0 forbids, in packets and in transactions with endpoint zero.
-use Rattle.std.specs.Prelude.{ℕ, ◌==◌, ◌&&◌, nat_le, nat_lt, Bool, true, false, not, List, Option, Some, None, is_some, Result, Ok, Err}
+use Rattle.std.specs.Prelude.{ℕ, ◌==◌, ◌&&◌, nat_le, nat_lt, Bool, true, false, not, filter, List, [], ◌∷◌, Option, Some, None, is_some, Result, Ok, Err}
 use Rattle.usb_fields.specs.declared.setup.Direction.{Direction}
 use Rattle.usb_fields.specs.declared.setup.Direction.TheVariants.{In, Out}
 use Rattle.usb_fields.specs.declared.setup.Setup.{Setup}
@@ -95,6 +95,13 @@ is_found_at Toggle pipes sizes transaction = has_wrong_toggle transaction pipes
 is_found_at Long pipes sizes transaction = is_long sizes transaction
 is_found_at NoShortPacket pipes sizes transaction = is_early (size_at transaction.to.address sizes) transaction pipes
 
--- the same of one that comes after these transactions
-abbrev pub is_found : PacketFinding → List Transaction → Transaction → Bool
-is_found finding before transaction = is_found_at finding (pipes_in before) (sizes_in (transfers_in before)) transaction
+-- those that a transaction can have, in order
+abbrev pub transaction_findings : List PacketFinding
+transaction_findings = NoHandshake ∷ NoRequest ∷ SetupRefused ∷ Toggle ∷ Long ∷ NoShortPacket ∷ []
+
+abbrev pub findings_at : Pipes → List ℕ → Transaction → List PacketFinding
+findings_at pipes sizes transaction = filter (λ finding. is_found_at finding pipes sizes transaction) transaction_findings
+
+-- what is found in a transaction that comes after these
+abbrev pub packet_findings : List Transaction → Transaction → List PacketFinding
+packet_findings before transaction = findings_at (pipes_in before) (sizes_in (transfers_in before)) transaction

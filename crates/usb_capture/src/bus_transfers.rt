@@ -4,7 +4,7 @@ ghost use Rattle.std.specs.Option.{option_to_list};
 ghost use Rattle.usb_capture.specs.declared.control_transfer.ControlTransfer.{ControlTransfer};
 ghost use Rattle.usb_capture.specs.declared.transaction.Transaction.{Transaction};
 ghost use Rattle.usb_capture.specs.BusTransfers.{HasMade, pipes_of};
-ghost use Rattle.usb_capture.specs.PacketFindings.{is_found, is_found_at};
+ghost use Rattle.usb_capture.specs.PacketFindings.{findings_at, is_found_at, packet_findings};
 ghost use Rattle.usb_capture.specs.Transfers.{without};
 
 use crate::control_pipes::ControlPipes;
@@ -59,16 +59,39 @@ impl BusTransfers {
         self.pipes.unended()
     }
 
-    /// Whether this is wrong in a transaction that comes next. Of what is damaged there are no transactions.
-    pub fn finds(&self, finding: PacketFinding, transaction: &Transaction) -> bool
-        ensures { (transactions : List Transaction) (transfers : List ControlTransfer) → HasMade transactions transfers self.now
-            → result ≡ is_found finding transactions transaction.now }
+    /// What is wrong in a transaction that comes next, in the order of [`PacketFinding::OF_TRANSACTIONS`].
+    ///
+    /// # Errors
+    ///
+    /// Out of memory.
+    pub fn findings(
+        &self,
+        alloc: Global,
+        transaction: &Transaction,
+    ) -> Result<Vec<PacketFinding>, AllocError>
+        ensures { IfOk result (λ found. (transactions : List Transaction) (transfers : List ControlTransfer) → HasMade transactions transfers self.now
+            → found.items ≡ packet_findings transactions transaction.now) }
     {
-        self.finds_now(finding, transaction)
+        self.findings_now(alloc, transaction)
     }
 
     /// The same, by what is open and known.
-    fn finds_now(&self, finding: PacketFinding, transaction: &Transaction) -> bool
+    fn findings_now(
+        &self,
+        alloc: Global,
+        transaction: &Transaction,
+    ) -> Result<Vec<PacketFinding>, AllocError>
+        ensures { IfOk result (λ found. found.items ≡ findings_at (pipes_of self.now.pipes) self.now.sizes.sizes transaction.now) }
+    {
+        PacketFinding::OF_TRANSACTIONS
+            .iter()
+            .copied()
+            .filter(|finding| self.finds(*finding, transaction))
+            .collect(alloc)
+    }
+
+    /// Whether this is wrong in a transaction that comes next. Of what is damaged there are no transactions.
+    fn finds(&self, finding: PacketFinding, transaction: &Transaction) -> bool
         ensures { result ≡ is_found_at finding (pipes_of self.now.pipes) self.now.sizes.sizes transaction.now }
     {
         match finding {

@@ -1,4 +1,6 @@
 //! What USB 2.0 forbids in control transfers, as far as a recording shows it.
+ghost use Rattle.std.specs.Prelude.{◌≡◌};
+ghost use Rattle.usb_capture.specs.FindingWords.{message_of, sections_of};
 
 /// What a control transfer shows that USB 2.0 forbids. The definition of each, over a list of transfers, is in
 /// `specs/Findings.antt`.
@@ -60,7 +62,9 @@ impl Finding {
     }
 
     /// What was wrong, in words.
-    pub fn message(self) -> &'static str {
+    pub fn message(self) -> &'static str
+        ensures { result.now ≡ message_of self }
+    {
         match self {
             Finding::MoreThanAsked => "more bytes than wLength",
             Finding::OtherType => "a descriptor of another type than was asked for",
@@ -75,7 +79,9 @@ impl Finding {
     }
 
     /// The sections of USB 2.0 that say so.
-    pub fn section(self) -> &'static str {
+    pub fn section(self) -> &'static str
+        ensures { result.now ≡ sections_of self }
+    {
         match self {
             Finding::MoreThanAsked => "8.5.3, 9.3.5",
             Finding::OtherType | Finding::OtherLength => "9.4.3",

@@ -1,5 +1,6 @@
 //! What chapter 8 of USB 2.0 forbids, in packets and in transactions with endpoint zero.
 ghost use Rattle.std.specs.Prelude.{◌≡◌};
+ghost use Rattle.usb_capture.specs.FindingWords.{damage_message, damage_sections, packet_message, packet_sections};
 ghost use Rattle.usb_capture.specs.PacketFindings.{damage_in, lacks_request, refuses_setup};
 
 use crate::bus_packet::PacketFault;
@@ -21,7 +22,7 @@ pub enum PacketFinding {
     SetupRefused,
     /// The toggle of a data packet is neither that of the next one nor that of one that may come again (8.5.3, 8.6).
     Toggle,
-    /// A data packet has more bytes than the device has said in bMaxPacketSize0 (8.5.3, 9.6.1).
+    /// A data packet has more bytes than the device has said in bMaxPacketSize0 (5.5.3, 9.6.1).
     Long,
     /// The status stage comes after fewer bytes than were asked for and a whole packet, where a shorter or an empty one has to come
     /// first (5.5.3, 8.5.3.2).
@@ -47,6 +48,61 @@ impl PacketFinding {
             Err(PacketFault::Damaged(damage)) => Some(PacketFinding::Damaged(damage)),
             Ok(_) | Err(PacketFault::Link | PacketFault::Cut) => None,
         }
+    }
+
+    /// What was wrong, in words.
+    pub fn message(self) -> &'static str
+        ensures { result.now ≡ packet_message self }
+    {
+        match self {
+            PacketFinding::Damaged(damage) => damage_message(damage),
+            PacketFinding::NoHandshake => "no handshake",
+            PacketFinding::NoRequest => "SETUP without eight bytes of DATA0",
+            PacketFinding::SetupRefused => "NAK, STALL or NYET of SETUP",
+            PacketFinding::Toggle => "a wrong data toggle",
+            PacketFinding::Long => "a packet over bMaxPacketSize0",
+            PacketFinding::NoShortPacket => "no short packet at the end",
+        }
+    }
+
+    /// The sections of USB 2.0 that say so.
+    pub fn section(self) -> &'static str
+        ensures { result.now ≡ packet_sections self }
+    {
+        match self {
+            PacketFinding::Damaged(damage) => damage_sections(damage),
+            PacketFinding::NoHandshake => "8.5",
+            PacketFinding::NoRequest => "8.5.3",
+            PacketFinding::SetupRefused => "8.4.6.4",
+            PacketFinding::Toggle => "8.5.3, 8.6",
+            PacketFinding::Long => "5.5.3, 9.6.1",
+            PacketFinding::NoShortPacket => "5.5.3, 8.5.3.2",
+        }
+    }
+}
+
+/// How a packet is damaged, in words.
+fn damage_message(damage: Damage) -> &'static str
+    ensures { result.now ≡ damage_message damage }
+{
+    match damage {
+        Damage::Empty => "a packet without a byte",
+        Damage::Pid => "wrong check bits of a PID",
+        Damage::Reserved => "a reserved PID",
+        Damage::Length => "a length that its PID doesn't have",
+        Damage::Crc5 => "a wrong 5-bit CRC",
+        Damage::Crc16 => "a wrong 16-bit CRC",
+    }
+}
+
+fn damage_sections(damage: Damage) -> &'static str
+    ensures { result.now ≡ damage_sections damage }
+{
+    match damage {
+        Damage::Empty | Damage::Pid | Damage::Reserved => "8.3.1",
+        Damage::Length => "8.4",
+        Damage::Crc5 => "8.3.5.1",
+        Damage::Crc16 => "8.3.5.2",
     }
 }
 

@@ -4,7 +4,6 @@ use Rattle.std.proofs.lemmas.List.{append_cancel_left}
 use Rattle.std.specs.Prelude.{Option, Some, None, Ok, Err, is_ok, option_and_then}
 use Rattle.std.specs.Option.{option_to_list}
 use Rattle.usb_capture.specs.declared.bus_transactions.BusTransactions.{BusTransactions}
-use Rattle.usb_capture.specs.declared.bus_transfers.BusTransfers.{BusTransfers}
 use Rattle.usb_capture.specs.declared.control_transfer.ControlTransfer.{ControlTransfer}
 use Rattle.usb_capture.specs.declared.control_transfers.ControlTransfers.{ControlTransfers}
 use Rattle.usb_capture.specs.declared.event.Event.{Event}
@@ -51,53 +50,31 @@ packet_heard over heard packet old new hears has =
       same_given (transactions heard) over (transaction_over heard packet) (h.1 ∙ given_push bus_after over_with idle (packets heard) packet),
     )
 
-transaction_heard : (over : Option ControlTransfer) (heard : List Heard) (packet : RecordedPacket) (one : Transaction) (old new : BusTransfers)
-    → ((before : List Transaction) (given : List ControlTransfer) → HasMade before given old → HasMade (before ++ one ∷ []) (given ++ option_to_list over) new)
-    → HasMade (transactions heard) (transfers_in (transactions heard)) old
-    → transactions (Err packet ∷ heard) ≡ transactions heard ++ one ∷ []
-    → HasMade (transactions (Err packet ∷ heard)) (transfers_in (transactions (Err packet ∷ heard))) new
-    × (over ≡ transfer_over one (pipes_in (transactions heard)))
-transaction_heard over heard packet one old new makes has is =
-    let before = transactions heard in
-    let m = makes before (transfers_in before) has in (
-      subst (λ ts. HasMade ts (transfers_in ts) new) (sym is) (m.0, refl, m.2 ∙ ap sizes_in m.1),
-      same_given (transfers_in before) over (transfer_over one (pipes_in before)) (m.1 ∙ given_push pipes_after transfer_over none_open before one),
-    )
+-- the transfer that is over with a transaction, if one is
+transfer_with : (given : Option Transaction) (transfer : Option ControlTransfer) (before : List Transaction)
+    → transfers_in before ++ option_to_list transfer ≡ transfers_in (before ++ option_to_list given)
+    → transfer ≡ option_and_then (λ t. transfer_over t (pipes_in before)) given
+transfer_with None transfer before is =
+    same_given (transfers_in before) transfer None (is ∙ ap transfers_in (append-nil before) ∙ sym (append-nil (transfers_in before)))
+transfer_with (Some one) transfer before is =
+    same_given (transfers_in before) transfer (transfer_over one (pipes_in before)) (is ∙ given_push pipes_after transfer_over none_open before one)
 
--- a packet with which a transaction is over
-pub heard_transaction : (over : Option ControlTransfer) (given : Option Transaction) (one : Transaction) (packet : RecordedPacket) (heard : List Heard) (old new : Listener) (bus : BusTransactions)
-    → given ≡ Some one
+-- a packet, and the transaction that is over with it, if one is
+pub heard_more : (transfer : Option ControlTransfer) (given : Option Transaction) (packet : RecordedPacket) (heard : List Heard) (old new : Listener) (bus : BusTransactions)
     → ((before : List RecordedPacket) (so_far : List Transaction) → HasHeard before so_far old.transactions → HasHeard (before ++ packet ∷ []) (so_far ++ option_to_list given) bus)
-    → ((before : List Transaction) (so_far : List ControlTransfer) → HasMade before so_far old.transfers → HasMade (before ++ one ∷ []) (so_far ++ option_to_list over) new.transfers)
+    → ((before : List Transaction) (so_far : List ControlTransfer) → HasMade before so_far old.transfers → HasMade (before ++ option_to_list given) (so_far ++ option_to_list transfer) new.transfers)
     → new.controls ≡ old.controls → new.transactions ≡ bus → new.told ≡ told_with (is_ok packet.packet) old.told
-    → HasListened heard old → HasListened (Err packet ∷ heard) new × (over ≡ over_by heard (Err packet))
-heard_transaction over given one packet heard old new bus is hears makes controls bus-is told has =
+    → HasListened heard old → HasListened (Err packet ∷ heard) new × (transfer ≡ over_by heard (Err packet)) × (given ≡ transaction_over heard packet)
+heard_more transfer given packet heard old new bus hears makes controls bus-is told has =
+    let before = transactions heard in
     let p = packet_heard given heard packet old.transactions bus hears has.bus in
-    let m = transaction_heard over heard packet one old.transfers new.transfers makes has.made (p.1 ∙ ap (λ o. transactions heard ++ option_to_list o) is) in (
+    let m = makes before (transfers_in before) has.made in (
       record {
         taken = subst (HasTaken (events heard) (over_in [] (events heard))) (sym controls) has.taken;
         bus = subst (HasHeard (packets (Err packet ∷ heard)) (transactions (Err packet ∷ heard))) (sym bus-is) p.0;
-        made = m.0;
+        made = subst (λ ts. HasMade ts (transfers_in ts) new.transfers) (sym p.1) (m.0, refl, m.2 ∙ ap sizes_in m.1);
         told = told ∙ ap (told_with (is_ok packet.packet)) has.told;
       },
-      m.1 ∙ ap (option_and_then (λ t. transfer_over t (pipes_in (transactions heard)))) (sym is ∙ p.2),
-    )
-
--- and one with which none is
-pub heard_no_transaction : (given : Option Transaction) (packet : RecordedPacket) (heard : List Heard) (old new : Listener)
-    → given ≡ None
-    → ((before : List RecordedPacket) (so_far : List Transaction) → HasHeard before so_far old.transactions → HasHeard (before ++ packet ∷ []) (so_far ++ option_to_list given) new.transactions)
-    → new.controls ≡ old.controls → new.transfers ≡ old.transfers → new.told ≡ told_with (is_ok packet.packet) old.told
-    → HasListened heard old → HasListened (Err packet ∷ heard) new × (None ≡ over_by heard (Err packet))
-heard_no_transaction given packet heard old new is hears controls transfers told has =
-    let p = packet_heard given heard packet old.transactions new.transactions hears has.bus in
-    let same : transactions (Err packet ∷ heard) ≡ transactions heard = p.1 ∙ ap (λ o. transactions heard ++ option_to_list o) is ∙ append-nil (transactions heard) in (
-      record {
-        taken = subst (HasTaken (events heard) (over_in [] (events heard))) (sym controls) has.taken;
-        bus = p.0;
-        made = subst (λ ts. HasMade ts (transfers_in ts) new.transfers) (sym same)
-            (subst (HasMade (transactions heard) (transfers_in (transactions heard))) (sym transfers) has.made);
-        told = told ∙ ap (told_with (is_ok packet.packet)) has.told;
-      },
-      ap (option_and_then (λ t. transfer_over t (pipes_in (transactions heard)))) (sym is ∙ p.2),
+      transfer_with given transfer before m.1 ∙ ap (option_and_then (λ t. transfer_over t (pipes_in before))) p.2,
+      p.2,
     )

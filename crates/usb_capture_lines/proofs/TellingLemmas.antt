@@ -1,91 +1,93 @@
 -- What is told of a recording after one frame more.
-use Rattle.std.proofs.Common.{◌≡◌, ℕ, List, [], ◌∷◌, ◌++◌, length, append_assoc, sym, ap, ◌∙◌, subst}
+use Rattle.std.proofs.Common.{◌≡◌, ℕ, List, [], ◌∷◌, ◌++◌, append_assoc, append-nil, refl, sym, ap, ◌∙◌, subst}
 use Rattle.std.proofs.lemmas.Grind.{reverse_onto}
 use Rattle.std.specs.Prelude.{Option, Some, None, Result, Ok, Err, OnOk, reverse}
 use Rattle.std.specs.Option.{option_to_list}
 use Rattle.std.specs.Io.KnownBytes.{Appends}
-use Rattle.usb_capture.specs.declared.control_transfer.ControlTransfer.{ControlTransfer}
 use Rattle.usb_capture.specs.declared.frame.Frame.{Frame}
 use Rattle.usb_capture.specs.Conversations.{Knows}
 use Rattle.usb_capture.specs.DeviceReadings.{HasCurrent}
-use Rattle.usb_capture.specs.Findings.{findings}
 use Rattle.usb_text.specs.Output.{Held}
-use Rattle.usb_text.proofs.Pages.{appends_more, appends_nothing, keeps_refl}
-use Rattle.usb_capture_lines.specs.Hearing.{HasListened, Heard, HeardIn, over_by, overs}
-use Rattle.usb_capture_lines.specs.Recordings.{counted, devices_of, first_part, lines_of, met, over_lines, tally_of, told_text}
+use Rattle.usb_text.proofs.Pages.{appends_more}
+use Rattle.usb_capture_lines.specs.Hearing.{Brings, HasListened, Heard, HeardIn, found_by, frame_count, one_more, over_by, overs}
+use Rattle.usb_capture_lines.specs.Recordings.{bus_lines, counted, counted_first, first_part, met, met_all, met_in, over_lines, tally_of, told_text}
+use Rattle.usb_capture_lines.specs.BusFindings.{device_of}
+use Rattle.usb_capture_lines.specs.declared.brought.Brought.{Brought}
+use Rattle.usb_capture_lines.specs.declared.bus_finding.BusFinding.{BusFinding}
+use Rattle.usb_capture_lines.specs.declared.seen_device.SeenDevice.{SeenDevice}
 use Rattle.usb_capture_lines.specs.declared.tally.Tally.{Tally}
 use Rattle.usb_capture_lines.specs.declared.teller.Teller.{Teller}
 use Rattle.usb_capture_lines.specs.Telling.{HasSaid}
 
--- what holds after a frame more, with the transfer that is over with it, if one is
-said_more : (frames : List Frame) (heard : List Heard) (f : Frame) (x : Heard) (over : Option ControlTransfer) (old mid new : Teller) (held a b c : Held)
+-- frames are counted
+frames_counted : (frames : List Frame) → (tally_of frames).frames ≡ frame_count frames
+frames_counted [] = refl
+frames_counted (f ∷ earlier) = by (tally_of earlier).link ∙ ap one_more (frames_counted earlier)
+  where
+    by : (link : Option ℕ) → (counted_first link f (tally_of earlier)).frames ≡ one_more (tally_of earlier).frames
+    by None = refl
+    by (Some link) = refl
+
+reversed : {A : Type 0} (o : Option A) (xs : List A) → reverse xs ++ option_to_list o ≡ reverse (option_to_list o ++ xs)
+reversed None xs = append-nil (reverse xs)
+reversed (Some x) xs = sym (reverse_onto xs x [])
+
+-- what holds after a frame more, with what it brings
+pub said_more : (frames : List Frame) (heard : List Heard) (f : Frame) (x : Heard) (brought : Brought) (old mid next new : Teller) (held a b c d : Held)
     → HasSaid frames heard old held a
     → mid ≡ record old { tally = counted f old.tally }
     → Appends a b (first_part old.first old.tally.link f.link)
-    → HeardIn f x → HasListened (x ∷ heard) new.listener → over ≡ over_by heard x
-    → Knows (option_to_list over ++ overs heard) new.conversations
-    → HasCurrent (reverse (option_to_list over ++ overs heard)) new.readings
-    → new.devices.items ≡ devices_of (option_to_list over ++ overs heard)
-    → new.tally ≡ mid.tally → new.selection ≡ mid.selection → new.first ≡ mid.first
-    → Appends b c (over_lines mid.selection mid.tally.origin (overs heard) over)
-    → HasSaid (f ∷ frames) (x ∷ heard) new held c
-said_more frames heard f x over old mid new held a b c has mid-is head is listened over-is knows kept devices tally selection first lines =
+    → HeardIn mid.tally.frames f x → HasListened (x ∷ heard) next.listener → Brings heard x brought
+    → Knows (option_to_list brought.transfer ++ overs heard) next.conversations
+    → next.devices.items ≡ met_in (overs heard) brought.transfer mid.devices.items
+    → Appends b c (over_lines mid.selection mid.tally.origin (overs heard) brought.transfer)
+    → HasCurrent (reverse (overs heard) ++ option_to_list brought.transfer) next.readings
+    → next.tally ≡ mid.tally → next.selection ≡ mid.selection → next.first ≡ mid.first
+    → new ≡ record next { devices = new.devices }
+    → new.devices.items ≡ met_all brought.found.items next.devices.items
+    → Appends c d (bus_lines next.selection next.tally.origin brought.found.items)
+    → HasSaid (f ∷ frames) (x ∷ heard) new held d
+said_more frames heard f x brought old mid next new held a b c d has mid-is head is listened brings knows next-devices lines kept tally selection first new-is devices found =
     let after : mid.tally ≡ tally_of (f ∷ frames) = ap (λ (t : Teller). t.tally) mid-is ∙ ap (counted f) has.tally in
-    let same-selection : new.selection ≡ old.selection = selection ∙ ap (λ (t : Teller). t.selection) mid-is in
-    let same-first : new.first ≡ old.first = first ∙ ap (λ (t : Teller). t.first) mid-is in
+    let next-tally : next.tally ≡ tally_of (f ∷ frames) = tally ∙ after in
+    let mid-selection : mid.selection ≡ new.selection = sym (ap (λ (t : Teller). t.selection) new-is ∙ selection) in
+    let next-selection : next.selection ≡ new.selection = sym (ap (λ (t : Teller). t.selection) new-is) in
+    let same-selection : old.selection ≡ new.selection = sym (ap (λ (t : Teller). t.selection) mid-is) ∙ mid-selection in
+    let same-first : old.first ≡ new.first = sym (ap (λ (t : Teller). t.first) new-is ∙ first ∙ ap (λ (t : Teller). t.first) mid-is) in
     let before : Appends held a (told_text new.selection new.first frames heard) =
-    subst (λ s. Appends held a (told_text s new.first frames heard)) (sym same-selection)
-    (subst (λ n. Appends held a (told_text old.selection n frames heard)) (sym same-first) has.written) in
+    subst (λ s. Appends held a (told_text s new.first frames heard)) same-selection
+    (subst (λ n. Appends held a (told_text old.selection n frames heard)) same-first has.written) in
     let begun : Appends a b (first_part new.first (tally_of frames).link f.link) =
-    subst (λ n. Appends a b (first_part n (tally_of frames).link f.link)) (sym same-first)
+    subst (λ n. Appends a b (first_part n (tally_of frames).link f.link)) same-first
     (subst (λ (t : Tally). Appends a b (first_part old.first t.link f.link)) has.tally head) in
-    let more : Appends b c (over_lines new.selection (tally_of (f ∷ frames)).origin (overs heard) (over_by heard x)) =
-    subst (λ o. Appends b c (over_lines new.selection (tally_of (f ∷ frames)).origin (overs heard) o)) over-is
-    (subst (λ (t : Tally). Appends b c (over_lines new.selection t.origin (overs heard) over)) after
-    (subst (λ s. Appends b c (over_lines s mid.tally.origin (overs heard) over)) (sym selection) lines)) in
+    let over : Appends b c (over_lines new.selection (tally_of (f ∷ frames)).origin (overs heard) (over_by heard x)) =
+    subst (λ o. Appends b c (over_lines new.selection (tally_of (f ∷ frames)).origin (overs heard) o)) brings.transfer
+    (subst (λ (t : Tally). Appends b c (over_lines new.selection t.origin (overs heard) brought.transfer)) after
+    (subst (λ s. Appends b c (over_lines s mid.tally.origin (overs heard) brought.transfer)) mid-selection lines)) in
+    let packets : Appends c d (bus_lines new.selection (tally_of (f ∷ frames)).origin (found_by heard x)) =
+    subst (λ o. Appends c d (bus_lines new.selection (tally_of (f ∷ frames)).origin o)) brings.found
+    (subst (λ (t : Tally). Appends c d (bus_lines new.selection t.origin brought.found.items)) next-tally
+    (subst (λ s. Appends c d (bus_lines s next.tally.origin brought.found.items)) next-selection found)) in
     record {
-      are = (is, has.are);
-      listened = listened;
-      knows = subst (λ o. Knows (option_to_list o ++ overs heard) new.conversations) over-is knows;
-      kept = subst (λ o. HasCurrent (reverse (option_to_list o ++ overs heard)) new.readings) over-is kept;
-      devices = devices ∙ ap (λ o. devices_of (option_to_list o ++ overs heard)) over-is;
-      tally = tally ∙ after;
-      written = appends_more held b c _ _ (appends_more held a b _ _ before begun) more;
+      are = (subst (λ n. HeardIn n f x) (ap (λ (t : Tally). t.frames) after ∙ frames_counted (f ∷ frames)) is, has.are);
+      listened = subst (λ (t : Teller). HasListened (x ∷ heard) t.listener) (sym new-is) listened;
+      knows = subst (λ (t : Teller). Knows (overs (x ∷ heard)) t.conversations) (sym new-is)
+          (subst (λ o. Knows (option_to_list o ++ overs heard) next.conversations) brings.transfer knows);
+      kept = subst (λ (t : Teller). HasCurrent (reverse (overs (x ∷ heard))) t.readings) (sym new-is)
+          (subst (λ o. HasCurrent (reverse (option_to_list o ++ overs heard)) next.readings) brings.transfer
+          (subst (λ ts. HasCurrent ts next.readings) (reversed brought.transfer (overs heard)) kept));
+      devices = devices ∙ ap (λ one. met_all one next.devices.items) brings.found
+          ∙ ap (met_all (found_by heard x)) (next-devices ∙ ap (λ o. met_in (overs heard) o mid.devices.items) brings.transfer
+          ∙ ap (met_in (overs heard) (over_by heard x)) (ap (λ (t : Teller). t.devices.items) mid-is ∙ has.devices));
+      tally = ap (λ (t : Teller). t.tally) new-is ∙ next-tally;
+      written = appends_more held b d _ _ (appends_more held a b _ _ before begun) (appends_more b c d _ _ over packets);
     }
 
--- with a transfer
-pub said_over : (frames : List Frame) (heard : List Heard) (f : Frame) (x : Heard) (one : ControlTransfer) (given : Option ControlTransfer) (old mid new : Teller) (held a b c : Held)
-    → HasSaid frames heard old held a
-    → mid ≡ record old { tally = counted f old.tally }
-    → Appends a b (first_part old.first old.tally.link f.link)
-    → given ≡ Some one → HeardIn f x → HasListened (x ∷ heard) new.listener → given ≡ over_by heard x
-    → Knows (one ∷ overs heard) new.conversations
-    → new.devices.items ≡ met one (length (findings (overs heard) one)) mid.devices.items
-    → Appends b c (lines_of mid.selection mid.tally.origin one (findings (overs heard) one))
-    → HasCurrent (reverse (overs heard) ++ one ∷ []) new.readings
-    → new.tally ≡ mid.tally → new.selection ≡ mid.selection → new.first ≡ mid.first
-    → HasSaid (f ∷ frames) (x ∷ heard) new held c
-said_over frames heard f x one given old mid new held a b c has mid-is head is heard_in listened over-is knows devices lines kept tally selection first =
-    said_more frames heard f x (Some one) old mid new held a b c has mid-is head heard_in listened (sym is ∙ over-is) knows
-    (subst (λ ts. HasCurrent ts new.readings) (sym (reverse_onto (overs heard) one [])) kept)
-    (devices ∙ ap (met one (length (findings (overs heard) one))) (ap (λ (t : Teller). t.devices.items) mid-is ∙ has.devices))
-    tally selection first lines
-
--- and without one
-pub said_still : (frames : List Frame) (heard : List Heard) (f : Frame) (x : Heard) (given : Option ControlTransfer) (old mid new : Teller) (held a b : Held)
-    → HasSaid frames heard old held a
-    → mid ≡ record old { tally = counted f old.tally }
-    → Appends a b (first_part old.first old.tally.link f.link)
-    → given ≡ None → HeardIn f x → HasListened (x ∷ heard) new.listener → given ≡ over_by heard x
-    → new.conversations ≡ mid.conversations → new.readings ≡ mid.readings → new.devices.items ≡ mid.devices.items
-    → new.tally ≡ mid.tally → new.selection ≡ mid.selection → new.first ≡ mid.first
-    → HasSaid (f ∷ frames) (x ∷ heard) new held b
-said_still frames heard f x given old mid new held a b has mid-is head is heard_in listened over-is conversations readings devices tally selection first =
-    said_more frames heard f x None old mid new held a b b has mid-is head heard_in listened (sym is ∙ over-is)
-    (subst (Knows (overs heard)) (sym (conversations ∙ ap (λ (t : Teller). t.conversations) mid-is)) has.knows)
-    (subst (HasCurrent (reverse (overs heard))) (sym (readings ∙ ap (λ (t : Teller). t.readings) mid-is)) has.kept)
-    (devices ∙ ap (λ (t : Teller). t.devices.items) mid-is ∙ has.devices)
-    tally selection first (appends_nothing b b (keeps_refl b))
+-- devices that are met one after another
+pub met_push : (found : List BusFinding) (one : BusFinding) (devices : List SeenDevice)
+    → met_all (found ++ one ∷ []) devices ≡ met (device_of one) 1 (met_all found devices)
+met_push [] one devices = refl
+met_push (x ∷ found) one devices = met_push found one (met (device_of x) 1 devices)
 
 -- what holds of a success by two things that do
 pub on_ok_two : {T E : Type 0} {A B C : Type 0} (r : Result T E) → (A → B → C) → OnOk r A → OnOk r B → OnOk r C

@@ -1,3 +1,4 @@
+pub mod BusFindings
 pub mod FaultWords
 pub mod FindingLines
 pub mod Hearing

@@ -1,5 +1,5 @@
 -- What `capture` tells of a recording.
-use Rattle.std.specs.Prelude.{ℕ, ◌+◌, ◌-◌, ◌/◌, ◌^◌, ◌==◌, ◌&&◌, ◌||◌, not, Bool, true, find, List, [], ◌∷◌, ◌++◌, length, reverse, codes, min, nat_lt, nat_le, slice_index_or, slice_set, Option, Some, None, unwrap_or, if◌then◌else◌}
+use Rattle.std.specs.Prelude.{ℕ, ◌+◌, ◌-◌, ◌/◌, ◌^◌, ◌==◌, ◌&&◌, ◌||◌, not, Bool, true, false, find, List, [], ◌∷◌, ◌++◌, length, reverse, codes, min, nat_lt, nat_le, slice_index_or, slice_set, Option, Some, None, is_none, unwrap_or, if◌then◌else◌}
 use Rattle.std.specs.List.{flat_map, list_any, position}
 use Rattle.std.specs.Option.{option_or}
 use Rattle.std.specs.Fmt.{decimal}
@@ -17,26 +17,25 @@ use Rattle.usb_capture.specs.BusTransfers.{pipes_in}
 use Rattle.usb_capture.specs.DeviceReadings.{current_after}
 use Rattle.usb_capture.specs.Findings.{findings}
 use Rattle.usb_capture.specs.Transfers.{open_after}
-use Rattle.usb_capture_lines.specs.FindingLines.{finding_lines}
-use Rattle.usb_capture_lines.specs.Hearing.{Heard, events, one_more, over_by, overs, told_of, transactions}
+use Rattle.usb_capture_lines.specs.BusFindings.{device_of}
+use Rattle.usb_capture_lines.specs.FindingLines.{bus_finding_line, finding_lines}
+use Rattle.usb_capture_lines.specs.Hearing.{Heard, events, found_by, one_more, over_by, overs, told_of, transactions}
 use Rattle.usb_capture_lines.specs.Lines.{address_words, seconds_words, transfer_lines}
+use Rattle.usb_capture_lines.specs.declared.bus_finding.BusFinding.{BusFinding}
 use Rattle.usb_capture_lines.specs.declared.seen_device.SeenDevice.{SeenDevice}
 use Rattle.usb_capture_lines.specs.declared.selection.DeviceAddress.{DeviceAddress}
 use Rattle.usb_capture_lines.specs.declared.selection.Selection.{Selection}
 use Rattle.usb_capture_lines.specs.declared.tally.Tally.{Tally}
 
--- Of which transfers there are lines.
+-- Of which devices and which times there are lines.
 
--- when a transfer ended, or began where its end isn't there
-abbrev pub time_of : ControlTransfer → Option ℕ
-time_of t = option_or t.ended t.begun
+abbrev pub is_device : DeviceAddress → Option DeviceAddress → Bool
+is_device a None = false
+is_device a (Some b) = a.bus == b.bus && a.device == b.device
 
-abbrev pub is_of : DeviceAddress → ControlTransfer → Bool
-is_of a t = a.bus == t.bus && a.device == t.device
-
-abbrev pub wants_device : Option DeviceAddress → ControlTransfer → Bool
-wants_device None t = true
-wants_device (Some a) t = is_of a t
+abbrev pub wants_device : Option DeviceAddress → Option DeviceAddress → Bool
+wants_device None device = true
+wants_device (Some a) device = is_device a device
 
 abbrev pub is_within : Option ℕ → Option ℕ → ℕ → Bool
 is_within from to time = nat_le (unwrap_or from 0) time && nat_le time (unwrap_or to (2 ^ 64 - 1))
@@ -45,17 +44,31 @@ abbrev pub wants_time : Option ℕ → Option ℕ → ℕ → Option ℕ → Boo
 wants_time from to origin None = true
 wants_time from to origin (Some time) = is_within from to (time - origin)
 
-abbrev pub is_wanted : Selection → ℕ → ControlTransfer → Bool
-is_wanted s origin t = not s.brief && wants_device s.device t && wants_time s.from s.to origin (time_of t)
+abbrev pub is_wanted : Selection → ℕ → Option DeviceAddress → Option ℕ → Bool
+is_wanted s origin device time = not s.brief && wants_device s.device device && wants_time s.from s.to origin time
+
+-- a transfer's device, and when it ended, or began where its end isn't there
+abbrev pub address_of : ControlTransfer → DeviceAddress
+address_of t = record { bus = t.bus; device = t.device }
+
+abbrev pub time_of : ControlTransfer → Option ℕ
+time_of t = option_or t.ended t.begun
 
 -- those of a transfer in which this was found
 unfoldable pub lines_of : Selection → ℕ → ControlTransfer → List Finding → List ℕ
-lines_of s origin t found = if is_wanted s origin t then transfer_lines s.data origin t ++ finding_lines found else []
+lines_of s origin t found = if is_wanted s origin (Some (address_of t)) (time_of t) then transfer_lines s.data origin t ++ finding_lines found else []
 
 -- those of the transfer that is over with a frame, if one is, after these transfers
 abbrev pub over_lines : Selection → ℕ → List ControlTransfer → Option ControlTransfer → List ℕ
 over_lines s origin earlier None = []
 over_lines s origin earlier (Some t) = lines_of s origin t (findings earlier t)
+
+-- those of what is wrong in packets
+unfoldable pub bus_part : Selection → ℕ → BusFinding → List ℕ
+bus_part s origin found = if is_wanted s origin (device_of found) found.time then bus_finding_line origin found else []
+
+abbrev pub bus_lines : Selection → ℕ → List BusFinding → List ℕ
+bus_lines s origin found = flat_map (bus_part s origin) found
 
 -- The first line: the form of the file, by its first byte, and what its first frame has.
 
@@ -95,31 +108,42 @@ abbrev pub tally_of : List Frame → Tally
 tally_of [] = none_counted
 tally_of (f ∷ earlier) = counted f (tally_of earlier)
 
--- The devices of transfers, in the order in which they are first seen, each with how many findings its transfers have.
-
-abbrev pub address_of : ControlTransfer → DeviceAddress
-address_of t = record { bus = t.bus; device = t.device }
+-- The devices of a recording, in the order in which they are first seen, each with how many findings it has. Those of packets
+-- of which no device is known are counted together.
 
 abbrev pub with_findings : ℕ → SeenDevice → SeenDevice
 with_findings n device = record device { findings = min (device.findings + n) (2 ^ 64 - 1) }
 
-abbrev pub first_seen : ControlTransfer → ℕ → SeenDevice
-first_seen t n = record { address = address_of t; findings = n }
+abbrev pub first_seen : Option DeviceAddress → ℕ → SeenDevice
+first_seen device n = record { address = device; findings = n }
 
-abbrev pub is_seen_in : ControlTransfer → SeenDevice → Bool
-is_seen_in t device = is_of device.address t
+abbrev pub is_same_device : Option DeviceAddress → Option DeviceAddress → Bool
+is_same_device None device = is_none device
+is_same_device (Some a) device = is_device a device
 
-abbrev pub met_at : Option ℕ → ControlTransfer → ℕ → List SeenDevice → List SeenDevice
-met_at None t n devices = devices ++ first_seen t n ∷ []
-met_at (Some place) t n devices = slice_set devices place (with_findings n (slice_index_or devices place (first_seen t n)))
+abbrev pub is_seen_in : Option DeviceAddress → SeenDevice → Bool
+is_seen_in device seen = is_same_device seen.address device
 
-abbrev pub met : ControlTransfer → ℕ → List SeenDevice → List SeenDevice
-met t n devices = met_at (position (is_seen_in t) devices) t n devices
+abbrev pub met_at : Option ℕ → Option DeviceAddress → ℕ → List SeenDevice → List SeenDevice
+met_at None device n devices = devices ++ first_seen device n ∷ []
+met_at (Some place) device n devices = slice_set devices place (with_findings n (slice_index_or devices place (first_seen device n)))
 
--- those of transfers, of which the last is the first in the list
-abbrev pub devices_of : List ControlTransfer → List SeenDevice
+-- a device has so many findings more
+abbrev pub met : Option DeviceAddress → ℕ → List SeenDevice → List SeenDevice
+met device n devices = met_at (position (is_seen_in device) devices) device n devices
+
+abbrev pub met_in : List ControlTransfer → Option ControlTransfer → List SeenDevice → List SeenDevice
+met_in earlier None devices = devices
+met_in earlier (Some t) devices = met (Some (address_of t)) (length (findings earlier t)) devices
+
+abbrev pub met_all : List BusFinding → List SeenDevice → List SeenDevice
+met_all [] devices = devices
+met_all (one ∷ found) devices = met_all found (met (device_of one) 1 devices)
+
+-- those of what is heard, of which the last is the first in the list
+abbrev pub devices_of : List Heard → List SeenDevice
 devices_of [] = []
-devices_of (t ∷ earlier) = met t (length (findings earlier t)) (devices_of earlier)
+devices_of (x ∷ earlier) = met_all (found_by earlier x) (met_in (overs earlier) (over_by earlier x) (devices_of earlier))
 
 -- The last lines.
 
@@ -145,7 +169,7 @@ cut_line place left =
 
 -- the reading of a device's descriptor of this type
 abbrev pub is_reading_of : DeviceAddress → ℕ → ControlTransfer → Bool
-is_reading_of a kind t = is_of a t && t.setup.value / 256 == kind
+is_reading_of a kind t = is_device a (Some (address_of t)) && t.setup.value / 256 == kind
 
 -- the device descriptor of a device, as it is asked for (9.4.3)
 abbrev pub asked_at : DeviceAddress → Asked
@@ -169,25 +193,29 @@ set_words (Some t) = set_length_words (length t.data)
 abbrev pub findings_words : ℕ → List ℕ
 findings_words n = if n == 0 then [] else codes ", " ++ count n (codes "finding")
 
-unfoldable pub device_line : List ControlTransfer → SeenDevice → List ℕ
-device_line kept d =
-    codes "device " ++ column 6 (address_words d.address.bus d.address.device)
-    ++ device_words (find (is_reading_of d.address 1) kept) ++ set_words (find (is_reading_of d.address 2) kept)
-    ++ findings_words d.findings ++ codes "\n"
+unfoldable pub device_line : List ControlTransfer → DeviceAddress → ℕ → List ℕ
+device_line kept a n =
+    codes "device " ++ column 6 (address_words a.bus a.device)
+    ++ device_words (find (is_reading_of a 1) kept) ++ set_words (find (is_reading_of a 2) kept)
+    ++ findings_words n ++ codes "\n"
 
-abbrev pub is_device_wanted : Option DeviceAddress → DeviceAddress → Bool
-is_device_wanted None a = true
-is_device_wanted (Some b) a = b.bus == a.bus && b.device == a.device
+-- findings of no device that is known
+unfoldable pub no_device_line : ℕ → List ℕ
+no_device_line n = codes "no device    " ++ count n (codes "finding") ++ codes "\n"
+
+abbrev pub seen_line : List ControlTransfer → Option DeviceAddress → ℕ → List ℕ
+seen_line kept None n = no_device_line n
+seen_line kept (Some a) n = device_line kept a n
 
 unfoldable pub device_part : Selection → List ControlTransfer → SeenDevice → List ℕ
-device_part s kept d = if is_device_wanted s.device d.address then device_line kept d else []
+device_part s kept d = if wants_device s.device d.address then seen_line kept d.address d.findings else []
 
 abbrev pub device_lines : Selection → List ControlTransfer → List SeenDevice → List ℕ
 device_lines s kept devices = flat_map (device_part s kept) devices
 
 -- whether one of these lines counts a finding
 abbrev pub has_findings : Selection → SeenDevice → Bool
-has_findings s d = is_device_wanted s.device d.address && nat_lt 0 d.findings
+has_findings s d = wants_device s.device d.address && nat_lt 0 d.findings
 
 abbrev pub finds_any : Selection → List SeenDevice → Bool
 finds_any s devices = list_any (has_findings s) devices
@@ -215,7 +243,7 @@ told_text s first [] heard = []
 told_text s first (f ∷ frames) [] = []
 told_text s first (f ∷ frames) (x ∷ heard) =
     told_text s first frames heard ++ first_part first (tally_of frames).link f.link
-    ++ over_lines s (tally_of (f ∷ frames)).origin (overs heard) (over_by heard x)
+    ++ (over_lines s (tally_of (f ∷ frames)).origin (overs heard) (over_by heard x) ++ bus_lines s (tally_of (f ∷ frames)).origin (found_by heard x))
 
 -- the last readings of the devices that have their addresses at the end
 abbrev pub readings_in : List Heard → List ControlTransfer
@@ -225,11 +253,11 @@ readings_in heard = current_after [] (reverse (overs heard))
 abbrev pub ended_text : Selection → List Frame → List Heard → ℕ → ℕ → List ℕ
 ended_text s frames heard place left =
     last_lines s (tally_of frames) (told_of heard) (open_after [] (events heard)) (pipes_in (transactions heard)).held (readings_in heard)
-    (devices_of (overs heard)) place left
+    (devices_of heard) place left
 
 abbrev pub capture_text : Selection → ℕ → List Frame → List Heard → ℕ → ℕ → List ℕ
 capture_text s first frames heard place left = told_text s first frames heard ++ ended_text s frames heard place left
 
 -- whether something is found
 abbrev pub is_any_found : Selection → List Heard → Bool
-is_any_found s heard = finds_any s (devices_of (overs heard))
+is_any_found s heard = finds_any s (devices_of heard)

@@ -15,6 +15,6 @@ pub record HasSaid (frames : List Frame) (heard : List Heard) (teller : Teller) 
   pub listened : HasListened heard teller.listener
   pub knows : Knows (overs heard) teller.conversations
   pub kept : HasCurrent (reverse (overs heard)) teller.readings
-  pub devices : teller.devices.items ≡ devices_of (overs heard)
+  pub devices : teller.devices.items ≡ devices_of heard
   pub tally : teller.tally ≡ tally_of frames
   pub written : Appends held holds (told_text teller.selection teller.first frames heard)

@@ -3,7 +3,7 @@ ghost use Rattle.std.specs.Prelude.{◌≡◌, ◌++◌, find, OnOk};
 ghost use Rattle.std.specs.Option.{option_copied};
 ghost use Rattle.usb_text.specs.Lines.{column};
 ghost use Rattle.usb_capture_lines.specs.Lines.{address_words};
-ghost use Rattle.usb_capture_lines.specs.Recordings.{counts_lines, cut_line, device_line, device_lines, device_part, device_words, findings_words, finds_any, first_line, has_findings, form_words, frames_line, is_device_wanted, is_reading_of, link_words, product_words, set_length_words, set_words, span_words, untold_part};
+ghost use Rattle.usb_capture_lines.specs.Recordings.{counts_lines, cut_line, device_line, device_lines, device_part, device_words, findings_words, finds_any, first_line, has_findings, form_words, frames_line, is_reading_of, link_words, no_device_line, product_words, seen_line, set_length_words, set_words, span_words, untold_part};
 
 use crate::seen_device::SeenDevice;
 use crate::selection::{DeviceAddress, Selection};
@@ -132,8 +132,8 @@ fn put_wanted_device(
 ) -> Result<(), AllocError>
     ensures { OnOk result (text.new ≡ text.old ++ device_part selection.now kept.now device) }
 {
-    if is_wanted(selection.device, device.address) {
-        put_device(text, kept, device)
+    if selection.wants_device(device.address) {
+        put_seen(text, kept, device)
     } else {
         Ok(())
     }
@@ -149,16 +149,26 @@ pub(crate) fn finds_any(selection: &Selection, devices: &[SeenDevice]) -> bool
 fn has_findings(selection: &Selection, device: &SeenDevice) -> bool
     ensures { result ≡ has_findings selection.now device.now }
 {
-    is_wanted(selection.device, device.address) && device.findings > 0
+    selection.wants_device(device.address) && device.findings > 0
 }
 
-fn is_wanted(wanted: Option<DeviceAddress>, device: DeviceAddress) -> bool
-    ensures { result ≡ is_device_wanted wanted device }
+/// Puts the line of a device, or of packets of which none is known.
+fn put_seen(text: &mut Text, kept: &[ControlTransfer], seen: SeenDevice) -> Result<(), AllocError>
+    ensures { OnOk result (text.new ≡ text.old ++ seen_line kept.now seen.address seen.findings) }
 {
-    match wanted {
-        None => true,
-        Some(wanted) => wanted.bus == device.bus && wanted.device == device.device,
+    match seen.address {
+        Some(device) => put_device(text, kept, device, seen.findings),
+        None => put_no_device(text, seen.findings),
     }
+}
+
+#[tactic(auto, unfolding(crate::specs::Recordings::no_device_line))]
+fn put_no_device(text: &mut Text, count: u64) -> Result<(), AllocError>
+    ensures { OnOk result (text.new ≡ text.old ++ no_device_line count) }
+{
+    text.put("no device    ")?;
+    put_count(text, count, "finding")?;
+    text.put("\n")
 }
 
 /// Puts the line of a device: what came of its descriptors, and how many findings there are.
@@ -166,15 +176,16 @@ fn is_wanted(wanted: Option<DeviceAddress>, device: DeviceAddress) -> bool
 fn put_device(
     text: &mut Text,
     kept: &[ControlTransfer],
-    device: SeenDevice,
+    device: DeviceAddress,
+    findings: u64,
 ) -> Result<(), AllocError>
-    ensures { OnOk result (text.new ≡ text.old ++ device_line kept.now device) }
+    ensures { OnOk result (text.new ≡ text.old ++ device_line kept.now device findings) }
 {
     text.put("device ")?;
-    put_device_column(text, device.address)?;
-    put_product(text, reading_of(kept, device.address, 1))?;
-    put_set(text, reading_of(kept, device.address, 2))?;
-    put_finding_count(text, device.findings)?;
+    put_device_column(text, device)?;
+    put_product(text, reading_of(kept, device, 1))?;
+    put_set(text, reading_of(kept, device, 2))?;
+    put_finding_count(text, findings)?;
     text.put("\n")
 }
 
@@ -236,5 +247,5 @@ fn reading_of(kept: &[ControlTransfer], device: DeviceAddress, kind: u8) -> Opti
 fn is_reading_of(device: DeviceAddress, kind: u8, transfer: &ControlTransfer) -> bool
     ensures { result ≡ is_reading_of device kind transfer.now }
 {
-    device.has(transfer) && transfer.setup.value / 256 == u16::from(kind)
+    device.is(Some(DeviceAddress::of(transfer))) && transfer.setup.value / 256 == u16::from(kind)
 }

@@ -2,7 +2,8 @@
 //!
 //! A [`Teller`] takes the frames of a capture file, which `usb_capture` reads, and writes a line for each control transfer, of
 //! events of a host or of packets of the bus (`specs/Hearing.antt`): when it ended, whose it is, what was asked, what came of it
-//! and what USB 2.0 forbids in it (`specs/FindingLines.antt`); at the end what was counted and which devices there were. What it
+//! and what USB 2.0 forbids in it (`specs/FindingLines.antt`), and one for what it forbids in packets (`specs/BusFindings.antt`);
+//! at the end what was counted and which devices there were. What it
 //! has written is a definition over the frames (`specs/Telling.antt` and `specs/Recordings.antt`). Lines of a transfer are
 //! `specs/Lines.antt`, requests in words `specs/Requests.antt`, and statuses of Linux and Windows a table,
 //! `specs/Statuses.antt`. A [`RecordingTeller`] takes the file's bytes in any pieces and tells of their frames
@@ -10,6 +11,8 @@
 //! says which lines are wanted.
 #![tactic(auto)]
 
+mod brought;
+mod bus_finding;
 mod fault_words;
 mod finding_lines;
 mod last_lines;

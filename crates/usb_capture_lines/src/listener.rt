@@ -1,17 +1,19 @@
 //! The control transfers that the frames of a recording tell of.
-ghost use Rattle.std.specs.Prelude.{◌≡◌, ◌++◌, ◌∷◌, [], List, Ok, Err, IfOk, is_ok};
+ghost use Rattle.std.specs.Prelude.{◌≡◌, ◌++◌, ◌∷◌, [], List, Ok, Err, IfOk, is_ok, map};
 ghost use Rattle.std.specs.Option.{option_to_list};
 ghost use Rattle.usb_capture.specs.declared.control_transfer.ControlTransfer.{ControlTransfer};
-ghost use Rattle.usb_capture.specs.declared.frame.Frame.{Frame};
 ghost use Rattle.usb_capture.specs.declared.transaction.Transaction.{Transaction};
 ghost use Rattle.usb_capture.specs.BusTransfers.{HasMade};
-ghost use Rattle.usb_capture_lines.specs.Hearing.{HasListened, Heard, HeardIn, over_by, told_with};
+ghost use Rattle.usb_capture_lines.specs.BusFindings.{bus_found, in_transaction, packet_found, transaction_found};
+ghost use Rattle.usb_capture_lines.specs.Hearing.{Brings, HasListened, Heard, HeardIn, told_with};
 
+use crate::brought::Brought;
+use crate::bus_finding::BusFinding;
 use crate::tally::one_more;
 use std::alloc::{AllocError, Global};
 use usb_capture::{
     BusTransactions, BusTransfers, ControlTransfer, ControlTransfers, Event, Frame, OpenTransfer,
-    RecordedPacket, Transaction,
+    PacketFinding, RecordedPacket, Transaction,
 };
 
 /// Makes control transfers of the frames of a recording, taken in order: of the events of a host, and of the packets of a bus.
@@ -19,6 +21,7 @@ use usb_capture::{
 /// It holds the transfers whose end hasn't come, and one transaction.
 #[derive(Debug, Drop)]
 pub(crate) struct Listener {
+    alloc: Global,
     controls: ControlTransfers,
     transactions: BusTransactions,
     transfers: BusTransfers,
@@ -32,6 +35,7 @@ impl Listener {
         ensures { HasListened [] result }
     {
         Listener {
+            alloc,
             controls: ControlTransfers::new(alloc),
             transactions: BusTransactions::new(alloc),
             transfers: BusTransfers::new(alloc),
@@ -39,14 +43,10 @@ impl Listener {
         }
     }
 
-    /// Takes the frame with this number, and gives the control transfer that is over with it.
-    pub(crate) fn take(
-        &mut self,
-        number: u64,
-        frame: &Frame,
-    ) -> Result<Option<ControlTransfer>, AllocError>
-        ensures { IfOk result (λ over. (heard : List Heard) → HasListened heard self.old
-            → (x : Heard) × HeardIn frame.now x × HasListened (x ∷ heard) self.new × (over ≡ over_by heard x)) }
+    /// Takes the frame with this number, and gives what it brings.
+    pub(crate) fn take(&mut self, number: u64, frame: &Frame) -> Result<Brought, AllocError>
+        ensures { IfOk result (λ brought. (heard : List Heard) → HasListened heard self.old
+            → (x : Heard) × HeardIn number frame.now x × HasListened (x ∷ heard) self.new × Brings heard x brought) }
     {
         match Event::of_frame(frame) {
             Ok(event) => self.take_event(&event),
@@ -58,41 +58,73 @@ impl Listener {
     }
 
     /// Takes an event of a host.
-    fn take_event(&mut self, event: &Event<'_>) -> Result<Option<ControlTransfer>, AllocError>
-        ensures { IfOk result (λ over. (heard : List Heard) → HasListened heard self.old
-            → HasListened (Ok event.now ∷ heard) self.new × (over ≡ over_by heard (Ok event.now))) }
+    fn take_event(&mut self, event: &Event<'_>) -> Result<Brought, AllocError>
+        ensures { IfOk result (λ brought. (heard : List Heard) → HasListened heard self.old
+            → HasListened (Ok event.now ∷ heard) self.new × Brings heard (Ok event.now) brought) }
     {
         self.told = one_more(self.told);
-        self.controls.take(event)
+        let transfer = self.controls.take(event)?;
+        let found = Vec::new(self.alloc);
+        Ok(Brought { transfer, found })
     }
 
     /// Takes a packet of the bus, or why a frame is none.
-    fn take_packet(
-        &mut self,
-        packet: &RecordedPacket<'_>,
-    ) -> Result<Option<ControlTransfer>, AllocError>
-        ensures { IfOk result (λ over. (heard : List Heard) → HasListened heard self.old
-            → HasListened (Err packet.now ∷ heard) self.new × (over ≡ over_by heard (Err packet.now))) }
+    fn take_packet(&mut self, packet: &RecordedPacket<'_>) -> Result<Brought, AllocError>
+        ensures { IfOk result (λ brought. (heard : List Heard) → HasListened heard self.old
+            → HasListened (Err packet.now ∷ heard) self.new × Brings heard (Err packet.now) brought) }
     {
         self.told = told_with(packet, self.told);
-        match self.transactions.take(packet)? {
-            Some(transaction) => self.take_transaction(transaction),
-            None => Ok(None),
+        let over = self.transactions.take(packet)?;
+        let found = self.findings(packet, &over)?;
+        let transfer = self.take_transaction(over)?;
+        Ok(Brought { transfer, found })
+    }
+
+    /// What is found in a packet, and in the transaction that is over with it.
+    fn findings(
+        &self,
+        packet: &RecordedPacket<'_>,
+        over: &Option<Transaction>,
+    ) -> Result<Vec<BusFinding>, AllocError>
+        ensures { IfOk result (λ found. (before : List Transaction) (given : List ControlTransfer) → HasMade before given self.now.transfers
+            → found.items ≡ bus_found before packet.now over.now) }
+    {
+        let found = self.transaction_findings(over)?;
+        with_damage(found, packet, over)
+    }
+
+    /// What is found in a transaction that is over, if one is.
+    fn transaction_findings(
+        &self,
+        over: &Option<Transaction>,
+    ) -> Result<Vec<BusFinding>, AllocError>
+        ensures { IfOk result (λ found. (before : List Transaction) (given : List ControlTransfer) → HasMade before given self.now.transfers
+            → found.items ≡ transaction_found before over.now) }
+    {
+        match over {
+            Some(transaction) => {
+                let found = self.transfers.findings(self.alloc, transaction)?;
+                placed(self.alloc, transaction, &found)
+            }
+            None => Ok(Vec::new(self.alloc)),
         }
     }
 
-    /// Takes a transaction that is over.
+    /// Takes a transaction that is over, if one is.
     fn take_transaction(
         &mut self,
-        transaction: Transaction,
+        over: Option<Transaction>,
     ) -> Result<Option<ControlTransfer>, AllocError>
-        ensures made { IfOk result (λ over. (before : List Transaction) (given : List ControlTransfer) → HasMade before given self.old.transfers
-            → HasMade (before ++ transaction ∷ []) (given ++ option_to_list over) self.new.transfers) }
+        ensures made { IfOk result (λ transfer. (before : List Transaction) (given : List ControlTransfer) → HasMade before given self.old.transfers
+            → HasMade (before ++ option_to_list over) (given ++ option_to_list transfer) self.new.transfers) }
         ensures controls { self.new.controls ≡ self.old.controls }
         ensures transactions { self.new.transactions ≡ self.old.transactions }
         ensures told { self.new.told ≡ self.old.told }
     {
-        self.transfers.take(&transaction)
+        match over {
+            Some(transaction) => self.transfers.take(&transaction),
+            None => Ok(None),
+        }
     }
 
     /// How many frames were an event or a whole packet.
@@ -125,4 +157,41 @@ fn told_with(packet: &RecordedPacket<'_>, told: u64) -> u64
         Ok(_) => one_more(told),
         Err(_) => told,
     }
+}
+
+/// Findings of a transaction, where they stand.
+fn placed(
+    alloc: Global,
+    transaction: &Transaction,
+    found: &[PacketFinding],
+) -> Result<Vec<BusFinding>, AllocError>
+    ensures { IfOk result (λ placed. placed.items ≡ map (in_transaction transaction.now) found.now) }
+{
+    let mut placed = Vec::new(alloc);
+    for finding in found {
+        placed.push(BusFinding::in_transaction(transaction, *finding))?;
+    }
+    Ok(placed)
+}
+
+/// These findings, and that of a packet.
+fn with_damage(
+    found: Vec<BusFinding>,
+    packet: &RecordedPacket<'_>,
+    over: &Option<Transaction>,
+) -> Result<Vec<BusFinding>, AllocError>
+    ensures { IfOk result (λ after. after.items ≡ found.items ++ packet_found packet.now over.now) }
+{
+    match PacketFinding::of_packet(packet) {
+        Some(finding) => added(found, BusFinding::in_packet(packet, over, finding)),
+        None => Ok(found),
+    }
+}
+
+fn added(found: Vec<BusFinding>, one: BusFinding) -> Result<Vec<BusFinding>, AllocError>
+    ensures { IfOk result (λ after. after.items ≡ found.items ++ one ∷ []) }
+{
+    let mut after = found;
+    after.push(one)?;
+    Ok(after)
 }

@@ -1,6 +1,6 @@
-//! Of which transfers there are lines.
+//! Of which devices and which times there are lines.
 ghost use Rattle.std.specs.Prelude.{◌≡◌};
-ghost use Rattle.usb_capture_lines.specs.Recordings.{address_of, is_of, is_wanted, is_within, time_of, wants_device, wants_time};
+ghost use Rattle.usb_capture_lines.specs.Recordings.{address_of, is_device, is_wanted, is_within, time_of, wants_device, wants_time};
 
 use usb_capture::ControlTransfer;
 
@@ -24,11 +24,14 @@ impl DeviceAddress {
         }
     }
 
-    /// Whether a transfer is of this device.
-    pub(crate) fn has(self, transfer: &ControlTransfer) -> bool
-        ensures { result ≡ is_of self transfer.now }
+    /// Whether this is the device.
+    pub(crate) fn is(self, other: Option<DeviceAddress>) -> bool
+        ensures { result ≡ is_device self other }
     {
-        self.bus == transfer.bus && self.device == transfer.device
+        match other {
+            Some(other) => self.bus == other.bus && self.device == other.device,
+            None => false,
+        }
     }
 }
 
@@ -39,7 +42,7 @@ pub struct Selection {
     pub brief: bool,
     /// Whether lines of transfers have their bytes below them.
     pub data: bool,
-    /// The device whose transfers have lines, or all.
+    /// The device that has lines, or all.
     pub device: Option<DeviceAddress>,
     /// The least time of a line, in nanoseconds after the first frame.
     pub from: Option<u64>,
@@ -48,19 +51,25 @@ pub struct Selection {
 }
 
 impl Selection {
-    /// Whether a transfer has lines.
-    pub(crate) fn wants(&self, origin: u64, transfer: &ControlTransfer) -> bool
-        ensures { result ≡ is_wanted self.now origin transfer.now }
+    /// Whether there are lines of what a device did at this time.
+    pub(crate) fn wants(
+        &self,
+        origin: u64,
+        device: Option<DeviceAddress>,
+        time: Option<u64>,
+    ) -> bool
+        ensures { result ≡ is_wanted self.now origin device time }
     {
-        !self.brief && self.wants_device(transfer) && self.wants_time(origin, time_of(transfer))
+        !self.brief && self.wants_device(device) && self.wants_time(origin, time)
     }
 
-    fn wants_device(&self, transfer: &ControlTransfer) -> bool
-        ensures { result ≡ wants_device self.now.device transfer.now }
+    /// Whether lines of a device are wanted, or of what is of none that is known.
+    pub(crate) fn wants_device(&self, device: Option<DeviceAddress>) -> bool
+        ensures { result ≡ wants_device self.now.device device }
     {
         match self.device {
             None => true,
-            Some(device) => device.has(transfer),
+            Some(wanted) => wanted.is(device),
         }
     }
 

@@ -1,7 +1,8 @@
 //! What is known of a recording so far, and what was said of it.
-ghost use Rattle.std.specs.Prelude.{◌≡◌, ◌++◌, ◌∷◌, [], List, None, IfErr, IfOk, OnOk, is_some, length};
+ghost use Rattle.std.specs.Prelude.{◌≡◌, ◌++◌, ◌∷◌, [], List, Some, None, IfErr, IfOk, OnOk, is_some, length};
 ghost use Rattle.std.specs.Io.KnownBytes.{Appends};
 ghost use Rattle.std.specs.List.{position};
+ghost use Rattle.std.specs.Option.{option_to_list};
 ghost use Rattle.usb_capture.specs.DeviceFiles.{IsLack, IsMade};
 ghost use Rattle.usb_capture.specs.declared.control_transfer.ControlTransfer.{ControlTransfer};
 ghost use Rattle.usb_capture.specs.declared.frame.Frame.{Frame};
@@ -10,14 +11,16 @@ ghost use Rattle.usb_capture.specs.DeviceReadings.{HasCurrent};
 ghost use Rattle.usb_capture.specs.Findings.{findings};
 ghost use Rattle.usb_text.specs.Output.{Held};
 ghost use Rattle.usb_capture_lines.specs.Hearing.{Heard};
-ghost use Rattle.usb_capture_lines.specs.Recordings.{asked_at, counted, finds_any, first_part, is_seen_in, last_lines, lines_of, met, open_lines};
+ghost use Rattle.usb_capture_lines.specs.Recordings.{address_of, asked_at, bus_lines, counted, finds_any, first_part, is_seen_in, last_lines, lines_of, met, met_all, met_in, open_lines, over_lines};
 ghost use Rattle.usb_capture_lines.specs.Telling.{HasSaid};
 
-use crate::finding_lines::put_findings;
+use crate::brought::Brought;
+use crate::bus_finding::BusFinding;
+use crate::finding_lines::{put_bus_findings, put_findings};
 use crate::last_lines::{finds_any, put_counts, put_cut, put_devices, put_first_line};
 use crate::listener::Listener;
 use crate::seen_device::SeenDevice;
-use crate::selection::{DeviceAddress, Selection};
+use crate::selection::{DeviceAddress, Selection, time_of};
 use crate::tally::Tally;
 use crate::transfer_line::put_transfer;
 use std::alloc::{AllocError, Global};
@@ -29,7 +32,7 @@ use usb_capture::{
 use usb_text::{OutFault, Text, write_all};
 
 /// Takes the frames of a recording one by one, in order, and writes lines: the first one, those of each control transfer that is
-/// over, and at last those of [`Teller::finish`]. It keeps the transfers whose end hasn't come, what devices said of themselves, the last
+/// over and of what is wrong in packets, and at last those of [`Teller::finish`]. It keeps the transfers whose end hasn't come, what devices said of themselves, the last
 /// whole reading of each descriptor of the devices that have their addresses now, and which devices there were, however long the
 /// recording is.
 ///
@@ -84,10 +87,10 @@ impl Teller {
         ensures first { self.new.first ≡ self.old.first }
     {
         self.count(frame, w)?;
-        match self.listener.take(self.tally.frames, frame)? {
-            Some(transfer) => self.take_transfer(transfer, w),
-            None => Ok(()),
-        }
+        let brought = self.listener.take(self.tally.frames, frame)?;
+        let Brought { transfer, found } = brought;
+        self.take_transfer(transfer, w)?;
+        self.take_findings(&found, w)
     }
 
     /// Counts a frame, and writes the first line at the first one.
@@ -112,14 +115,31 @@ impl Teller {
         write_all(w, text.as_bytes())
     }
 
-    /// Takes a transfer that is over.
+    /// Takes a transfer that is over, if one is.
     fn take_transfer<W: Write>(
         &mut self,
-        transfer: ControlTransfer,
+        over: Option<ControlTransfer>,
         w: &mut W,
     ) -> Result<(), OutFault>
+        ensures found { OnOk result ((earlier : List ControlTransfer) → Knows earlier self.old.conversations → Knows (option_to_list over ++ earlier) self.new.conversations
+            × (self.new.devices.items ≡ met_in earlier over self.old.devices.items)
+            × Appends (W.contents w.old) (W.contents w.new) (over_lines self.old.selection self.old.tally.origin earlier over)) }
+        ensures read { OnOk result ((transfers : List ControlTransfer) → HasCurrent transfers self.old.readings → HasCurrent (transfers ++ option_to_list over) self.new.readings) }
+        ensures listener { self.new.listener ≡ self.old.listener }
+        ensures tally { self.new.tally ≡ self.old.tally }
+        ensures selection { self.new.selection ≡ self.old.selection }
+        ensures first { self.new.first ≡ self.old.first }
+    {
+        match over {
+            Some(transfer) => self.take_over(transfer, w),
+            None => Ok(()),
+        }
+    }
+
+    /// Takes a transfer that is over.
+    fn take_over<W: Write>(&mut self, transfer: ControlTransfer, w: &mut W) -> Result<(), OutFault>
         ensures found { OnOk result ((earlier : List ControlTransfer) → Knows earlier self.old.conversations → Knows (transfer ∷ earlier) self.new.conversations
-            × (self.new.devices.items ≡ met transfer (length (findings earlier transfer)) self.old.devices.items)
+            × (self.new.devices.items ≡ met (Some (address_of transfer)) (length (findings earlier transfer)) self.old.devices.items)
             × Appends (W.contents w.old) (W.contents w.new) (lines_of self.old.selection self.old.tally.origin transfer (findings earlier transfer))) }
         ensures read { OnOk result ((transfers : List ControlTransfer) → HasCurrent transfers self.old.readings → HasCurrent (transfers ++ transfer ∷ []) self.new.readings) }
         ensures listener { self.new.listener ≡ self.old.listener }
@@ -129,8 +149,40 @@ impl Teller {
     {
         let found = self.conversations.take(&transfer)?;
         self.say(&transfer, &found, w)?;
-        self.meet(&transfer, found.len())?;
+        self.meet(Some(DeviceAddress::of(&transfer)), found.len())?;
         self.readings.take(transfer)?;
+        Ok(())
+    }
+
+    /// Takes what is wrong in packets: writes its lines, and counts it.
+    fn take_findings<W: Write>(&mut self, found: &[BusFinding], w: &mut W) -> Result<(), OutFault>
+        ensures written { OnOk result (Appends (W.contents w.old) (W.contents w.new) (bus_lines self.old.selection self.old.tally.origin found.now)) }
+        ensures met { OnOk result (self.new.devices.items ≡ met_all found.now self.old.devices.items) }
+        ensures others { self.new ≡ record self.old { devices = self.new.devices } }
+    {
+        self.say_findings(found, w)?;
+        self.meet_all(found)?;
+        Ok(())
+    }
+
+    /// Writes the lines of what is wrong in packets.
+    fn say_findings<W: Write>(&self, found: &[BusFinding], w: &mut W) -> Result<(), OutFault>
+        ensures { OnOk result (Appends (W.contents w.old) (W.contents w.new) (bus_lines self.now.selection self.now.tally.origin found.now)) }
+    {
+        let mut text = Text::new(self.alloc);
+        put_bus_findings(&mut text, &self.selection, self.tally.origin, found)?;
+        write_all(w, text.as_bytes())
+    }
+
+    /// Counts what is wrong in packets.
+    #[tactic(auto, using(crate::proofs::TellingLemmas::met_push))]
+    fn meet_all(&mut self, found: &[BusFinding]) -> Result<(), AllocError>
+        ensures met { OnOk result (self.new.devices.items ≡ met_all found.now self.old.devices.items) }
+        ensures others { self.new ≡ record self.old { devices = self.new.devices } }
+    {
+        for finding in found {
+            self.meet(finding.device(), 1)?;
+        }
         Ok(())
     }
 
@@ -154,14 +206,14 @@ impl Teller {
         write_all(w, text.as_bytes())
     }
 
-    /// Keeps the device of a transfer with so many findings.
-    fn meet(&mut self, transfer: &ControlTransfer, found: usize) -> Result<(), AllocError>
-        ensures met { OnOk result (self.new.devices.items ≡ met transfer.now found self.old.devices.items) }
+    /// Counts so many findings more of a device.
+    fn meet(&mut self, device: Option<DeviceAddress>, found: usize) -> Result<(), AllocError>
+        ensures met { OnOk result (self.new.devices.items ≡ met device found self.old.devices.items) }
         ensures others { self.new ≡ record self.old { devices = self.new.devices } }
     {
-        match place_of(&self.devices, transfer) {
+        match place_of(&self.devices, device) {
             Some(place) => self.devices[place] = self.devices[place].with_findings(found),
-            None => self.devices.push(SeenDevice::first(transfer, found))?,
+            None => self.devices.push(SeenDevice::first(device, found))?,
         }
         Ok(())
     }
@@ -185,7 +237,7 @@ impl Teller {
         self.readings.file(self.alloc, device.bus, device.device)
     }
 
-    /// Whether something was found in the transfers of a device whose lines are wanted.
+    /// Whether something was found of a device whose lines are wanted.
     pub fn finds_any(&self) -> bool
         ensures { result ≡ finds_any self.now.selection self.now.devices.items }
     {
@@ -254,18 +306,17 @@ fn put_wanted(
 ) -> Result<(), AllocError>
     ensures { OnOk result (text.new ≡ text.old ++ lines_of selection.now origin transfer.now found.now) }
 {
-    if !selection.wants(origin, transfer) {
+    let device = Some(DeviceAddress::of(transfer));
+    if !selection.wants(origin, device, time_of(transfer)) {
         return Ok(());
     }
     put_transfer(text, selection.data, origin, transfer)?;
     put_findings(text, found)
 }
 
-/// Which of these devices a transfer is of, if it is one of them.
-fn place_of(devices: &[SeenDevice], transfer: &ControlTransfer) -> Option<usize>
-    ensures { result ≡ position (is_seen_in transfer.now) devices.now }
+/// Which of these devices this is, if it is one of them.
+fn place_of(devices: &[SeenDevice], device: Option<DeviceAddress>) -> Option<usize>
+    ensures { result ≡ position (is_seen_in device) devices.now }
 {
-    devices
-        .iter()
-        .position(|device| device.address.has(transfer))
+    devices.iter().position(|seen| seen.is_at(device))
 }

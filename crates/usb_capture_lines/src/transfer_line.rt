@@ -13,7 +13,7 @@ use usb_text::Text;
 /// The columns of a line: the time, the device, the request.
 const TIME_WIDTH: usize = 11;
 
-const DEVICE_WIDTH: usize = 6;
+pub(crate) const DEVICE_WIDTH: usize = 6;
 
 const REQUEST_WIDTH: usize = 44;
 
@@ -44,7 +44,12 @@ fn put_line(text: &mut Text, origin: u64, transfer: &ControlTransfer) -> Result<
     text.put("\n")
 }
 
-fn put_time_column(text: &mut Text, origin: u64, time: Option<u64>) -> Result<(), AllocError>
+/// Puts a time in seconds from an origin, in its column.
+pub(crate) fn put_time_column(
+    text: &mut Text,
+    origin: u64,
+    time: Option<u64>,
+) -> Result<(), AllocError>
     ensures { OnOk result (text.new ≡ text.old ++ time_column origin time) }
 {
     let start = text.len();

@@ -1,5 +1,5 @@
 -- What the options of `capture` say.
-use Rattle.std.specs.Prelude.{◌≡◌, ◌⊎◌, ◌&&◌, ◌||◌, ◌==◌, ◌+◌, ◌-◌, ◌*◌, ◌^◌, ℕ, Bool, true, false, List, length, nat_lt, slice_index, Option, Some, None, IsSome, is_some, if◌then◌else◌, option_map, option_and_then}
+use Rattle.std.specs.Prelude.{◌≡◌, ◌⊎◌, ◌&&◌, ◌||◌, ◌==◌, ◌+◌, ◌-◌, ◌*◌, ◌^◌, ℕ, Bool, true, false, not, List, length, nat_lt, slice_index, Option, Some, None, IsSome, is_some, if◌then◌else◌, option_map, option_and_then}
 use Rattle.std.specs.Borrow.{Bor}
 use Rattle.std.specs.List.{after_first, before_first, position_or_len}
 use Rattle.usb_capture_lines.specs.declared.selection.DeviceAddress.{DeviceAddress}
@@ -19,10 +19,17 @@ is_point byte = byte == 46
 abbrev pub around_point : List ℕ → Option (List ℕ × List ℕ)
 around_point text = if nat_lt (position_or_len is_point text) (length text) then Some (before_first is_point text, after_first is_point text) else None
 
+-- a number in digits alone, as it is written: no plus, which is 43, and no zero, which is 48, before other digits
+abbrev pub is_plain : List ℕ → Bool
+is_plain text = not (slice_index text 0 == 43) && (not (slice_index text 0 == 48) || length text == 1)
+
+abbrev pub plain_number : List ℕ → Option ℕ
+plain_number text = if is_plain text then number_of 16 text else None
+
 -- a device: the number of its bus, a point, and its address
 abbrev pub device_of : List ℕ → Option DeviceAddress
 device_of text =
-    option_and_then (λ (p : List ℕ × List ℕ). option_and_then (λ bus. option_map (λ device. record { bus = bus; device = device }) (number_of 16 p.1)) (number_of 16 p.0)) (around_point text)
+    option_and_then (λ (p : List ℕ × List ℕ). option_and_then (λ bus. option_map (λ device. record { bus = bus; device = device }) (plain_number p.1)) (plain_number p.0)) (around_point text)
 
 -- nanoseconds of a whole number of seconds, and of at most nine digits after a point: a plus, which is 43, is none
 abbrev pub whole_time : List ℕ → Option ℕ

@@ -1,6 +1,6 @@
 //! What the options of `capture` mean.
 ghost use Rattle.std.specs.Prelude.{◌≡◌, ◌≤◌, ◌-◌, ◌*◌, ◌^◌, IfErr, IfOk, IfSome, option_map};
-ghost use Rattle.usb_tool.specs.CaptureOptions.{IsCaptureCommand, IsFileCommand, IsLinesCommand, IsSelected, RefusesCapturing, RefusesFile, RefusesSelecting, around_point, asks_lines, asks_transfers, device_of, device_said, fraction_of, time_of, time_said, whole_time};
+ghost use Rattle.usb_tool.specs.CaptureOptions.{IsCaptureCommand, IsFileCommand, IsLinesCommand, IsSelected, RefusesCapturing, RefusesFile, RefusesSelecting, around_point, asks_lines, asks_transfers, device_of, device_said, fraction_of, is_plain, plain_number, time_of, time_said, whole_time};
 ghost use Rattle.usb_tool.specs.OptionValues.{number_of};
 
 use crate::settings::SettingsFault;
@@ -133,8 +133,8 @@ fn device_of(text: &str) -> Option<DeviceAddress>
 {
     let (bus, device) = around_point(text)?;
     Some(DeviceAddress {
-        bus: short_number(bus)?,
-        device: short_number(device)?,
+        bus: plain_number(bus)?,
+        device: plain_number(device)?,
     })
 }
 
@@ -208,6 +208,23 @@ fn number(text: &str) -> Option<u32>
     ensures { result ≡ number_of 32 text.now }
 {
     text.parse::<u32>().ok()
+}
+
+/// A number of a device: digits alone, with no zero before others.
+fn plain_number(text: &str) -> Option<u16>
+    ensures { result ≡ plain_number text.now }
+{
+    if is_plain(text.as_bytes()) {
+        short_number(text)
+    } else {
+        None
+    }
+}
+
+fn is_plain(text: &[u8]) -> bool
+    ensures { result ≡ is_plain text.now }
+{
+    byte_at(text, 0) != b'+' && (byte_at(text, 0) != b'0' || text.len() == 1)
 }
 
 fn short_number(text: &str) -> Option<u16>

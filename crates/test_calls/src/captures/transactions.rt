@@ -260,10 +260,8 @@ fn findings_of(
             findings.push((number, finding))?;
         }
         if let Some(transaction) = transactions.take(&recorded)? {
-            for finding in PacketFinding::OF_TRANSACTIONS {
-                if transfers.finds(finding, &transaction) {
-                    findings.push((transaction.number, finding))?;
-                }
+            for finding in &transfers.findings(alloc, &transaction)? {
+                findings.push((transaction.number, *finding))?;
             }
             transfers.take(&transaction)?;
         }

@@ -5,12 +5,13 @@ use Rattle.usb_capture_lines.proofs.listener.Listener.take.Goals as goal
 
 pub returns-in-Ok : goal.returns-in-Ok
 returns-in-Ok c =
-    IfOk-weaker c.take_event.result _ _ (λ over takes heard has.
+    IfOk-weaker c.take_event.result _ _ (λ brought takes heard has.
     let t = takes heard has in
     (Ok c.in-Ok.event, (c.in-Ok.ensures.ok, c.in-Ok.ensures.time, c.in-Ok.ensures.cut), t.0, t.1)) c.take_event.ensures
 
 pub returns-in-Err : goal.returns-in-Err
 returns-in-Err c =
-    IfOk-weaker c.take_packet.result _ _ (λ over takes heard has.
+    let packet = c.of_frame-packet in
+    IfOk-weaker c.take_packet.result _ _ (λ brought takes heard has.
     let t = takes heard has in
-    (Err c.of_frame-packet.result, (ap is_some c.in-Err.ensures.err, c.of_frame-packet.ensures.time, c.of_frame-packet.ensures.packet), t.0, t.1)) c.take_packet.ensures
+    (Err packet.result, (ap is_some c.in-Err.ensures.err, packet.ensures.number, packet.ensures.time, packet.ensures.packet), t.0, t.1)) c.take_packet.ensures

@@ -1,14 +1,18 @@
-use Rattle.std.proofs.Common.{refl, ◌∙◌}
-use Rattle.std.proofs.lemmas.Result.{IfOk-weaker}
-use Rattle.usb_capture_lines.proofs.HearingLemmas.{heard_no_transaction, heard_transaction}
+use Rattle.std.proofs.Common.{ap, ◌∙◌}
+use Rattle.usb_capture.specs.BusTransfers.{transfers_in}
+use Rattle.usb_capture_lines.specs.BusFindings.{bus_found}
+use Rattle.usb_capture_lines.specs.Hearing.{transactions}
+use Rattle.usb_capture_lines.proofs.HearingLemmas.{heard_more}
 use Rattle.usb_capture_lines.proofs.listener.Listener.take_packet.Goals as goal
 
-pub returns-in-Some : goal.returns-in-Some
-returns-in-Some c =
-    IfOk-weaker c.take_transaction.result _ _ (λ over makes heard has.
-    heard_transaction over _ c.in-Some.transaction c.args.packet.now heard c.args.self.now c.take_transaction.new.self c.take.new.self c.in-Some.is c.in_ok-transaction.ensures.ok makes
-    c.take_transaction.ensures.controls c.take_transaction.ensures.transactions (c.take_transaction.ensures.told ∙ c.told_with-self.ensures) has) c.take_transaction.ensures.made
-
-pub returns-in-None : goal.returns-in-None
-returns-in-None c heard has =
-    heard_no_transaction _ c.args.packet.now heard c.args.self.now _ c.in-None.is c.in_ok-transaction.ensures.ok refl refl c.told_with-self.ensures has
+pub returns : goal.returns
+returns c heard has =
+    let packet = c.args.packet.now in
+    let h = heard_more c.in_ok-transfer.transfer c.in_ok-over.over packet heard c.args.self.now c.take_transaction.new.self c.take.new.self c.in_ok-over.ensures.ok
+    c.in_ok-transfer.ensures.made c.take_transaction.ensures.controls c.take_transaction.ensures.transactions (c.take_transaction.ensures.told ∙ c.told_with-self.ensures) has in (
+      h.0,
+      record {
+        transfer = h.1;
+        found = c.in_ok-found.ensures (transactions heard) (transfers_in (transactions heard)) has.made ∙ ap (bus_found (transactions heard) packet) h.2;
+      },
+    )

@@ -1,30 +1,23 @@
-use Rattle.std.proofs.Common.{◌∷◌, ap, refl, subst, sym}
+use Rattle.std.proofs.Common.{◌≡◌, ◌∷◌, ap, rules, subst, sym}
 use Rattle.std.specs.Prelude.{reverse}
 use Rattle.usb_capture.specs.Conversations.{Knows}
 use Rattle.usb_capture.specs.DeviceReadings.{HasCurrent}
 use Rattle.usb_capture_lines.specs.Hearing.{HasListened, overs}
 use Rattle.usb_capture_lines.specs.declared.teller.Teller.{Teller}
-use Rattle.usb_capture_lines.proofs.TellingLemmas.{on_ok_two, said_over, said_still}
+use Rattle.usb_capture_lines.proofs.TellingLemmas.{on_ok_two, said_more}
 use Rattle.usb_capture_lines.proofs.teller.Teller.take.Goals as goal
 
-pub returns-in-Some-clause-ok : goal.returns-in-Some-clause-ok
-returns-in-Some-clause-ok g c =
-    on_ok_two c.take_transfer.result (λ found read frames heard held has.
+pub returns-clause-ok : goal.returns-clause-ok
+returns-clause-ok g c =
+    let slice : c.deref.result.now ≡ c.in_ok-brought.brought.found.items = search rules in
+    on_ok_two c.take_findings.result (λ written met frames heard held has.
     let counted = c.count.ensures.counted in
-    let listened = c.in_ok-transfer.ensures heard (subst (HasListened heard) (sym (ap (λ (t : Teller). t.listener) counted)) has.listened) in
-    let told = found (overs heard) (subst (Knows (overs heard)) (sym (ap (λ (t : Teller). t.conversations) counted)) has.knows) in (
+    let listened = c.in_ok-brought.ensures heard (subst (HasListened heard) (sym (ap (λ (t : Teller). t.listener) counted)) has.listened) in
+    let over = c.in_ok-take_transfer.ensures in
+    let told = over.found (overs heard) (subst (Knows (overs heard)) (sym (ap (λ (t : Teller). t.conversations) counted)) has.knows) in (
       listened.0,
-      said_over frames heard c.args.frame.now listened.0 c.in-Some.transfer _ c.args.self.now c.count.new.self c.take_transfer.new.self held _ _ _ has counted c.in_ok-count.ensures.said
-          c.in-Some.is listened.1 (subst (HasListened (listened.0 ∷ heard)) (sym c.take_transfer.ensures.listener) listened.2) listened.3 told.0 told.1 told.2
-          (read (reverse (overs heard)) (subst (HasCurrent (reverse (overs heard))) (sym (ap (λ (t : Teller). t.readings) counted)) has.kept))
-          c.take_transfer.ensures.tally c.take_transfer.ensures.selection c.take_transfer.ensures.first,
-    )) c.take_transfer.ensures.found c.take_transfer.ensures.read
-
-pub returns-in-None-clause-ok : goal.returns-in-None-clause-ok
-returns-in-None-clause-ok g c frames heard held has =
-    let counted = c.count.ensures.counted in
-    let listened = c.in_ok-transfer.ensures heard (subst (HasListened heard) (sym (ap (λ (t : Teller). t.listener) counted)) has.listened) in (
-      listened.0,
-      said_still frames heard c.args.frame.now listened.0 _ c.args.self.now c.count.new.self _ held _ _ has counted c.in_ok-count.ensures.said c.in-None.is listened.1 listened.2 listened.3
-          refl refl refl refl refl refl,
-    )
+      said_more frames heard c.args.frame.now listened.0 c.in_ok-brought.brought c.args.self.now c.count.new.self c.take_transfer.new.self c.take_findings.new.self held _ _ _ _ has counted
+          c.in_ok-count.ensures.said listened.1 (subst (HasListened (listened.0 ∷ heard)) (sym c.take_transfer.ensures.listener) listened.2) listened.3 told.0 told.1 told.2
+          (over.read (reverse (overs heard)) (subst (HasCurrent (reverse (overs heard))) (sym (ap (λ (t : Teller). t.readings) counted)) has.kept))
+          c.take_transfer.ensures.tally c.take_transfer.ensures.selection c.take_transfer.ensures.first c.take_findings.ensures.others (rw slice at met) (rw slice at written),
+    )) c.take_findings.ensures.written c.take_findings.ensures.met

@@ -1,17 +1,16 @@
-use Rattle.std.proofs.Common.{◌≡◌, ◌∷◌, ◌∙◌, ap, length, rules, subst, sym}
-use Rattle.std.specs.Io.KnownBytes.{Appends}
-use Rattle.usb_capture.specs.Conversations.{Knows}
-use Rattle.usb_capture_lines.specs.Recordings.{lines_of, met}
-use Rattle.usb_capture_lines.specs.declared.teller.Teller.{Teller}
+use Rattle.std.proofs.Common.{append-nil, refl, subst, sym}
+use Rattle.usb_capture.specs.DeviceReadings.{HasCurrent}
+use Rattle.usb_text.proofs.Pages.{appends_nothing, keeps_refl}
 use Rattle.usb_capture_lines.proofs.teller.Teller.take_transfer.Goals as goal
 
-pub returns-clause-found : goal.returns-clause-found
-returns-clause-found g c earlier knows =
-    let got = c.in_ok-found.ensures.ok earlier knows in
-    let count : c.len.result ≡ length c.in_ok-found.found.items = search rules in
-    let slice : c.deref.result.now ≡ c.in_ok-found.found.items = search rules in (
-      subst (Knows (c.args.transfer ∷ earlier)) (sym (ap (λ (t : Teller). t.conversations) c.meet.ensures.others)) got.1,
-      c.in_ok-meet.ensures.met ∙ ap (λ n. met c.args.transfer n c.args.self.now.devices.items) (count ∙ ap length got.0),
-      subst (λ found. Appends (g.W.Write.contents c.args.w.now) (g.W.Write.contents c.say.new.w) (lines_of c.args.self.now.selection c.args.self.now.tally.origin c.args.transfer found))
-          (slice ∙ got.0) c.in_ok-say.ensures,
-    )
+pub returns-in-Some-clause-found : goal.returns-in-Some-clause-found
+returns-in-Some-clause-found g c = rw c.in-Some.is c.take_over.ensures.found
+
+pub returns-in-Some-clause-read : goal.returns-in-Some-clause-read
+returns-in-Some-clause-read g c = rw c.in-Some.is c.take_over.ensures.read
+
+pub returns-in-None-clause-found : goal.returns-in-None-clause-found
+returns-in-None-clause-found g c = rw c.in-None.is λ earlier knows. (knows, refl, appends_nothing _ _ (keeps_refl _))
+
+pub returns-in-None-clause-read : goal.returns-in-None-clause-read
+returns-in-None-clause-read g c = rw c.in-None.is λ transfers has. subst (λ ts. HasCurrent ts c.args.self.now.readings) (sym (append-nil transfers)) has
