@@ -1,4 +1,4 @@
-pub mod HearingLemmas
+pub mod ObservationLemmas
 pub mod TellingLemmas
 pub mod RecordingLemmas
 pub mod RunLemmas

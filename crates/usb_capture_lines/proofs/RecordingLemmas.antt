@@ -16,7 +16,7 @@ use Rattle.usb_text.specs.Output.{Held}
 use Rattle.usb_text.specs.declared.output.OutFault.{OutFault}
 use Rattle.usb_text.specs.declared.output.OutFault.TheVariants as outs
 use Rattle.usb_text.proofs.Pages.{appends_more}
-use Rattle.usb_capture_lines.specs.Hearing.{Heard, events, told_of, transactions}
+use Rattle.usb_capture_lines.specs.Observations.{Observed, events, decoded_of, transactions}
 use Rattle.usb_capture_lines.specs.Recordings.{ended_text, finds_any, last_lines, readings_in, tally_of, told_text}
 use Rattle.usb_capture_lines.specs.RecordingTellers.{Halts, HasTold, IsRecording, Recorded, RecordedUpTo, TellerTold, ToldBroken, ToldUpTo, ToldWhole, fault_of_output, if_begun, tell_fault_of}
 use Rattle.usb_capture_lines.specs.Telling.{HasSaid}
@@ -43,46 +43,46 @@ recording_is bytes frames reader read =
 
 -- the lines so far
 pub lines_told : (s : Selection) (first : ℕ) (frames : List Frame) (teller : Teller) (held holds : Held) (t : TellerTold s first frames teller held holds)
-    → Appends held holds (told_text s first (reverse frames) t.heard)
+    → Appends held holds (told_text s first (reverse frames) t.observed)
 lines_told s first frames teller held holds t =
-    subst (λ n. Appends held holds (told_text s n (reverse frames) t.heard)) t.first_is
-    (subst (λ x. Appends held holds (told_text x teller.first (reverse frames) t.heard)) t.selection t.said.written)
+    subst (λ n. Appends held holds (told_text s n (reverse frames) t.observed)) t.first_is
+    (subst (λ x. Appends held holds (told_text x teller.first (reverse frames) t.observed)) t.selection t.said.written)
 
 -- the last lines of who told of frames
 abbrev pub lines_of_last : Teller → ℕ → ℕ → List ℕ
 lines_of_last teller place left =
-    last_lines teller.selection teller.tally teller.listener.told teller.listener.controls.held.items teller.listener.transfers.pipes.held.held.items teller.readings.readings.kept.items teller.devices.items place left
+    last_lines teller.selection teller.tally teller.observer.decoded teller.observer.controls.held.items teller.observer.transfers.pipes.held.held.items teller.readings.readings.kept.items teller.devices.items place left
 
 pub last_told : (s : Selection) (first : ℕ) (frames : List Frame) (teller : Teller) (held holds : Held) (t : TellerTold s first frames teller held holds) (place left : ℕ)
-    → lines_of_last teller place left ≡ ended_text s (reverse frames) t.heard place left
+    → lines_of_last teller place left ≡ ended_text s (reverse frames) t.observed place left
 last_told s first frames teller held holds t place left =
     let has = t.said in
-    let listener = teller.listener in
-    let hosts = listener.controls.held.items in
-    let pipes = listener.transfers.pipes.held.held.items in
+    let observer = teller.observer in
+    let hosts = observer.controls.held.items in
+    let pipes = observer.transfers.pipes.held.held.items in
     let kept = teller.readings.readings.kept.items in
     let devices = teller.devices.items in
     let tally = tally_of (reverse frames) in
-    let open_hosts = open_after [] (events t.heard) in
-    let open_pipes = (pipes_in (transactions t.heard)).held in
-    ap (λ x. last_lines x teller.tally listener.told hosts pipes kept devices place left) t.selection
-    ∙ ap (λ x. last_lines s x listener.told hosts pipes kept devices place left) has.tally
-    ∙ ap (λ x. last_lines s tally x hosts pipes kept devices place left) has.listened.told
-    ∙ ap (λ x. last_lines s tally (told_of t.heard) x pipes kept devices place left) has.listened.taken.0
-    ∙ ap (λ (x : Pipes). last_lines s tally (told_of t.heard) open_hosts x.held kept devices place left) has.listened.made.0
-    ∙ ap (λ x. last_lines s tally (told_of t.heard) open_hosts open_pipes x devices place left) has.kept
-    ∙ ap (λ x. last_lines s tally (told_of t.heard) open_hosts open_pipes (readings_in t.heard) x place left) has.devices
+    let open_hosts = open_after [] (events t.observed) in
+    let open_pipes = (pipes_in (transactions t.observed)).held in
+    ap (λ x. last_lines x teller.tally observer.decoded hosts pipes kept devices place left) t.selection
+    ∙ ap (λ x. last_lines s x observer.decoded hosts pipes kept devices place left) has.tally
+    ∙ ap (λ x. last_lines s tally x hosts pipes kept devices place left) has.observer.decoded
+    ∙ ap (λ x. last_lines s tally (decoded_of t.observed) x pipes kept devices place left) has.observer.taken.0
+    ∙ ap (λ (x : Pipes). last_lines s tally (decoded_of t.observed) open_hosts x.held kept devices place left) has.observer.made.0
+    ∙ ap (λ x. last_lines s tally (decoded_of t.observed) open_hosts open_pipes x devices place left) has.kept
+    ∙ ap (λ x. last_lines s tally (decoded_of t.observed) open_hosts open_pipes (readings_in t.observed) x place left) has.devices
 
 -- what it keeps of readings
 pub readings_told : (s : Selection) (first : ℕ) (frames : List Frame) (teller : Teller) (held holds : Held) (t : TellerTold s first frames teller held holds)
-    → teller.readings.readings.kept.items ≡ readings_in t.heard
+    → teller.readings.readings.kept.items ≡ readings_in t.observed
 readings_told s first frames teller held holds t = t.said.kept
 
 -- a recording of which these bytes were read
 abbrev pub recorded : (s : Selection) (first : ℕ) (bytes : List ℕ) (recording : RecordingTeller) (held holds : Held) → HasTold s first bytes recording held holds → Recorded bytes
 recorded s first bytes recording held holds told = record {
   frames = told.frames;
-  heard = told.told.heard;
+  observed = told.told.observed;
   place = recording.reader.place;
   left = length told.read.1;
   recording = recording_is bytes told.frames recording.reader told.read;
@@ -99,7 +99,7 @@ told_whole s first bytes recording held mid holds place left found told place_is
     let t = told.told in
     let frames = reverse told.frames in
     let ending = last_told s first told.frames recording.teller held mid t place left
-    ∙ ap (λ p. ended_text s frames t.heard p left) place_is ∙ ap (λ n. ended_text s frames t.heard recording.reader.place n) left_is in
+    ∙ ap (λ p. ended_text s frames t.observed p left) place_is ∙ ap (λ n. ended_text s frames t.observed recording.reader.place n) left_is in
     record {
       it = recorded s first bytes recording held mid told;
       finds = found_is ∙ ap (λ x. finds_any x recording.teller.devices.items) t.selection ∙ ap (finds_any s) t.said.devices;
@@ -111,7 +111,7 @@ abbrev pub recorded_up_to : (s : Selection) (first : ℕ) (bytes : List ℕ) (wh
     → ToldUpTo s first bytes why at recording held holds → RecordedUpTo bytes why at
 recorded_up_to s first bytes why at recording held holds told = record {
   frames = told.frames;
-  heard = told.told.heard;
+  observed = told.told.observed;
   place = told.place;
   refused = told.refused;
   at_is = told.at_is;
@@ -121,7 +121,7 @@ recorded_up_to s first bytes why at recording held holds told = record {
 -- its lines, where a frame came and where none did
 pub told_broken : (s : Selection) (first : ℕ) (bytes : List ℕ) (why : CaptureFault) (at : ℕ) (recording : RecordingTeller) (held mid holds : Held) (lines : List ℕ)
     → (told : ToldUpTo s first bytes why at recording held mid)
-    → lines ≡ if_begun (tally_of (reverse told.frames)).link (ended_text s (reverse told.frames) told.told.heard at 0)
+    → lines ≡ if_begun (tally_of (reverse told.frames)).link (ended_text s (reverse told.frames) told.told.observed at 0)
     → Appends mid holds lines → ToldBroken s first bytes why at held holds
 told_broken s first bytes why at recording held mid holds lines told is last = record {
   it = recorded_up_to s first bytes why at recording held mid told;
@@ -138,16 +138,16 @@ unbegun_by (Some n) lines none = let w : ⊥ = cc in absurd w
 
 -- the last lines where a frame came
 pub ends_begun : (s : Selection) (first : ℕ) (frames : List Frame) (teller : Teller) (held holds : Held) (t : TellerTold s first frames teller held holds) (at : ℕ) → is_some teller.tally.link ≡ true
-    → lines_of_last teller at 0 ≡ if_begun (tally_of (reverse frames)).link (ended_text s (reverse frames) t.heard at 0)
+    → lines_of_last teller at 0 ≡ if_begun (tally_of (reverse frames)).link (ended_text s (reverse frames) t.observed at 0)
 ends_begun s first frames teller held holds t at some =
     last_told s first frames teller held holds t at 0
-    ∙ begun_by (tally_of (reverse frames)).link (ended_text s (reverse frames) t.heard at 0) (ap (λ (x : Tally). is_some x.link) (sym t.said.tally) ∙ some)
+    ∙ begun_by (tally_of (reverse frames)).link (ended_text s (reverse frames) t.observed at 0) (ap (λ (x : Tally). is_some x.link) (sym t.said.tally) ∙ some)
 
 -- and where none did
 pub ends_unbegun : (s : Selection) (first : ℕ) (frames : List Frame) (teller : Teller) (held holds : Held) (t : TellerTold s first frames teller held holds) (at : ℕ) → is_some teller.tally.link ≡ false
-    → [] ≡ if_begun (tally_of (reverse frames)).link (ended_text s (reverse frames) t.heard at 0)
+    → [] ≡ if_begun (tally_of (reverse frames)).link (ended_text s (reverse frames) t.observed at 0)
 ends_unbegun s first frames teller held holds t at none =
-    unbegun_by (tally_of (reverse frames)).link (ended_text s (reverse frames) t.heard at 0) (ap (λ (x : Tally). is_some x.link) (sym t.said.tally) ∙ none)
+    unbegun_by (tally_of (reverse frames)).link (ended_text s (reverse frames) t.observed at 0) (ap (λ (x : Tally). is_some x.link) (sym t.said.tally) ∙ none)
 
 -- why a fault of the reader halts it
 pub halts : (s : Selection) (first : ℕ) (bytes piece : List ℕ) (why : CaptureFault) (at : ℕ) (old new : RecordingTeller) (held holds : Held)
@@ -182,14 +182,14 @@ halts s first bytes piece why at old new held holds told same (inr refused) = by
 
 -- one who tells has told of one frame more
 pub tell_more : (s : Selection) (first : ℕ) (frames : List Frame) (f : Frame) (old new : Teller) (held a b : Held)
-    → ((fs : List Frame) (xs : List Heard) (h : Held) → HasSaid fs xs old h a → (x : Heard) × HasSaid (f ∷ fs) (x ∷ xs) new h b)
+    → ((fs : List Frame) (xs : List Observed) (h : Held) → HasSaid fs xs old h a → (x : Observed) × HasSaid (f ∷ fs) (x ∷ xs) new h b)
     → new.selection ≡ old.selection → new.first ≡ old.first
     → TellerTold s first frames old held a → TellerTold s first (frames ++ f ∷ []) new held b
 tell_more s first frames f old new held a b hears selection first_is t =
-    let got = hears (reverse frames) t.heard held t.said in
+    let got = hears (reverse frames) t.observed held t.said in
     record {
-      heard = got.0 ∷ t.heard;
-      said = subst (λ fs. HasSaid fs (got.0 ∷ t.heard) new held b) (sym (reverse-append frames (f ∷ []))) got.1;
+      observed = got.0 ∷ t.observed;
+      said = subst (λ fs. HasSaid fs (got.0 ∷ t.observed) new held b) (sym (reverse-append frames (f ∷ []))) got.1;
       selection = selection ∙ t.selection;
       first_is = first_is ∙ t.first_is;
     }

@@ -180,7 +180,7 @@ stops_after s first from to recording held mid holds stop fault pours told =
 nothing_recorded : Recorded []
 nothing_recorded = record {
   frames = [];
-  heard = [];
+  observed = [];
   place = 0;
   left = 0;
   recording = record { parts = []; part = []; bytes_are = refl; each = tt; unfinished = omega arith; read = refl; place_is = refl; left_is = refl };

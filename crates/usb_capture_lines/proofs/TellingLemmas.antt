@@ -9,10 +9,10 @@ use Rattle.usb_capture.specs.Conversations.{Knows}
 use Rattle.usb_capture.specs.DeviceReadings.{HasCurrent}
 use Rattle.usb_text.specs.Output.{Held}
 use Rattle.usb_text.proofs.Pages.{appends_more}
-use Rattle.usb_capture_lines.specs.Hearing.{Brings, HasListened, Heard, HeardIn, found_by, frame_count, one_more, over_by, overs}
+use Rattle.usb_capture_lines.specs.Observations.{Completes, HasObserved, Observed, IsObserved, found_by, frame_count, one_more, over_by, overs}
 use Rattle.usb_capture_lines.specs.Recordings.{bus_lines, counted, counted_first, first_part, met, met_all, met_in, over_lines, tally_of, told_text}
 use Rattle.usb_capture_lines.specs.BusFindings.{device_of}
-use Rattle.usb_capture_lines.specs.declared.brought.Brought.{Brought}
+use Rattle.usb_capture_lines.specs.declared.completed.Completed.{Completed}
 use Rattle.usb_capture_lines.specs.declared.bus_finding.BusFinding.{BusFinding}
 use Rattle.usb_capture_lines.specs.declared.seen_device.SeenDevice.{SeenDevice}
 use Rattle.usb_capture_lines.specs.declared.tally.Tally.{Tally}
@@ -32,53 +32,53 @@ reversed : {A : Type 0} (o : Option A) (xs : List A) → reverse xs ++ option_to
 reversed None xs = append-nil (reverse xs)
 reversed (Some x) xs = sym (reverse_onto xs x [])
 
--- what holds after a frame more, with what it brings
-pub said_more : (frames : List Frame) (heard : List Heard) (f : Frame) (x : Heard) (brought : Brought) (old mid next new : Teller) (held a b c d : Held)
-    → HasSaid frames heard old held a
+-- what holds after a frame more, with what it completes
+pub said_more : (frames : List Frame) (observed : List Observed) (f : Frame) (x : Observed) (completed : Completed) (old mid next new : Teller) (held a b c d : Held)
+    → HasSaid frames observed old held a
     → mid ≡ record old { tally = counted f old.tally }
     → Appends a b (first_part old.first old.tally.link f.link)
-    → HeardIn mid.tally.frames f x → HasListened (x ∷ heard) next.listener → Brings heard x brought
-    → Knows (option_to_list brought.transfer ++ overs heard) next.conversations
-    → next.devices.items ≡ met_in (overs heard) brought.transfer mid.devices.items
-    → Appends b c (over_lines mid.selection mid.tally.origin (overs heard) brought.transfer)
-    → HasCurrent (reverse (overs heard) ++ option_to_list brought.transfer) next.readings
+    → IsObserved mid.tally.frames f x → HasObserved (x ∷ observed) next.observer → Completes observed x completed
+    → Knows (option_to_list completed.transfer ++ overs observed) next.conversations
+    → next.devices.items ≡ met_in (overs observed) completed.transfer mid.devices.items
+    → Appends b c (over_lines mid.selection mid.tally.origin (overs observed) completed.transfer)
+    → HasCurrent (reverse (overs observed) ++ option_to_list completed.transfer) next.readings
     → next.tally ≡ mid.tally → next.selection ≡ mid.selection → next.first ≡ mid.first
     → new ≡ record next { devices = new.devices }
-    → new.devices.items ≡ met_all brought.found.items next.devices.items
-    → Appends c d (bus_lines next.selection next.tally.origin brought.found.items)
-    → HasSaid (f ∷ frames) (x ∷ heard) new held d
-said_more frames heard f x brought old mid next new held a b c d has mid-is head is listened brings knows next-devices lines kept tally selection first new-is devices found =
+    → new.devices.items ≡ met_all completed.found.items next.devices.items
+    → Appends c d (bus_lines next.selection next.tally.origin completed.found.items)
+    → HasSaid (f ∷ frames) (x ∷ observed) new held d
+said_more frames observed f x completed old mid next new held a b c d has mid-is head is observer completes knows next-devices lines kept tally selection first new-is devices found =
     let after : mid.tally ≡ tally_of (f ∷ frames) = ap (λ (t : Teller). t.tally) mid-is ∙ ap (counted f) has.tally in
     let next-tally : next.tally ≡ tally_of (f ∷ frames) = tally ∙ after in
     let mid-selection : mid.selection ≡ new.selection = sym (ap (λ (t : Teller). t.selection) new-is ∙ selection) in
     let next-selection : next.selection ≡ new.selection = sym (ap (λ (t : Teller). t.selection) new-is) in
     let same-selection : old.selection ≡ new.selection = sym (ap (λ (t : Teller). t.selection) mid-is) ∙ mid-selection in
     let same-first : old.first ≡ new.first = sym (ap (λ (t : Teller). t.first) new-is ∙ first ∙ ap (λ (t : Teller). t.first) mid-is) in
-    let before : Appends held a (told_text new.selection new.first frames heard) =
-    subst (λ s. Appends held a (told_text s new.first frames heard)) same-selection
-    (subst (λ n. Appends held a (told_text old.selection n frames heard)) same-first has.written) in
+    let before : Appends held a (told_text new.selection new.first frames observed) =
+    subst (λ s. Appends held a (told_text s new.first frames observed)) same-selection
+    (subst (λ n. Appends held a (told_text old.selection n frames observed)) same-first has.written) in
     let begun : Appends a b (first_part new.first (tally_of frames).link f.link) =
     subst (λ n. Appends a b (first_part n (tally_of frames).link f.link)) same-first
     (subst (λ (t : Tally). Appends a b (first_part old.first t.link f.link)) has.tally head) in
-    let over : Appends b c (over_lines new.selection (tally_of (f ∷ frames)).origin (overs heard) (over_by heard x)) =
-    subst (λ o. Appends b c (over_lines new.selection (tally_of (f ∷ frames)).origin (overs heard) o)) brings.transfer
-    (subst (λ (t : Tally). Appends b c (over_lines new.selection t.origin (overs heard) brought.transfer)) after
-    (subst (λ s. Appends b c (over_lines s mid.tally.origin (overs heard) brought.transfer)) mid-selection lines)) in
-    let packets : Appends c d (bus_lines new.selection (tally_of (f ∷ frames)).origin (found_by heard x)) =
-    subst (λ o. Appends c d (bus_lines new.selection (tally_of (f ∷ frames)).origin o)) brings.found
-    (subst (λ (t : Tally). Appends c d (bus_lines new.selection t.origin brought.found.items)) next-tally
-    (subst (λ s. Appends c d (bus_lines s next.tally.origin brought.found.items)) next-selection found)) in
+    let over : Appends b c (over_lines new.selection (tally_of (f ∷ frames)).origin (overs observed) (over_by observed x)) =
+    subst (λ o. Appends b c (over_lines new.selection (tally_of (f ∷ frames)).origin (overs observed) o)) completes.transfer
+    (subst (λ (t : Tally). Appends b c (over_lines new.selection t.origin (overs observed) completed.transfer)) after
+    (subst (λ s. Appends b c (over_lines s mid.tally.origin (overs observed) completed.transfer)) mid-selection lines)) in
+    let packets : Appends c d (bus_lines new.selection (tally_of (f ∷ frames)).origin (found_by observed x)) =
+    subst (λ o. Appends c d (bus_lines new.selection (tally_of (f ∷ frames)).origin o)) completes.found
+    (subst (λ (t : Tally). Appends c d (bus_lines new.selection t.origin completed.found.items)) next-tally
+    (subst (λ s. Appends c d (bus_lines s next.tally.origin completed.found.items)) next-selection found)) in
     record {
-      are = (subst (λ n. HeardIn n f x) (ap (λ (t : Tally). t.frames) after ∙ frames_counted (f ∷ frames)) is, has.are);
-      listened = subst (λ (t : Teller). HasListened (x ∷ heard) t.listener) (sym new-is) listened;
-      knows = subst (λ (t : Teller). Knows (overs (x ∷ heard)) t.conversations) (sym new-is)
-          (subst (λ o. Knows (option_to_list o ++ overs heard) next.conversations) brings.transfer knows);
-      kept = subst (λ (t : Teller). HasCurrent (reverse (overs (x ∷ heard))) t.readings) (sym new-is)
-          (subst (λ o. HasCurrent (reverse (option_to_list o ++ overs heard)) next.readings) brings.transfer
-          (subst (λ ts. HasCurrent ts next.readings) (reversed brought.transfer (overs heard)) kept));
-      devices = devices ∙ ap (λ one. met_all one next.devices.items) brings.found
-          ∙ ap (met_all (found_by heard x)) (next-devices ∙ ap (λ o. met_in (overs heard) o mid.devices.items) brings.transfer
-          ∙ ap (met_in (overs heard) (over_by heard x)) (ap (λ (t : Teller). t.devices.items) mid-is ∙ has.devices));
+      are = (subst (λ n. IsObserved n f x) (ap (λ (t : Tally). t.frames) after ∙ frames_counted (f ∷ frames)) is, has.are);
+      observer = subst (λ (t : Teller). HasObserved (x ∷ observed) t.observer) (sym new-is) observer;
+      knows = subst (λ (t : Teller). Knows (overs (x ∷ observed)) t.conversations) (sym new-is)
+          (subst (λ o. Knows (option_to_list o ++ overs observed) next.conversations) completes.transfer knows);
+      kept = subst (λ (t : Teller). HasCurrent (reverse (overs (x ∷ observed))) t.readings) (sym new-is)
+          (subst (λ o. HasCurrent (reverse (option_to_list o ++ overs observed)) next.readings) completes.transfer
+          (subst (λ ts. HasCurrent ts next.readings) (reversed completed.transfer (overs observed)) kept));
+      devices = devices ∙ ap (λ one. met_all one next.devices.items) completes.found
+          ∙ ap (met_all (found_by observed x)) (next-devices ∙ ap (λ o. met_in (overs observed) o mid.devices.items) completes.transfer
+          ∙ ap (met_in (overs observed) (over_by observed x)) (ap (λ (t : Teller). t.devices.items) mid-is ∙ has.devices));
       tally = ap (λ (t : Teller). t.tally) new-is ∙ next-tally;
       written = appends_more held b d _ _ (appends_more held a b _ _ before begun) (appends_more b c d _ _ over packets);
     }

@@ -1,7 +1,7 @@
 pub mod BusFindings
 pub mod FaultWords
 pub mod FindingLines
-pub mod Hearing
+pub mod Observations
 pub mod Lines
 pub mod Recordings
 pub mod RecordingRuns

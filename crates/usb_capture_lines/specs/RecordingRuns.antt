@@ -72,12 +72,12 @@ RecordingStops s from to held holds fault = ReadsOn [] (λ bytes. StopsTelling s
 -- the file or the dump of a device
 pub record MakesFile (device : DeviceAddress) (bytes : List ℕ) (file : DeviceFile) : Type 0 where
   pub it : Recorded bytes
-  pub made : IsMade (readings_in it.heard) (asked_at device) file
+  pub made : IsMade (readings_in it.observed) (asked_at device) file
 
 -- there is none
 pub record LacksFile (device : DeviceAddress) (bytes : List ℕ) (lack : FileLack) : Type 0 where
   pub it : Recorded bytes
-  pub lacks : IsLack (readings_in it.heard) (asked_at device) lack
+  pub lacks : IsLack (readings_in it.observed) (asked_at device) lack
 
 -- why none is made of bytes: not all were read, or something lacks in them
 abbrev pub HasNoFile : DeviceAddress → Left → List ℕ → DeviceFault → Type 0

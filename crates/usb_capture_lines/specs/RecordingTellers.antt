@@ -10,7 +10,7 @@ use Rattle.usb_capture.specs.Reading.{IsRead}
 use Rattle.usb_text.specs.Output.{Held}
 use Rattle.usb_text.specs.declared.output.OutFault.{OutFault}
 use Rattle.usb_text.specs.declared.output.OutFault.TheVariants as outs
-use Rattle.usb_capture_lines.specs.Hearing.{AreHeard, Heard}
+use Rattle.usb_capture_lines.specs.Observations.{AreObserved, Observed}
 use Rattle.usb_capture_lines.specs.Recordings.{capture_text, ended_text, is_any_found, tally_of, told_text}
 use Rattle.usb_capture_lines.specs.Telling.{HasSaid}
 use Rattle.usb_capture_lines.specs.declared.recording_teller.RecordingTeller.{RecordingTeller}
@@ -30,31 +30,31 @@ pub record IsRecording (bytes : List ℕ) (frames : List Frame) (place left : �
   pub place_is : place ≡ min (length (bytes_of parts)) (2 ^ 64 - 1)
   pub left_is : left ≡ length part
 
--- what a recording has: its frames, and what is heard in them, the last one first
+-- what a recording has: its frames, and what is observed in them, the last one first
 pub record Recorded (bytes : List ℕ) : Type 0 where
   pub frames : List Frame
-  pub heard : List Heard
+  pub observed : List Observed
   pub place : ℕ
   pub left : ℕ
   pub recording : IsRecording bytes frames place left
-  pub told : AreHeard (reverse frames) heard
+  pub told : AreObserved (reverse frames) observed
 
 -- the same of one up to a part with this fault, at this place or past the greatest number
 pub record RecordedUpTo (bytes : List ℕ) (why : CaptureFault) (at : ℕ) : Type 0 where
   pub frames : List Frame
-  pub heard : List Heard
+  pub observed : List Observed
   pub place : ℕ
   pub refused : IsRefusedAfter bytes frames why place
   pub at_is : at ≡ min place (2 ^ 64 - 1)
-  pub told : AreHeard (reverse frames) heard
+  pub told : AreObserved (reverse frames) observed
 
 -- the lines that are told of frames so far
 abbrev pub lines_so_far : Selection → ℕ → {bytes : List ℕ} → Recorded bytes → List ℕ
-lines_so_far s first it = told_text s first (reverse it.frames) it.heard
+lines_so_far s first it = told_text s first (reverse it.frames) it.observed
 
 -- all lines, with the last ones
 abbrev pub lines_of_all : Selection → ℕ → {bytes : List ℕ} → Recorded bytes → List ℕ
-lines_of_all s first it = capture_text s first (reverse it.frames) it.heard it.place it.left
+lines_of_all s first it = capture_text s first (reverse it.frames) it.observed it.place it.left
 
 -- the last lines, if there was a frame
 abbrev pub if_begun : Option ℕ → List ℕ → List ℕ
@@ -64,14 +64,14 @@ if_begun (Some link) lines = lines
 -- all lines of what came before a fault
 abbrev pub lines_up_to : Selection → ℕ → {bytes : List ℕ} → {why : CaptureFault} → {at : ℕ} → RecordedUpTo bytes why at → List ℕ
 lines_up_to s first {at = at} it =
-    told_text s first (reverse it.frames) it.heard ++ if_begun (tally_of (reverse it.frames)).link (ended_text s (reverse it.frames) it.heard at 0)
+    told_text s first (reverse it.frames) it.observed ++ if_begun (tally_of (reverse it.frames)).link (ended_text s (reverse it.frames) it.observed at 0)
 
 -- What one who tells has read and written.
 
 -- who tells of a file with this first byte has told of these frames
 pub record TellerTold (s : Selection) (first : ℕ) (frames : List Frame) (teller : Teller) (held holds : Held) : Type 0 where
-  pub heard : List Heard
-  pub said : HasSaid (reverse frames) heard teller held holds
+  pub observed : List Observed
+  pub said : HasSaid (reverse frames) observed teller held holds
   pub selection : teller.selection ≡ s
   pub first_is : teller.first ≡ first
 
@@ -107,7 +107,7 @@ fault_of_output outs.Memory = faults.Memory
 -- all lines of a recording were written, and whether something is found
 pub record ToldWhole (s : Selection) (first : ℕ) (bytes : List ℕ) (held holds : Held) (found : Bool) : Type 0 where
   pub it : Recorded bytes
-  pub finds : found ≡ is_any_found s it.heard
+  pub finds : found ≡ is_any_found s it.observed
   pub written : Appends held holds (lines_of_all s first it)
 
 -- and of one with a fault

@@ -19,7 +19,7 @@ use Rattle.usb_capture.specs.Findings.{findings}
 use Rattle.usb_capture.specs.Transfers.{open_after}
 use Rattle.usb_capture_lines.specs.BusFindings.{device_of}
 use Rattle.usb_capture_lines.specs.FindingLines.{bus_finding_line, finding_lines}
-use Rattle.usb_capture_lines.specs.Hearing.{Heard, events, found_by, one_more, over_by, overs, told_of, transactions}
+use Rattle.usb_capture_lines.specs.Observations.{Observed, events, found_by, one_more, over_by, overs, decoded_of, transactions}
 use Rattle.usb_capture_lines.specs.Lines.{address_words, seconds_words, transfer_lines}
 use Rattle.usb_capture_lines.specs.declared.bus_finding.BusFinding.{BusFinding}
 use Rattle.usb_capture_lines.specs.declared.seen_device.SeenDevice.{SeenDevice}
@@ -140,8 +140,8 @@ abbrev pub met_all : List BusFinding → List SeenDevice → List SeenDevice
 met_all [] devices = devices
 met_all (one ∷ found) devices = met_all found (met (device_of one) 1 devices)
 
--- those of what is heard, of which the last is the first in the list
-abbrev pub devices_of : List Heard → List SeenDevice
+-- those of what is observed, of which the last is the first in the list
+abbrev pub devices_of : List Observed → List SeenDevice
 devices_of [] = []
 devices_of (x ∷ earlier) = met_all (found_by earlier x) (met_in (overs earlier) (over_by earlier x) (devices_of earlier))
 
@@ -151,15 +151,15 @@ abbrev pub span_words : ℕ → Option ℕ → List ℕ
 span_words origin None = []
 span_words origin (Some last) = codes ", " ++ seconds_words (last - origin) ++ codes " seconds"
 
-abbrev pub untold_part : ℕ → List ℕ
-untold_part n = if n == 0 then [] else codes "no transfer: " ++ count n (codes "frame") ++ codes "\n"
+abbrev pub undecoded_part : ℕ → List ℕ
+undecoded_part n = if n == 0 then [] else codes "no transfer: " ++ count n (codes "frame") ++ codes "\n"
 
 unfoldable pub frames_line : ℕ → ℕ → Option ℕ → List ℕ
 frames_line n origin last = count n (codes "frame") ++ span_words origin last ++ codes "\n"
 
 -- frames, and those that tell of no transfer, where so many do
 unfoldable pub counts_lines : Tally → ℕ → List ℕ
-counts_lines tally told = frames_line tally.frames tally.origin tally.last ++ untold_part (tally.frames - told)
+counts_lines tally decoded = frames_line tally.frames tally.origin tally.last ++ undecoded_part (tally.frames - decoded)
 
 -- so many bytes are left of a part that isn't whole, which begins at this place
 abbrev pub cut_line : ℕ → ℕ → List ℕ
@@ -226,11 +226,11 @@ open_lines s origin opens = flat_map (λ one. lines_of s origin one.transfer [])
 
 -- transfers without an end, of hosts and of the bus; counts, a cut, and devices
 unfoldable pub last_lines : Selection → Tally → ℕ → List OpenTransfer → List OpenTransfer → List ControlTransfer → List SeenDevice → ℕ → ℕ → List ℕ
-last_lines s tally told hosts pipes kept devices place left =
+last_lines s tally decoded hosts pipes kept devices place left =
     open_lines s tally.origin hosts ++ open_lines s tally.origin pipes
-    ++ counts_lines tally told ++ cut_line place left ++ device_lines s kept devices
+    ++ counts_lines tally decoded ++ cut_line place left ++ device_lines s kept devices
 
--- The whole, of frames and of what is heard in them: in these lists the last one comes first.
+-- The whole, of frames and of what is observed in them: in these lists the last one comes first.
 
 -- the first line, if no link type is known yet
 abbrev pub first_part : ℕ → Option ℕ → ℕ → List ℕ
@@ -238,26 +238,26 @@ first_part first None link = first_line first link
 first_part first (Some before) link = []
 
 -- what is told of a file with this first byte
-abbrev pub told_text : Selection → ℕ → List Frame → List Heard → List ℕ
-told_text s first [] heard = []
+abbrev pub told_text : Selection → ℕ → List Frame → List Observed → List ℕ
+told_text s first [] observed = []
 told_text s first (f ∷ frames) [] = []
-told_text s first (f ∷ frames) (x ∷ heard) =
-    told_text s first frames heard ++ first_part first (tally_of frames).link f.link
-    ++ (over_lines s (tally_of (f ∷ frames)).origin (overs heard) (over_by heard x) ++ bus_lines s (tally_of (f ∷ frames)).origin (found_by heard x))
+told_text s first (f ∷ frames) (x ∷ observed) =
+    told_text s first frames observed ++ first_part first (tally_of frames).link f.link
+    ++ (over_lines s (tally_of (f ∷ frames)).origin (overs observed) (over_by observed x) ++ bus_lines s (tally_of (f ∷ frames)).origin (found_by observed x))
 
 -- the last readings of the devices that have their addresses at the end
-abbrev pub readings_in : List Heard → List ControlTransfer
-readings_in heard = current_after [] (reverse (overs heard))
+abbrev pub readings_in : List Observed → List ControlTransfer
+readings_in observed = current_after [] (reverse (overs observed))
 
 -- and at its end, where so many bytes are left of a part that isn't whole and begins at this place
-abbrev pub ended_text : Selection → List Frame → List Heard → ℕ → ℕ → List ℕ
-ended_text s frames heard place left =
-    last_lines s (tally_of frames) (told_of heard) (open_after [] (events heard)) (pipes_in (transactions heard)).held (readings_in heard)
-    (devices_of heard) place left
+abbrev pub ended_text : Selection → List Frame → List Observed → ℕ → ℕ → List ℕ
+ended_text s frames observed place left =
+    last_lines s (tally_of frames) (decoded_of observed) (open_after [] (events observed)) (pipes_in (transactions observed)).held (readings_in observed)
+    (devices_of observed) place left
 
-abbrev pub capture_text : Selection → ℕ → List Frame → List Heard → ℕ → ℕ → List ℕ
-capture_text s first frames heard place left = told_text s first frames heard ++ ended_text s frames heard place left
+abbrev pub capture_text : Selection → ℕ → List Frame → List Observed → ℕ → ℕ → List ℕ
+capture_text s first frames observed place left = told_text s first frames observed ++ ended_text s frames observed place left
 
 -- whether something is found
-abbrev pub is_any_found : Selection → List Heard → Bool
-is_any_found s heard = finds_any s (devices_of heard)
+abbrev pub is_any_found : Selection → List Observed → Bool
+is_any_found s observed = finds_any s (devices_of observed)

@@ -3,7 +3,7 @@ ghost use Rattle.std.specs.Prelude.{◌≡◌, ◌++◌, find, OnOk};
 ghost use Rattle.std.specs.Option.{option_copied};
 ghost use Rattle.usb_text.specs.Lines.{column};
 ghost use Rattle.usb_capture_lines.specs.Lines.{address_words};
-ghost use Rattle.usb_capture_lines.specs.Recordings.{counts_lines, cut_line, device_line, device_lines, device_part, device_words, findings_words, finds_any, first_line, has_findings, form_words, frames_line, is_reading_of, link_words, no_device_line, product_words, seen_line, set_length_words, set_words, span_words, untold_part};
+ghost use Rattle.usb_capture_lines.specs.Recordings.{counts_lines, cut_line, device_line, device_lines, device_part, device_words, findings_words, finds_any, first_line, has_findings, form_words, frames_line, is_reading_of, link_words, no_device_line, product_words, seen_line, set_length_words, set_words, span_words, undecoded_part};
 
 use crate::seen_device::SeenDevice;
 use crate::selection::{DeviceAddress, Selection};
@@ -54,13 +54,13 @@ fn put_link(text: &mut Text, link: u16) -> Result<(), AllocError>
     }
 }
 
-/// Puts how many frames there were, in which time, and how many of them told of no transfer, where so many did.
+/// Puts how many frames there were, in which time, and how many of them are neither an event nor a whole packet, where some are.
 #[tactic(auto, unfolding(crate::specs::Recordings::counts_lines))]
-pub(crate) fn put_counts(text: &mut Text, tally: &Tally, told: u64) -> Result<(), AllocError>
-    ensures { OnOk result (text.new ≡ text.old ++ counts_lines tally.now told) }
+pub(crate) fn put_counts(text: &mut Text, tally: &Tally, decoded: u64) -> Result<(), AllocError>
+    ensures { OnOk result (text.new ≡ text.old ++ counts_lines tally.now decoded) }
 {
     put_frames(text, tally.frames, tally.origin, tally.last)?;
-    put_untold(text, tally.frames.saturating_sub(told))
+    put_undecoded(text, tally.frames.saturating_sub(decoded))
 }
 
 #[tactic(auto, unfolding(crate::specs::Recordings::frames_line))]
@@ -83,8 +83,8 @@ fn put_span(text: &mut Text, origin: u64, last: Option<u64>) -> Result<(), Alloc
     text.put(" seconds")
 }
 
-fn put_untold(text: &mut Text, count: u64) -> Result<(), AllocError>
-    ensures { OnOk result (text.new ≡ text.old ++ untold_part count) }
+fn put_undecoded(text: &mut Text, count: u64) -> Result<(), AllocError>
+    ensures { OnOk result (text.new ≡ text.old ++ undecoded_part count) }
 {
     if count == 0 {
         return Ok(());

@@ -1,7 +1,7 @@
 //! What a recording of a bus says, in lines.
 //!
 //! A [`Teller`] takes the frames of a capture file, which `usb_capture` reads, and writes a line for each control transfer, of
-//! events of a host or of packets of the bus (`specs/Hearing.antt`): when it ended, whose it is, what was asked, what came of it
+//! events of a host or of packets of the bus (`specs/Observations.antt`): when it ended, whose it is, what was asked, what came of it
 //! and what USB 2.0 forbids in it (`specs/FindingLines.antt`), and one for what it forbids in packets (`specs/BusFindings.antt`);
 //! at the end what was counted and which devices there were. What it
 //! has written is a definition over the frames (`specs/Telling.antt` and `specs/Recordings.antt`). Lines of a transfer are
@@ -11,12 +11,12 @@
 //! says which lines are wanted.
 #![tactic(auto)]
 
-mod brought;
 mod bus_finding;
+mod completed;
 mod fault_words;
 mod finding_lines;
 mod last_lines;
-mod listener;
+mod observer;
 mod recording;
 mod recording_teller;
 mod request_words;

@@ -1,6 +1,6 @@
 //! What of a recording is counted.
 ghost use Rattle.std.specs.Prelude.{◌≡◌};
-ghost use Rattle.usb_capture_lines.specs.Hearing.{one_more};
+ghost use Rattle.usb_capture_lines.specs.Observations.{one_more};
 ghost use Rattle.usb_capture_lines.specs.Recordings.{counted, none_counted};
 
 use usb_capture::Frame;

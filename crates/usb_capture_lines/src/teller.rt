@@ -10,15 +10,15 @@ ghost use Rattle.usb_capture.specs.Conversations.{Knows};
 ghost use Rattle.usb_capture.specs.DeviceReadings.{HasCurrent};
 ghost use Rattle.usb_capture.specs.Findings.{findings};
 ghost use Rattle.usb_text.specs.Output.{Held};
-ghost use Rattle.usb_capture_lines.specs.Hearing.{Heard};
+ghost use Rattle.usb_capture_lines.specs.Observations.{Observed};
 ghost use Rattle.usb_capture_lines.specs.Recordings.{address_of, asked_at, bus_lines, counted, finds_any, first_part, is_seen_in, last_lines, lines_of, met, met_all, met_in, open_lines, over_lines};
 ghost use Rattle.usb_capture_lines.specs.Telling.{HasSaid};
 
-use crate::brought::Brought;
 use crate::bus_finding::BusFinding;
+use crate::completed::Completed;
 use crate::finding_lines::{put_bus_findings, put_findings};
 use crate::last_lines::{finds_any, put_counts, put_cut, put_devices, put_first_line};
-use crate::listener::Listener;
+use crate::observer::Observer;
 use crate::seen_device::SeenDevice;
 use crate::selection::{DeviceAddress, Selection, time_of};
 use crate::tally::Tally;
@@ -49,7 +49,7 @@ pub struct Teller {
     selection: Selection,
     /// The first byte of the file.
     first: u8,
-    listener: Listener,
+    observer: Observer,
     conversations: Conversations,
     readings: DeviceReadings,
     devices: Vec<SeenDevice>,
@@ -67,7 +67,7 @@ impl Teller {
             alloc,
             selection,
             first,
-            listener: Listener::new(alloc),
+            observer: Observer::new(alloc),
             conversations: Conversations::new(alloc),
             readings: DeviceReadings::new(alloc),
             devices: Vec::new(alloc),
@@ -81,14 +81,14 @@ impl Teller {
     ///
     /// `Write` where the writer failed, and `Memory`.
     pub fn take<W: Write>(&mut self, frame: &Frame, w: &mut W) -> Result<(), OutFault>
-        ensures ok { OnOk result ((frames : List Frame) (heard : List Heard) (held : Held) → HasSaid frames heard self.old held (W.contents w.old)
-            → (x : Heard) × HasSaid (frame.now ∷ frames) (x ∷ heard) self.new held (W.contents w.new)) }
+        ensures ok { OnOk result ((frames : List Frame) (observed : List Observed) (held : Held) → HasSaid frames observed self.old held (W.contents w.old)
+            → (x : Observed) × HasSaid (frame.now ∷ frames) (x ∷ observed) self.new held (W.contents w.new)) }
         ensures selection { self.new.selection ≡ self.old.selection }
         ensures first { self.new.first ≡ self.old.first }
     {
         self.count(frame, w)?;
-        let brought = self.listener.take(self.tally.frames, frame)?;
-        let Brought { transfer, found } = brought;
+        let completed = self.observer.take(self.tally.frames, frame)?;
+        let Completed { transfer, found } = completed;
         self.take_transfer(transfer, w)?;
         self.take_findings(&found, w)
     }
@@ -125,7 +125,7 @@ impl Teller {
             × (self.new.devices.items ≡ met_in earlier over self.old.devices.items)
             × Appends (W.contents w.old) (W.contents w.new) (over_lines self.old.selection self.old.tally.origin earlier over)) }
         ensures read { OnOk result ((transfers : List ControlTransfer) → HasCurrent transfers self.old.readings → HasCurrent (transfers ++ option_to_list over) self.new.readings) }
-        ensures listener { self.new.listener ≡ self.old.listener }
+        ensures observer { self.new.observer ≡ self.old.observer }
         ensures tally { self.new.tally ≡ self.old.tally }
         ensures selection { self.new.selection ≡ self.old.selection }
         ensures first { self.new.first ≡ self.old.first }
@@ -142,7 +142,7 @@ impl Teller {
             × (self.new.devices.items ≡ met (Some (address_of transfer)) (length (findings earlier transfer)) self.old.devices.items)
             × Appends (W.contents w.old) (W.contents w.new) (lines_of self.old.selection self.old.tally.origin transfer (findings earlier transfer))) }
         ensures read { OnOk result ((transfers : List ControlTransfer) → HasCurrent transfers self.old.readings → HasCurrent (transfers ++ transfer ∷ []) self.new.readings) }
-        ensures listener { self.new.listener ≡ self.old.listener }
+        ensures observer { self.new.observer ≡ self.old.observer }
         ensures tally { self.new.tally ≡ self.old.tally }
         ensures selection { self.new.selection ≡ self.old.selection }
         ensures first { self.new.first ≡ self.old.first }
@@ -250,7 +250,7 @@ impl Teller {
     ///
     /// Those of [`Teller::take`].
     pub fn finish<W: Write>(&self, place: u64, left: u64, w: &mut W) -> Result<(), OutFault>
-        ensures { OnOk result (Appends (W.contents w.old) (W.contents w.new) (last_lines self.now.selection self.now.tally self.now.listener.told self.now.listener.controls.held.items self.now.listener.transfers.pipes.held.held.items self.now.readings.readings.kept.items self.now.devices.items place left)) }
+        ensures { OnOk result (Appends (W.contents w.old) (W.contents w.new) (last_lines self.now.selection self.now.tally self.now.observer.decoded self.now.observer.controls.held.items self.now.observer.transfers.pipes.held.held.items self.now.readings.readings.kept.items self.now.devices.items place left)) }
     {
         let mut text = Text::new(self.alloc);
         self.put_last_lines(&mut text, place, left)?;
@@ -259,17 +259,17 @@ impl Teller {
 
     #[tactic(auto, unfolding(crate::specs::Recordings::last_lines))]
     fn put_last_lines(&self, text: &mut Text, place: u64, left: u64) -> Result<(), AllocError>
-        ensures { OnOk result (text.new ≡ text.old ++ last_lines self.now.selection self.now.tally self.now.listener.told self.now.listener.controls.held.items self.now.listener.transfers.pipes.held.held.items self.now.readings.readings.kept.items self.now.devices.items place left) }
+        ensures { OnOk result (text.new ≡ text.old ++ last_lines self.now.selection self.now.tally self.now.observer.decoded self.now.observer.controls.held.items self.now.observer.transfers.pipes.held.held.items self.now.readings.readings.kept.items self.now.devices.items place left) }
     {
         let origin = self.tally.origin;
-        put_open(text, &self.selection, origin, self.listener.unended())?;
+        put_open(text, &self.selection, origin, self.observer.unended())?;
         put_open(
             text,
             &self.selection,
             origin,
-            self.listener.unended_on_bus(),
+            self.observer.unended_on_bus(),
         )?;
-        put_counts(text, &self.tally, self.listener.told())?;
+        put_counts(text, &self.tally, self.observer.decoded())?;
         put_cut(text, place, left)?;
         put_devices(
             text,

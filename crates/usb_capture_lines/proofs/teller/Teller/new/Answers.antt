@@ -5,7 +5,7 @@ use Rattle.usb_capture_lines.proofs.teller.Teller.new.Goals as goal
 pub returns-clause-said : goal.returns-clause-said
 returns-clause-said c held = record {
   are = tt;
-  listened = search rules;
+  observer = search rules;
   knows = search rules;
   kept = search rules;
   devices = search rules;

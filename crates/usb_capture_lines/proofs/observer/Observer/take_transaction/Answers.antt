@@ -1,6 +1,6 @@
 use Rattle.std.proofs.Common.{append-nil, subst, sym}
 use Rattle.usb_capture.specs.BusTransfers.{HasMade}
-use Rattle.usb_capture_lines.proofs.listener.Listener.take_transaction.Goals as goal
+use Rattle.usb_capture_lines.proofs.observer.Observer.take_transaction.Goals as goal
 
 pub returns-in-Some-clause-made : goal.returns-in-Some-clause-made
 returns-in-Some-clause-made c = rw c.in-Some.is c.take.ensures.ok

@@ -1,7 +1,7 @@
 use Rattle.std.proofs.Common.{ap, ◌++◌, ◌∙◌}
 use Rattle.std.proofs.lemmas.Result.{IfOk-weaker}
 use Rattle.usb_capture_lines.specs.BusFindings.{packet_found}
-use Rattle.usb_capture_lines.proofs.listener.Listener.findings.Goals as goal
+use Rattle.usb_capture_lines.proofs.observer.Observer.findings.Goals as goal
 
 pub returns : goal.returns
 returns c =

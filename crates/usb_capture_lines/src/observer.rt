@@ -1,14 +1,14 @@
-//! The control transfers that the frames of a recording tell of.
+//! What the frames of a recording have: control transfers, and what is wrong in packets.
 ghost use Rattle.std.specs.Prelude.{◌≡◌, ◌++◌, ◌∷◌, [], List, Ok, Err, IfOk, is_ok, map};
 ghost use Rattle.std.specs.Option.{option_to_list};
 ghost use Rattle.usb_capture.specs.declared.control_transfer.ControlTransfer.{ControlTransfer};
 ghost use Rattle.usb_capture.specs.declared.transaction.Transaction.{Transaction};
 ghost use Rattle.usb_capture.specs.BusTransfers.{HasMade};
 ghost use Rattle.usb_capture_lines.specs.BusFindings.{bus_found, in_transaction, packet_found, transaction_found};
-ghost use Rattle.usb_capture_lines.specs.Hearing.{Brings, HasListened, Heard, HeardIn, told_with};
+ghost use Rattle.usb_capture_lines.specs.Observations.{Completes, HasObserved, Observed, IsObserved, decoded_with};
 
-use crate::brought::Brought;
 use crate::bus_finding::BusFinding;
+use crate::completed::Completed;
 use crate::tally::one_more;
 use std::alloc::{AllocError, Global};
 use usb_capture::{
@@ -16,37 +16,38 @@ use usb_capture::{
     PacketFinding, RecordedPacket, Transaction,
 };
 
-/// Makes control transfers of the frames of a recording, taken in order: of the events of a host, and of the packets of a bus.
+/// Makes control transfers of the frames of a recording, taken in order: of the events of a host, and of the packets of a bus. It
+/// finds what is wrong in packets.
 ///
 /// It holds the transfers whose end hasn't come, and one transaction.
 #[derive(Debug, Drop)]
-pub(crate) struct Listener {
+pub(crate) struct Observer {
     alloc: Global,
     controls: ControlTransfers,
     transactions: BusTransactions,
     transfers: BusTransfers,
     /// How many frames were an event or a whole packet.
-    told: u64,
+    decoded: u64,
 }
 
-impl Listener {
-    /// One that has heard nothing.
-    pub(crate) fn new(alloc: Global) -> Listener
-        ensures { HasListened [] result }
+impl Observer {
+    /// One that has observed nothing.
+    pub(crate) fn new(alloc: Global) -> Observer
+        ensures { HasObserved [] result }
     {
-        Listener {
+        Observer {
             alloc,
             controls: ControlTransfers::new(alloc),
             transactions: BusTransactions::new(alloc),
             transfers: BusTransfers::new(alloc),
-            told: 0,
+            decoded: 0,
         }
     }
 
-    /// Takes the frame with this number, and gives what it brings.
-    pub(crate) fn take(&mut self, number: u64, frame: &Frame) -> Result<Brought, AllocError>
-        ensures { IfOk result (λ brought. (heard : List Heard) → HasListened heard self.old
-            → (x : Heard) × HeardIn number frame.now x × HasListened (x ∷ heard) self.new × Brings heard x brought) }
+    /// Takes the frame with this number, and gives what it completes.
+    pub(crate) fn take(&mut self, number: u64, frame: &Frame) -> Result<Completed, AllocError>
+        ensures { IfOk result (λ completed. (observed : List Observed) → HasObserved observed self.old
+            → (x : Observed) × IsObserved number frame.now x × HasObserved (x ∷ observed) self.new × Completes observed x completed) }
     {
         match Event::of_frame(frame) {
             Ok(event) => self.take_event(&event),
@@ -58,26 +59,26 @@ impl Listener {
     }
 
     /// Takes an event of a host.
-    fn take_event(&mut self, event: &Event<'_>) -> Result<Brought, AllocError>
-        ensures { IfOk result (λ brought. (heard : List Heard) → HasListened heard self.old
-            → HasListened (Ok event.now ∷ heard) self.new × Brings heard (Ok event.now) brought) }
+    fn take_event(&mut self, event: &Event<'_>) -> Result<Completed, AllocError>
+        ensures { IfOk result (λ completed. (observed : List Observed) → HasObserved observed self.old
+            → HasObserved (Ok event.now ∷ observed) self.new × Completes observed (Ok event.now) completed) }
     {
-        self.told = one_more(self.told);
+        self.decoded = one_more(self.decoded);
         let transfer = self.controls.take(event)?;
         let found = Vec::new(self.alloc);
-        Ok(Brought { transfer, found })
+        Ok(Completed { transfer, found })
     }
 
     /// Takes a packet of the bus, or why a frame is none.
-    fn take_packet(&mut self, packet: &RecordedPacket<'_>) -> Result<Brought, AllocError>
-        ensures { IfOk result (λ brought. (heard : List Heard) → HasListened heard self.old
-            → HasListened (Err packet.now ∷ heard) self.new × Brings heard (Err packet.now) brought) }
+    fn take_packet(&mut self, packet: &RecordedPacket<'_>) -> Result<Completed, AllocError>
+        ensures { IfOk result (λ completed. (observed : List Observed) → HasObserved observed self.old
+            → HasObserved (Err packet.now ∷ observed) self.new × Completes observed (Err packet.now) completed) }
     {
-        self.told = told_with(packet, self.told);
+        self.decoded = decoded_with(packet, self.decoded);
         let over = self.transactions.take(packet)?;
         let found = self.findings(packet, &over)?;
         let transfer = self.take_transaction(over)?;
-        Ok(Brought { transfer, found })
+        Ok(Completed { transfer, found })
     }
 
     /// What is found in a packet, and in the transaction that is over with it.
@@ -119,7 +120,7 @@ impl Listener {
             → HasMade (before ++ option_to_list over) (given ++ option_to_list transfer) self.new.transfers) }
         ensures controls { self.new.controls ≡ self.old.controls }
         ensures transactions { self.new.transactions ≡ self.old.transactions }
-        ensures told { self.new.told ≡ self.old.told }
+        ensures decoded { self.new.decoded ≡ self.old.decoded }
     {
         match over {
             Some(transaction) => self.transfers.take(&transaction),
@@ -128,10 +129,10 @@ impl Listener {
     }
 
     /// How many frames were an event or a whole packet.
-    pub(crate) fn told(&self) -> u64
-        ensures { result ≡ self.now.told }
+    pub(crate) fn decoded(&self) -> u64
+        ensures { result ≡ self.now.decoded }
     {
-        self.told
+        self.decoded
     }
 
     /// The transfers of hosts whose end hasn't come.
@@ -149,13 +150,13 @@ impl Listener {
     }
 }
 
-/// How many frames told of a transfer, with that of this packet.
-fn told_with(packet: &RecordedPacket<'_>, told: u64) -> u64
-    ensures { result ≡ told_with (is_ok packet.now.packet) told }
+/// How many frames were an event or a whole packet, with that of this packet.
+fn decoded_with(packet: &RecordedPacket<'_>, decoded: u64) -> u64
+    ensures { result ≡ decoded_with (is_ok packet.now.packet) decoded }
 {
     match packet.packet {
-        Ok(_) => one_more(told),
-        Err(_) => told,
+        Ok(_) => one_more(decoded),
+        Err(_) => decoded,
     }
 }
 

@@ -1,6 +1,6 @@
 use Rattle.std.proofs.Common.{◌≡◌, ap, map, rules, ◌∙◌}
 use Rattle.std.proofs.lemmas.Result.{IfOk-weaker}
-use Rattle.usb_capture_lines.proofs.listener.Listener.transaction_findings.Goals as goal
+use Rattle.usb_capture_lines.proofs.observer.Observer.transaction_findings.Goals as goal
 
 pub returns-in-Some : goal.returns-in-Some
 returns-in-Some c =
