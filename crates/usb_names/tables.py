@@ -88,7 +88,8 @@ def static_name(group, what):
 def bit_tables():
     for group, comment, names in groups_of("bits.txt"):
         named = f"what the bits are called of {comment}"
-        yield from table(static_name(group, "bits"), "&str", [f'"{name}"' for name in names], named)
+        rows = [f'({bit}, "{name}")' for bit, name in enumerate(names)]
+        yield from table(static_name(group, "bits"), "Named<u8>", rows, named)
 
 
 def form_code(form):

@@ -6,15 +6,15 @@ use Rattle.std.proofs.lemmas.Bool.Decides.{nat_tests}
 use Rattle.std.proofs.lemmas.Nat.{div-add-mod'}
 use Rattle.std.proofs.lemmas.List.{drop-drop, length-take-le, take-append-drop}
 use Rattle.usb_names.specs.declared.codes.ClassCodes.{ClassCodes}
-use Rattle.usb_names.specs.Rows.{application_rows, audio_rows, cdc_data_rows, communications_rows, further_video_rows, hid_rows, hub_rows, mass_storage_rows, newer_audio_rows, other_rows, smart_card_rows, standard_rows, video_rows}
-use Rattle.usb_names.specs.Shown.{Field, Row}
+use Rattle.usb_names.specs.Named.{is_name}
+use Rattle.usb_names.specs.Shown.{Field, Row, are_fields, is_field, is_row}
+use Rattle.usb_names.proofs.RowNames.{row_passes}
 use Rattle.usb_walk.specs.declared.role.Role.TheVariants.{Device, Qualifier, Configuration, Association, Interface, Endpoint, Raw, Languages, Text}
 use Rattle.usb_explain.specs.FieldLaws.{AllFieldsHaveAllBytes, span_of_field}
 use Rattle.usb_explain.specs.Fields.{PlacedField, class_layout, fields_in_bytes, fields_of, groups_in, laid, left_over, placed, repeated}
 use Rattle.usb_explain.specs.Headers.{row_of_bytes}
 use Rattle.usb_remarks.specs.OutlineLaws.{Follow}
 use Rattle.usb_explain.specs.Layouts.{Layout, association_layout, configuration_layout, device_layout, endpoint_layout, interface_layout, is_audio, qualifier_layout, group_count, width_of}
-use Rattle.usb_explain.proofs.TableWords.{AllRows, row_passes}
 
 -- ---- as many bytes as there are
 
@@ -156,33 +156,20 @@ follow_laid place layout b h k begins =
 abbrev layout_has_bytes : Layout → Bool
 layout_has_bytes layout = have_bytes layout.fields && have_bytes layout.group
 
-abbrev row_has_bytes : Row → Bool
-row_has_bytes row = layout_has_bytes (class_layout (Some row))
+bytes_of_fields : (fields : List Field) → are_fields fields ≡ true → have_bytes fields ≡ true
+bytes_of_fields [] h = refl
+bytes_of_fields (field ∷ fields) h =
+    let p = and_parts (is_field field) (are_fields fields) h in
+    both (has_bytes field) (have_bytes fields) (and_parts (is_name field.name) (has_bytes field) p.0).1 (bytes_of_fields fields p.1)
 
-all_bytes : AllRows row_has_bytes
-unfolding standard_rows newer_audio_rows audio_rows communications_rows hid_rows mass_storage_rows hub_rows cdc_data_rows smart_card_rows video_rows further_video_rows application_rows other_rows
-all_bytes = record {
-  standard = refl;
-  newer_audio = refl;
-  audio = refl;
-  communications = refl;
-  hid = refl;
-  mass_storage = refl;
-  hub = refl;
-  cdc_data = refl;
-  smart_card = refl;
-  video = refl;
-  further_video = refl;
-  application = refl;
-  other = refl;
-}
-
-class_bytes : (row : Option Row) → IfSome row (λ it. IsTrue (row_has_bytes it)) → layout_has_bytes (class_layout row) ≡ true
+class_bytes : (row : Option Row) → IfSome row (λ it. IsTrue (is_row it)) → layout_has_bytes (class_layout row) ≡ true
 class_bytes None h = refl
-class_bytes (Some row) h = h
+class_bytes (Some row) h =
+    let p = and_parts (are_fields row.fields) (are_fields row.group) (and_parts (is_name row.name) _ h).1 in
+    both (have_bytes row.fields) (have_bytes row.group) (bytes_of_fields row.fields p.0) (bytes_of_fields row.group p.1)
 
 raw_bytes : (interface : Option ClassCodes) (b : List ℕ) → layout_has_bytes (class_layout (row_of_bytes interface b)) ≡ true
-raw_bytes interface b = class_bytes (row_of_bytes interface b) (row_passes row_has_bytes all_bytes interface (slice_index b 1) (drop 2 b))
+raw_bytes interface b = class_bytes (row_of_bytes interface b) (row_passes interface (slice_index b 1) (drop 2 b))
 
 either_layout : (t : Bool) (x y : Layout) → layout_has_bytes x ≡ true → layout_has_bytes y ≡ true → layout_has_bytes (cond t x y) ≡ true
 either_layout true x y h k = h

@@ -6,6 +6,5 @@ pub mod Guids
 pub mod ShownInTurn
 pub mod FieldSteps
 pub mod FieldsCover
-pub mod TableWords
 pub mod RemarksShown
 pub mod RemarksCounted

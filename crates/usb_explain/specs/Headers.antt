@@ -10,7 +10,7 @@ use Rattle.usb_explain.specs.Layouts.{Layout}
 
 -- the row of a descriptor after an interface of these codes
 abbrev pub row_of_bytes : Option ClassCodes → List ℕ → Option Row
-row_of_bytes interface b = first_row (rows_behind interface) interface (slice_index b 1) (drop 2 b)
+row_of_bytes interface b = let type = slice_index b 1 in first_row (rows_behind interface type) interface type (drop 2 b)
 
 -- the row of a descriptor of this role: only one that has no type of its own has one
 abbrev pub row_in : Role → Option ClassCodes → List ℕ → Option Row

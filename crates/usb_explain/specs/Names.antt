@@ -1,5 +1,5 @@
 -- Class codes, bits, types of terminals and GUIDs, by their names.
-use Rattle.std.specs.Prelude.{ℕ, List, [], ◌++◌, ◌==◌, Option, Some, None, if◌then◌else◌, ◌/◌, ◌%◌, ◌^◌, Bool, ◌∷◌, slice_get, ◌+◌, ◌*◌, ◌&&◌, ◌||◌, drop, nat_eq, nat_le, take}
+use Rattle.std.specs.Prelude.{ℕ, List, [], ◌++◌, ◌==◌, Option, Some, None, if◌then◌else◌, ◌/◌, ◌%◌, ◌^◌, Bool, ◌∷◌, ◌+◌, ◌*◌, ◌&&◌, ◌||◌, drop, nat_eq, nat_le, take}
 use Rattle.std.specs.List.{filter, flat_map, list_all}
 use Rattle.std.specs.Cmp.Lexicographic.{pointwise}
 use Rattle.usb_names.specs.Classes.{class_name, protocol_name, subclass_name}
@@ -13,15 +13,15 @@ abbrev pub name_shown : Option (List ℕ) → List Shown
 name_shown None = []
 name_shown (Some name) = Name name ∷ []
 
--- the name of a class, or its number where it has none
-abbrev pub class_or_code : ℕ → Option (List ℕ) → List Shown
-class_or_code class None = Number class ∷ []
-class_or_code class (Some name) = Name name ∷ []
+-- a code by its name, or by its number where it has none
+abbrev pub name_or_number : ℕ → Option (List ℕ) → List Shown
+name_or_number code None = Number code ∷ []
+name_or_number code (Some name) = Name name ∷ []
 
 -- the names that class, subclass and protocol have
 unfoldable pub class_names : ℕ → ℕ → ℕ → List Shown
 class_names class subclass protocol =
-    class_or_code class (class_name class) ++ name_shown (subclass_name class subclass) ++ name_shown (protocol_name class subclass protocol)
+    name_or_number class (class_name class) ++ name_shown (subclass_name class subclass) ++ name_shown (protocol_name class subclass protocol)
 
 -- the same of an interface or a function, for which class 00 is reserved (USB-IF, Defined Class Codes; USB 2.0, table 9-12)
 unfoldable pub function_class_names : ℕ → ℕ → ℕ → List Shown
@@ -53,17 +53,12 @@ protocol_field class subclass protocol = code_shown protocol (protocol_name clas
 abbrev pub is_set : ℕ → ℕ → Bool
 is_set value bit = value / 2 ^ bit % 2 == 1
 
--- a bit by its name, or by its number where it has none
-abbrev pub name_or_number : ℕ → Option (List ℕ) → List Shown
-name_or_number bit None = Number bit ∷ []
-name_or_number bit (Some name) = Name name ∷ []
-
--- a bit where the first ones have these names
-abbrev pub bit_shown : List (List ℕ) → ℕ → List Shown
-bit_shown names bit = name_or_number bit (slice_get names bit)
+-- a bit by its name among these
+abbrev pub bit_shown : List (Named ℕ) → ℕ → List Shown
+bit_shown names bit = name_or_number bit (name_of names bit)
 
 -- a byte, and those of its bits that are one
-abbrev pub bits_field : List (List ℕ) → ℕ → List Shown
+abbrev pub bits_field : List (Named ℕ) → ℕ → List Shown
 bits_field names value =
     Number value ∷ flat_map (bit_shown names) (filter (is_set value) (0 ∷ 1 ∷ 2 ∷ 3 ∷ 4 ∷ 5 ∷ 6 ∷ 7 ∷ []))
 

@@ -5,12 +5,12 @@ ghost use Rattle.usb_explain.specs.Descriptors.{lines_of};
 ghost use Rattle.usb_explain.specs.LastLines.{remarks_of};
 ghost use Rattle.usb_remarks.specs.Outline.{described};
 
+use crate::class_rows::row_in;
 use crate::field_line::put_fields;
 use crate::finding::put_findings;
 use crate::heading::put_heading;
 use crate::remark_line::put_remarks;
 use crate::subject::Subject;
-use crate::table_names::row_in;
 use std::alloc::AllocError;
 use usb_remarks::Descriptor;
 use usb_text::Page;

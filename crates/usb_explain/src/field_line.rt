@@ -1,14 +1,12 @@
 //! The lines of fields.
-ghost use Rattle.std.specs.Prelude.{◌≡◌, option_map, IfSome, IsTrue, OnOk};
-ghost use Rattle.std.specs.Option.{option_copied};
+ghost use Rattle.std.specs.Prelude.{◌≡◌, option_map, OnOk};
 ghost use Rattle.std.specs.List.{flat_map};
 ghost use Rattle.usb_names.specs.Shown.{row_of};
 ghost use Rattle.usb_text.specs.Shown.{showing_all};
 ghost use Rattle.usb_explain.specs.Descriptors.{field_lines, fields, line_of_field};
 ghost use Rattle.usb_explain.specs.Fields.{placed_of};
-ghost use Rattle.usb_explain.specs.Headers.{row_in, row_layout};
+ghost use Rattle.usb_explain.specs.Headers.{row_in};
 ghost use Rattle.usb_remarks.specs.Outline.{described};
-ghost use Rattle.usb_explain.specs.inside.FieldsLeft.{layout_has_words};
 
 use crate::field::Field;
 use crate::fields::Fields;
@@ -17,7 +15,7 @@ use crate::line::NAME_WIDTH;
 use crate::string_names::Names;
 use crate::subject::Subject;
 use std::alloc::AllocError;
-use usb_names::ClassDescriptor;
+use usb_names::ClassRow;
 use usb_remarks::Descriptor;
 use usb_text::Page;
 use usb_walk::Role;
@@ -32,10 +30,9 @@ pub(crate) fn put_fields<P: Page>(
     page: &mut P,
     subject: &Subject,
     d: &Descriptor<'_>,
-    row: Option<&'static ClassDescriptor>,
+    row: Option<ClassRow>,
 ) -> Result<(), AllocError>
-    requires row { option_map row_of (option_copied row) ≡ row_in d.now.role d.now.interface d.now.bytes.now }
-    requires words { IfSome row (λ row. IsTrue (layout_has_words (row_layout (row_of row.now)))) }
+    requires { option_map (λ found. row_of found.row.now) row ≡ row_in d.now.role d.now.interface d.now.bytes.now }
     ensures { OnOk result (P.seen page.new ≡ showing_all P.showing (fields subject.now (described d.now)) (P.seen page.old)) }
 {
     if subject.manner().look.brief {
@@ -49,10 +46,9 @@ fn put_all_fields<P: Page>(
     page: &mut P,
     names: &Names,
     d: &Descriptor<'_>,
-    row: Option<&'static ClassDescriptor>,
+    row: Option<ClassRow>,
 ) -> Result<(), AllocError>
-    requires row { option_map row_of (option_copied row) ≡ row_in d.now.role d.now.interface d.now.bytes.now }
-    requires words { IfSome row (λ row. IsTrue (layout_has_words (row_layout (row_of row.now)))) }
+    requires { option_map (λ found. row_of found.row.now) row ≡ row_in d.now.role d.now.interface d.now.bytes.now }
     ensures { OnOk result (P.seen page.new ≡ showing_all P.showing (field_lines names.now (described d.now)) (P.seen page.old)) }
 {
     let mut fields = Fields::of_row(d.role, d.interface, row, d.bytes);

@@ -1,24 +1,24 @@
 //! The fields of a descriptor, one after another.
 ghost use Rattle.std.specs.Prelude.{◌≡◌, ◌≤◌, ◌-◌, ◌∷◌, [], ◌&&◌, IsTrue, IfSome, MatchOption, map, nat_le, nat_lt, option_map};
-ghost use Rattle.std.specs.Option.{option_copied};
+ghost use Rattle.usb_names.specs.Named.{is_name};
 ghost use Rattle.usb_names.specs.Shown.{field_of, row_of};
 ghost use Rattle.usb_explain.specs.Fields.{class_layout, fields_of, laid, left_over, placed_of};
-ghost use Rattle.usb_explain.specs.Headers.{row_in, row_layout};
+ghost use Rattle.usb_explain.specs.Headers.{row_in};
 ghost use Rattle.usb_explain.specs.Layouts.{width_of};
-ghost use Rattle.usb_explain.specs.inside.FieldsLeft.{is_name, layout_has_words, layout_left, left_in, lists_have_words, no_layout, piece_of};
+ghost use Rattle.usb_explain.specs.inside.FieldsLeft.{is_layout, is_rest_of_layout, layout_left, left_in, no_layout, piece_of};
 ghost use Rattle.usb_explain.specs.inside.DescriptorLayouts.{layout_of};
 
 mod standard_layouts;
 
+use crate::class_rows::row_in;
 use crate::field::Field;
 use crate::fields::standard_layouts::{
     DescriptorLayout, association_layout, configuration_layout, device_layout, endpoint_layout,
     interface_layout, qualifier_layout,
 };
-use crate::table_names::row_in;
 use std::marker::Model;
 use usb_fields::{after, prefix};
-use usb_names::{ClassCodes, ClassDescriptor, ClassField, Form};
+use usb_names::{ClassCodes, ClassField, ClassRow, Form};
 use usb_walk::Role;
 
 /// The fields of a descriptor that are left, in the order of the bytes. In a contract it is the list of them.
@@ -47,13 +47,13 @@ pub struct Fields<'d> {
 impl<'d> Model for Fields<'d> {
     ghost use Rattle.std.specs.Prelude.{◌≡◌, ◌+◌, ◌<◌, ◌^◌, IsTrue, List, length};
     ghost use Rattle.usb_explain.specs.Fields.{PlacedField, placed};
-    ghost use Rattle.usb_explain.specs.inside.FieldsLeft.{left_in, lists_have_words};
+    ghost use Rattle.usb_explain.specs.inside.FieldsLeft.{is_rest_of_layout, left_in};
 
     ghost Value = { List PlacedField };
 
     ghost view = { λ f. placed f.place (left_in f.lists (length f.ahead.now)) f.ahead.now };
 
-    ghost invariant = { λ f. IsTrue (lists_have_words f.lists) × (f.place + length f.ahead.now < 2 ^ 63) };
+    ghost invariant = { λ f. IsTrue (is_rest_of_layout f.lists) × (f.place + length f.ahead.now < 2 ^ 63) };
 }
 
 impl<'d> Fields<'d> {
@@ -71,11 +71,10 @@ impl<'d> Fields<'d> {
     pub(crate) fn of_row(
         role: Role,
         interface: Option<ClassCodes>,
-        row: Option<&'static ClassDescriptor>,
+        row: Option<ClassRow>,
         bytes: &'d [u8],
     ) -> Fields<'d>
-        requires row { option_map row_of (option_copied row) ≡ row_in role interface bytes.now }
-        requires words { IfSome row (λ row. IsTrue (layout_has_words (row_layout (row_of row.now)))) }
+        requires { option_map (λ found. row_of found.row.now) row ≡ row_in role interface bytes.now }
         ensures { result ≡ fields_of role interface bytes.entry.now }
     {
         match role {
@@ -104,7 +103,7 @@ impl<'d> Fields<'d> {
 
     /// The fields of this layout, of a descriptor of these bytes.
     fn laid(layout: &'static DescriptorLayout, bytes: &'d [u8]) -> Fields<'d>
-        requires { IsTrue (layout_has_words (layout_of layout.now)) }
+        requires { IsTrue (is_layout (layout_of layout.now)) }
         ensures { result ≡ laid 2 (layout_of layout.now) bytes.now }
     {
         Fields::starting(2, Lists::of_layout(layout), bytes)
@@ -112,7 +111,7 @@ impl<'d> Fields<'d> {
 
     /// The fields of these lists from a place of these bytes on.
     fn starting(place: usize, lists: Lists, bytes: &'d [u8]) -> Fields<'d>
-        requires words { IsTrue (lists_have_words lists) }
+        requires words { IsTrue (is_rest_of_layout lists) }
         requires near { place ≤ 2 }
         ensures { result ≡ laid place (layout_left lists) bytes.entry.now }
     {
@@ -192,7 +191,7 @@ impl Lists {
     /// Those of a layout.
     fn of_layout(layout: &'static DescriptorLayout) -> Lists
         ensures layout { layout_left result ≡ layout_of layout.now }
-        ensures words { lists_have_words result ≡ layout_has_words (layout_of layout.now) }
+        ensures words { is_rest_of_layout result ≡ is_layout (layout_of layout.now) }
     {
         Lists {
             current: &[],
@@ -203,10 +202,9 @@ impl Lists {
     }
 
     /// Those of a class descriptor of this row.
-    fn of_class(row: Option<&'static ClassDescriptor>) -> Lists
-        requires { IfSome row (λ row. IsTrue (layout_has_words (row_layout (row_of row.now)))) }
-        ensures layout { layout_left result ≡ class_layout (option_map row_of (option_copied row.entry)) }
-        ensures words { IsTrue (lists_have_words result) }
+    fn of_class(row: Option<ClassRow>) -> Lists
+        ensures layout { layout_left result ≡ class_layout (option_map (λ found. row_of found.row.now) row.entry) }
+        ensures words { IsTrue (is_rest_of_layout result) }
     {
         match row {
             None => Lists {
@@ -215,10 +213,10 @@ impl Lists {
                 group: &[],
                 rest: "bytes",
             },
-            Some(row) => Lists {
+            Some(found) => Lists {
                 current: &DESCRIPTOR_TYPE,
-                following: row.fields,
-                group: row.group,
+                following: found.row.fields,
+                group: found.row.group,
                 rest: "bytes",
             },
         }
@@ -226,11 +224,11 @@ impl Lists {
 
     /// The first field in `count` bytes, and the lists after it.
     fn next(self, count: usize) -> Option<(Piece, Lists)>
-        requires { IsTrue (lists_have_words self) }
+        requires { IsTrue (is_rest_of_layout self) }
         ensures first { MatchOption result (left_in self count ≡ []) (λ next. left_in self count ≡ piece_of next.0 ∷ left_in next.1 (count - next.0.width)) }
         ensures fits { IfSome result (λ next. next.0.width ≤ count) }
         ensures name { IfSome result (λ next. IsTrue (is_name next.0.name.now)) }
-        ensures words { IfSome result (λ next. IsTrue (lists_have_words next.1)) }
+        ensures words { IfSome result (λ next. IsTrue (is_rest_of_layout next.1)) }
     {
         let lists = self.turned(count);
         match lists.current {
@@ -259,10 +257,10 @@ impl Lists {
     /// The same fields in `count` bytes, of which the first one comes next: where a list is through, the one after it does,
     /// or the group where all its bytes are there.
     fn turned(self, count: usize) -> Lists
-        requires { IsTrue (lists_have_words self) }
+        requires { IsTrue (is_rest_of_layout self) }
         ensures same { left_in result count ≡ left_in self count }
         ensures through { result.current.now ≡ [] → left_in result count ≡ left_over result.rest.now count }
-        ensures words { IsTrue (lists_have_words result) }
+        ensures words { IsTrue (is_rest_of_layout result) }
     {
         if !self.current.is_empty() {
             self
@@ -288,7 +286,7 @@ impl Lists {
         ensures first { MatchOption result (left_over self.rest.now count ≡ []) (λ next. left_over self.rest.now count ≡ piece_of next.0 ∷ left_in next.1 (count - next.0.width)) }
         ensures fits { IfSome result (λ next. next.0.width ≤ count) }
         ensures name { IfSome result (λ next. IsTrue (is_name next.0.name.now)) }
-        ensures words { IfSome result (λ next. IsTrue (lists_have_words next.1)) }
+        ensures words { IfSome result (λ next. IsTrue (is_rest_of_layout next.1)) }
     {
         if count == 0 {
             return None;

@@ -20,14 +20,15 @@ use crate::form::value::{
 };
 use crate::heading::string::put_index;
 use crate::names::{
-    put_audio_terminal, put_class, put_function_class, put_guid, put_protocol, put_subclass,
-    put_video_terminal,
+    put_class, put_function_class, put_guid, put_protocol, put_subclass, put_terminal,
 };
 use crate::string_names::Names;
-use crate::table_names::{abstract_control_bits, call_management_bits, firmware_upgrade_bits};
 use std::alloc::AllocError;
 use usb_fields::byte_at;
-use usb_names::Form;
+use usb_names::{
+    Form, abstract_control_bits, audio_terminals, call_management_bits, firmware_upgrade_bits,
+    video_terminals,
+};
 use usb_remarks::SetSpeed;
 use usb_text::Page;
 
@@ -56,11 +57,11 @@ pub(crate) fn put_form<P: Page>(
         Form::Index => put_index(page, names, byte),
         Form::FrameInterval => put_frame_interval(page, value),
         Form::Guid => put_guid(page, value),
-        Form::AudioTerminal => put_audio_terminal(page, value),
-        Form::VideoTerminal => put_video_terminal(page, value),
-        Form::AbstractControl => put_bits(page, abstract_control_bits(), byte),
-        Form::CallManagement => put_bits(page, call_management_bits(), byte),
-        Form::FirmwareUpgrade => put_bits(page, firmware_upgrade_bits(), byte),
+        Form::AudioTerminal => put_terminal(page, &audio_terminals(), value),
+        Form::VideoTerminal => put_terminal(page, &video_terminals(), value),
+        Form::AbstractControl => put_bits(page, &abstract_control_bits(), byte),
+        Form::CallManagement => put_bits(page, &call_management_bits(), byte),
+        Form::FirmwareUpgrade => put_bits(page, &firmware_upgrade_bits(), byte),
         Form::Class => put_class(page, byte),
         Form::FunctionClass => put_function_class(page, byte_at(b, 1), byte),
         Form::Subclass => put_subclass(page, byte_before(b, field.place, 1), byte),

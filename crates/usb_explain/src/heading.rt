@@ -1,9 +1,7 @@
 //! Headings.
-ghost use Rattle.std.specs.Prelude.{◌≡◌, option_map, IfSome, IsTrue, OnOk};
-ghost use Rattle.std.specs.Option.{option_copied};
+ghost use Rattle.std.specs.Prelude.{◌≡◌, option_map, OnOk};
 ghost use Rattle.usb_names.specs.Shown.{row_of};
 ghost use Rattle.usb_text.specs.Shown.{showing_all};
-ghost use Rattle.usb_text.specs.Written.{is_words};
 ghost use Rattle.usb_explain.specs.Descriptors.{formats_shown, heading, heading_shown};
 ghost use Rattle.usb_explain.specs.Headers.{row_in};
 ghost use Rattle.usb_remarks.specs.Outline.{described};
@@ -22,7 +20,7 @@ use crate::line::put_place;
 use crate::subject::Subject;
 use std::alloc::AllocError;
 use usb_fields::byte_at;
-use usb_names::ClassDescriptor;
+use usb_names::ClassRow;
 use usb_remarks::Descriptor;
 use usb_text::Page;
 use usb_walk::Role;
@@ -37,10 +35,9 @@ pub(crate) fn put_heading<P: Page>(
     page: &mut P,
     subject: &Subject,
     d: &Descriptor<'_>,
-    row: Option<&'static ClassDescriptor>,
+    row: Option<ClassRow>,
 ) -> Result<(), AllocError>
-    requires row { option_map row_of (option_copied row) ≡ row_in d.now.role d.now.interface d.now.bytes.now }
-    requires name { IfSome row (λ r. IsTrue (is_words r.now.name.now)) }
+    requires { option_map (λ found. row_of found.row.now) row ≡ row_in d.now.role d.now.interface d.now.bytes.now }
     ensures { OnOk result (P.seen page.new ≡ showing_all P.showing (heading subject.now (described d.now)) (P.seen page.old)) }
 {
     page.put_indent(2 * usize::from(d.depth))?;
@@ -54,10 +51,9 @@ fn put_words<P: Page>(
     page: &mut P,
     subject: &Subject,
     d: &Descriptor<'_>,
-    row: Option<&'static ClassDescriptor>,
+    row: Option<ClassRow>,
 ) -> Result<(), AllocError>
-    requires row { option_map row_of (option_copied row) ≡ row_in d.now.role d.now.interface d.now.bytes.now }
-    requires name { IfSome row (λ r. IsTrue (is_words r.now.name.now)) }
+    requires { option_map (λ found. row_of found.row.now) row ≡ row_in d.now.role d.now.interface d.now.bytes.now }
     ensures { OnOk result (P.seen page.new ≡ showing_all P.showing (heading_shown d.now.role subject.now (described d.now)) (P.seen page.old)) }
 {
     match d.role {

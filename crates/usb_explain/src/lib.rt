@@ -13,6 +13,7 @@
 //! that of a broken input has the line of its fault.
 #![tactic(auto)]
 
+mod class_rows;
 mod container;
 mod descriptor_lines;
 mod explanation;
@@ -35,7 +36,6 @@ mod setup_lines;
 mod speed_words;
 mod string_names;
 mod subject;
-mod table_names;
 
 pub use explanation::explain;
 pub use fault_words::FaultWords;

@@ -1,16 +1,14 @@
 //! Class codes, types of terminals and GUIDs by their names.
-ghost use Rattle.std.specs.Prelude.{◌≡◌, option_map, IfSome, IsTrue, OnOk};
+ghost use Rattle.std.specs.Prelude.{◌≡◌, map, option_map, IsTrue, OnOk};
 ghost use Rattle.std.specs.List.{list_all};
-ghost use Rattle.usb_names.specs.Terminals.{audio_terminals, video_terminals};
+ghost use Rattle.usb_names.specs.Named.{row_of};
 ghost use Rattle.usb_text.specs.Shown.{showing_all};
 ghost use Rattle.usb_text.specs.Written.{is_words};
-ghost use Rattle.usb_explain.specs.Names.{class_field, class_names, class_or_code, code_shown, function_class_field, function_class_names, guid_shown, has_characters, is_letter_or_digit, name_shown, protocol_field, subclass_field, terminal_shown};
+ghost use Rattle.usb_explain.specs.Names.{class_field, class_names, code_shown, function_class_field, function_class_names, guid_shown, has_characters, is_letter_or_digit, name_or_number, name_shown, protocol_field, subclass_field, terminal_shown};
 
-use crate::table_names::{
-    audio_terminal, class_name, protocol_name, subclass_name, video_terminal,
-};
 use std::alloc::AllocError;
 use usb_fields::{after, descriptor_type, prefix};
+use usb_names::{Names, Word, class_name, protocol_name, subclass_name};
 use usb_text::Page;
 
 /// Puts the names of a class, its subclass and its protocol: `HID / boot interface / mouse`. A class without a name is
@@ -64,33 +62,27 @@ pub(crate) fn put_function_class_words<P: Page>(
     }
 }
 
-fn put_class_name<P: Page>(
-    page: &mut P,
-    class: u8,
-    name: Option<&'static str>,
-) -> Result<(), AllocError>
-    requires { IfSome name (λ n. IsTrue (is_words n.now)) }
-    ensures { OnOk result (P.seen page.new ≡ showing_all P.showing (class_or_code class (option_map (λ n. n.now) name.entry)) (P.seen page.old)) }
+fn put_class_name<P: Page>(page: &mut P, class: u8, name: Option<Word>) -> Result<(), AllocError>
+    ensures { OnOk result (P.seen page.new ≡ showing_all P.showing (name_or_number class (option_map (λ n. n.text.now) name.entry)) (P.seen page.old)) }
 {
     match name {
         None => {
             page.put("class ")?;
             page.put_byte_code(class)
         }
-        Some(name) => page.put_name(name),
+        Some(name) => page.put_name(name.text),
     }
 }
 
 #[inline(always)]
-fn put_further<P: Page>(page: &mut P, name: Option<&'static str>) -> Result<(), AllocError>
-    requires { IfSome name (λ n. IsTrue (is_words n.now)) }
-    ensures { OnOk result (P.seen page.new ≡ showing_all P.showing (name_shown (option_map (λ n. n.now) name.entry)) (P.seen page.old)) }
+fn put_further<P: Page>(page: &mut P, name: Option<Word>) -> Result<(), AllocError>
+    ensures { OnOk result (P.seen page.new ≡ showing_all P.showing (name_shown (option_map (λ n. n.text.now) name.entry)) (P.seen page.old)) }
 {
     match name {
         None => Ok(()),
         Some(name) => {
             page.put(" / ")?;
-            page.put_name(name)
+            page.put_name(name.text)
         }
     }
 }
@@ -144,71 +136,53 @@ pub(crate) fn put_protocol<P: Page>(
 
 /// Puts a code, and the name that it has, if there is one, as its meaning.
 #[inline(always)]
-fn put_code<P: Page>(page: &mut P, code: u8, name: Option<&'static str>) -> Result<(), AllocError>
-    requires { IfSome name (λ n. IsTrue (is_words n.now)) }
-    ensures { OnOk result (P.seen page.new ≡ showing_all P.showing (code_shown code (option_map (λ n. n.now) name.entry)) (P.seen page.old)) }
+fn put_code<P: Page>(page: &mut P, code: u8, name: Option<Word>) -> Result<(), AllocError>
+    ensures { OnOk result (P.seen page.new ≡ showing_all P.showing (code_shown code (option_map (λ n. n.text.now) name.entry)) (P.seen page.old)) }
 {
     match name {
         None => page.put_byte_code(code),
         Some(name) => {
             page.begin_byte_meaning(code)?;
-            page.put_name(name)?;
+            page.put_name(name.text)?;
             page.put(")")
         }
     }
 }
 
-/// Puts wTerminalType of two bytes of a terminal of audio, and the name of the type if it has one. Bytes that aren't two
-/// are put in hexadecimal digits.
+/// Puts wTerminalType of two bytes of a terminal, and the name that the type has among these, if it has one. Bytes that
+/// aren't two are put in hexadecimal digits.
 ///
 /// ```rust
-/// put_audio_terminal(&mut lines, &[1, 2])?;
+/// put_terminal(&mut lines, &audio_terminals(), &[1, 2])?;
 /// assert_eq!(rt; lines.as_bytes(), b"0x0201 (microphone)");
 /// ```
 #[inline(never)]
-#[tactic(auto, unfolding(crate::specs::Names::terminal_shown))]
-pub(crate) fn put_audio_terminal<P: Page>(page: &mut P, value: &[u8]) -> Result<(), AllocError>
-    ensures { OnOk result (P.seen page.new ≡ showing_all P.showing (terminal_shown audio_terminals value.now) (P.seen page.old)) }
+#[tactic(auto, unfolding(usb_names::specs::Named::name_of, crate::specs::Names::terminal_shown))]
+pub(crate) fn put_terminal<P: Page>(
+    page: &mut P,
+    types: &Names<u16>,
+    value: &[u8],
+) -> Result<(), AllocError>
+    ensures { OnOk result (P.seen page.new ≡ showing_all P.showing (terminal_shown (map row_of types.now.rows.now) value.now) (P.seen page.old)) }
 {
     match value {
         [low, high] => {
             let code = u16::from_le_bytes([*low, *high]);
-            put_type(page, code, audio_terminal(code))
-        }
-        _ => page.put_digits(value),
-    }
-}
-
-/// Puts the same of a terminal of video.
-///
-/// ```rust
-/// put_video_terminal(&mut lines, &[1, 2])?;
-/// assert_eq!(rt; lines.as_bytes(), b"0x0201 (camera)");
-/// ```
-#[inline(never)]
-#[tactic(auto, unfolding(crate::specs::Names::terminal_shown))]
-pub(crate) fn put_video_terminal<P: Page>(page: &mut P, value: &[u8]) -> Result<(), AllocError>
-    ensures { OnOk result (P.seen page.new ≡ showing_all P.showing (terminal_shown video_terminals value.now) (P.seen page.old)) }
-{
-    match value {
-        [low, high] => {
-            let code = u16::from_le_bytes([*low, *high]);
-            put_type(page, code, video_terminal(code))
+            put_type(page, code, types.name(code))
         }
         _ => page.put_digits(value),
     }
 }
 
 /// Puts a type, and the name that it has, if there is one, as its meaning.
-fn put_type<P: Page>(page: &mut P, code: u16, name: Option<&'static str>) -> Result<(), AllocError>
-    requires { IfSome name (λ n. IsTrue (is_words n.now)) }
-    ensures { OnOk result (P.seen page.new ≡ showing_all P.showing (code_shown code (option_map (λ n. n.now) name.entry)) (P.seen page.old)) }
+fn put_type<P: Page>(page: &mut P, code: u16, name: Option<Word>) -> Result<(), AllocError>
+    ensures { OnOk result (P.seen page.new ≡ showing_all P.showing (code_shown code (option_map (λ n. n.text.now) name.entry)) (P.seen page.old)) }
 {
     match name {
         None => page.put_word_code(code),
         Some(name) => {
             page.begin_word_meaning(code)?;
-            page.put_name(name)?;
+            page.put_name(name.text)?;
             page.put(")")
         }
     }

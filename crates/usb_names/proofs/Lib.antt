@@ -1,2 +1,2 @@
 mod RowLemmas
-mod RowTypes
+pub mod RowNames

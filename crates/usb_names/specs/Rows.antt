@@ -59,44 +59,32 @@ application_rows = map of_constant APPLICATION_ROWS
 unfoldable pub other_rows : List Row
 other_rows = map of_constant OTHER_ROWS
 
--- the first rows of a class
+-- the rows of a class, in their order
 abbrev pub class_rows : ℕ → List Row
 class_rows class =
-    if class == 1 then newer_audio_rows
+    if class == 1 then newer_audio_rows ++ audio_rows
     else if class == 2 then communications_rows
     else if class == 3 then hid_rows
     else if class == 8 then mass_storage_rows
     else if class == 9 then hub_rows
     else if class == 10 then cdc_data_rows
     else if class == 11 then smart_card_rows
-    else if class == 14 then video_rows
+    else if class == 14 then video_rows ++ further_video_rows
     else if class == 254 then application_rows
     else []
 
--- the rows of a class after those
-abbrev pub further_rows : ℕ → List Row
-further_rows class =
-    if class == 1 then audio_rows
-    else if class == 14 then further_video_rows
-    else []
-
--- the first rows of the class of an interface; before any interface there are none
+-- those of the class of an interface; before any interface there are none
 abbrev pub rows_of_class : Option ClassCodes → List Row
 rows_of_class None = []
 rows_of_class (Some codes) = class_rows codes.class
 
--- the rows of that class after those
-abbrev pub further_rows_of_class : Option ClassCodes → List Row
-further_rows_of_class None = []
-further_rows_of_class (Some codes) = further_rows codes.class
-
--- the types that classes define, which other rows don't have and these alone
+-- the types that classes define, which the rows of classes have and the standard ones don't
 abbrev pub is_class_type : ℕ → Bool
 is_class_type type = (type == 0x21) || (type == 0x24) || (type == 0x25) || (type == 0x29)
 
--- the rows after an interface of these codes, in their order
-abbrev pub rows_behind : Option ClassCodes → List Row
-rows_behind interface = standard_rows ++ rows_of_class interface ++ further_rows_of_class interface ++ other_rows
+-- the rows for a type after an interface of these codes, in their order
+abbrev pub rows_behind : Option ClassCodes → ℕ → List Row
+rows_behind interface type = if is_class_type type then rows_of_class interface ++ other_rows else standard_rows
 
 -- a row's code is any code, or this one
 abbrev pub agrees : Option ℕ → Option ℕ → Bool

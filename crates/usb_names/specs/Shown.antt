@@ -1,9 +1,10 @@
 -- Descriptors of classes and their fields, with names as lists of bytes.
-use Rattle.std.specs.Prelude.{ℕ, List, map}
+use Rattle.std.specs.Prelude.{ℕ, Bool, List, map, nat_lt, ◌&&◌}
 use Rattle.std.specs.Borrow.{Bor}
+use Rattle.std.specs.List.{list_all}
 use Rattle.usb_names.specs.declared.field.ClassField.{ClassField}
 use Rattle.usb_names.specs.declared.row.ClassDescriptor.{ClassDescriptor}
-use Rattle.usb_names.specs.Named.{Ref}
+use Rattle.usb_names.specs.Named.{Ref, is_name}
 
 -- a field
 abbrev pub Field : Type 0
@@ -13,9 +14,21 @@ Field = ClassField (List ℕ)
 abbrev pub field_of : ClassField (Bor (List ℕ)) → Field
 field_of f = record { name = f.name.now; width = f.width; form = f.form }
 
+-- it has a name and bytes
+abbrev pub is_field : Field → Bool
+is_field field = is_name field.name && nat_lt 0 field.width
+
+-- these have
+abbrev pub are_fields : List Field → Bool
+are_fields fields = list_all is_field fields
+
 -- a descriptor of a class
 abbrev pub Row : Type 0
 Row = ClassDescriptor (List ℕ) (List Field)
+
+-- it has a name, and fields
+abbrev pub is_row : Row → Bool
+is_row row = is_name row.name && (are_fields row.fields && are_fields row.group)
 
 -- a row whose name and fields are these
 abbrev pub row_with : {Name Fields : Type 0} → (Name → List ℕ) → (Fields → List Field) → ClassDescriptor Name Fields → Row

@@ -1,9 +1,10 @@
 //! Names of classes, subclasses and protocols.
-ghost use Rattle.std.specs.Prelude.{◌≡◌, map, option_map, slice_get};
+ghost use Rattle.std.specs.Prelude.{◌≡◌, IfSome, IsTrue, map, option_map, slice_get};
 ghost use Rattle.std.specs.Option.{option_copied};
-ghost use Rattle.usb_names.specs.Classes.{class_name, class_of, class_row, classes, protocol_name, subclass_name};
+ghost use Rattle.usb_names.specs.Classes.{class_has_names, class_name, class_of, class_row, classes, protocol_name, subclass_name};
 
-use crate::named::{Named, name_in};
+use crate::named::{Named, Names};
+use crate::word::Word;
 
 /// A class: its code and its name, the names of its subclasses, and those of its protocols by subclass and protocol.
 struct Class<
@@ -20,47 +21,66 @@ struct Class<
 /// The name of a class code, as bDeviceClass, bInterfaceClass and bFunctionClass have it (USB 2.0, 9.6.1, 9.6.5).
 ///
 /// ```rust
-/// assert_eq!(rt; class_name(0x08), Some("Mass storage"));
-/// assert_eq!(rt; class_name(0x77), None);
+/// if let Some(name) = class_name(0x08) {
+///     assert_eq!(rt; name.text, "Mass storage");
+/// }
 /// ```
-pub fn class_name(class: u8) -> Option<&'static str>
-    ensures { option_map (λ name. name.now) result ≡ class_name class }
+pub fn class_name(class: u8) -> Option<Word>
+    ensures { option_map (λ name. name.text.now) result ≡ class_name class }
 {
     let row = class_row(class)?;
-    Some(row.name)
+    Some(Word { text: row.name })
 }
 
 /// The name of a subclass code of a class.
 ///
 /// ```rust
-/// assert_eq!(rt; subclass_name(0x02, 0x06), Some("Ethernet networking"));
+/// if let Some(name) = subclass_name(0x02, 0x06) {
+///     assert_eq!(rt; name.text, "Ethernet networking");
+/// }
 /// ```
 #[tactic(auto, unfolding(crate::specs::Named::name_of))]
-pub fn subclass_name(class: u8, subclass: u8) -> Option<&'static str>
-    ensures { option_map (λ name. name.now) result ≡ subclass_name class subclass }
+pub fn subclass_name(class: u8, subclass: u8) -> Option<Word>
+    ensures { option_map (λ name. name.text.now) result ≡ subclass_name class subclass }
 {
     let row = class_row(class)?;
-    name_in(row.subclasses, subclass)
+    let names = Names {
+        rows: row.subclasses,
+    };
+    names.name(subclass)
 }
 
 /// The name of a protocol code of a class and its subclass.
 ///
 /// ```rust
-/// assert_eq!(rt; protocol_name(0x08, 0x06, 0x50), Some("bulk-only"));
+/// if let Some(name) = protocol_name(0x08, 0x06, 0x50) {
+///     assert_eq!(rt; name.text, "bulk-only");
+/// }
 /// ```
-pub fn protocol_name(class: u8, subclass: u8, protocol: u8) -> Option<&'static str>
-    ensures { option_map (λ name. name.now) result ≡ protocol_name class subclass protocol }
+pub fn protocol_name(class: u8, subclass: u8, protocol: u8) -> Option<Word>
+    ensures { option_map (λ name. name.text.now) result ≡ protocol_name class subclass protocol }
 {
     let row = class_row(class)?;
-    name_in(row.protocols, (subclass, protocol))
+    let names = Names {
+        rows: row.protocols,
+    };
+    names.name((subclass, protocol))
 }
 
 /// The row of a class.
 #[inline(always)]
 fn class_row(class: u8) -> Option<&'static Class>
-    ensures { option_map class_of (option_copied result) ≡ class_row class }
+    ensures row { option_map class_of (option_copied result) ≡ class_row class }
+    ensures names { IfSome result (λ row. IsTrue (class_has_names (class_of row.now))) }
 {
-    classes().get(place(class))
+    row_at(place(class))
+}
+
+#[inline(always)]
+fn row_at(place: usize) -> Option<&'static Class>
+    ensures { option_map class_of (option_copied result) ≡ slice_get classes place }
+{
+    classes().get(place)
 }
 
 #[tactic(auto, unfolding(crate::specs::Classes::classes))]

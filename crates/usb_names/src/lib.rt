@@ -12,10 +12,13 @@ mod named;
 mod row;
 mod rows;
 mod terminal;
+mod word;
 
 pub use bits::{abstract_control_bits, call_management_bits, firmware_upgrade_bits};
 pub use class::{class_name, protocol_name, subclass_name};
 pub use codes::ClassCodes;
 pub use field::{ClassField, Form};
-pub use row::{ClassDescriptor, class_descriptor};
-pub use terminal::{audio_terminal, video_terminal};
+pub use named::Names;
+pub use row::{ClassDescriptor, ClassRow, class_descriptor};
+pub use terminal::{audio_terminals, video_terminals};
+pub use word::Word;

@@ -1,12 +1,12 @@
 //! Class descriptors by name.
-ghost use Rattle.std.specs.Prelude.{◌≡◌, find, map, option_map};
+ghost use Rattle.std.specs.Prelude.{◌≡◌, IsTrue, find, map, option_map};
 ghost use Rattle.std.specs.Option.{option_copied};
-ghost use Rattle.usb_names.specs.Rows.{agrees, first_row, has_zero, holds, further_rows_of_class, is_class_type, rows_behind, rows_of_class};
-ghost use Rattle.usb_names.specs.Shown.{row_of};
+ghost use Rattle.usb_names.specs.Rows.{agrees, first_row, has_zero, holds, is_class_type, rows_behind, rows_of_class};
+ghost use Rattle.usb_names.specs.Shown.{is_row, row_of};
 
 use crate::codes::ClassCodes;
 use crate::field::ClassField;
-use crate::rows::{class_rows, further_rows, other_rows, standard_rows};
+use crate::rows::{class_rows, other_rows, standard_rows};
 
 /// A descriptor that a class defines: what it is known by, its name and its fields.
 #[derive(Clone, Copy, Debug)]
@@ -99,59 +99,66 @@ fn is_class_type(descriptor_type: u8) -> bool
     matches!(descriptor_type, 0x21 | 0x24 | 0x25 | 0x29)
 }
 
+/// A descriptor that a class defines, with names of at most 62 printable characters and fields that have bytes.
+#[derive(Clone, Copy, Debug)]
+pub struct ClassRow {
+    /// The row of the table.
+    pub row: &'static ClassDescriptor,
+    pub ghost names: { IsTrue (is_row (row_of row.now)) },
+}
+
 /// The descriptor of this type and of a body that begins with these bytes, after an interface of these codes; before any
 /// interface there are none. It is the first row of the table that holds.
 ///
 /// ```rust
 /// let hid = ClassCodes { class: 3, subclass: 1, protocol: 2 };
 /// if let Some(descriptor) = class_descriptor(Some(hid), 0x21, &[0x10, 1]) {
-///     assert_eq!(rt; descriptor.name, "HID");
+///     assert_eq!(rt; descriptor.row.name, "HID");
 /// }
 /// ```
-#[tactic(auto, using(crate::proofs::RowTypes::of_class_type, crate::proofs::RowTypes::of_other_type))]
 pub fn class_descriptor(
     interface: Option<ClassCodes>,
     descriptor_type: u8,
     body: &[u8],
+) -> Option<ClassRow>
+    ensures { option_map (λ found. row_of found.row.now) result ≡ first_row (rows_behind interface descriptor_type) interface descriptor_type body.now }
+{
+    let row = row_behind(interface, descriptor_type, body)?;
+    Some(ClassRow { row })
+}
+
+#[inline(always)]
+#[tactic(auto, using(crate::proofs::RowLemmas::find_in_two))]
+fn row_behind(
+    interface: Option<ClassCodes>,
+    descriptor_type: u8,
+    body: &[u8],
 ) -> Option<&'static ClassDescriptor>
-    ensures { option_map row_of (option_copied result) ≡ first_row (rows_behind interface) interface descriptor_type body.now }
+    ensures { option_map row_of (option_copied result) ≡ first_row (rows_behind interface descriptor_type) interface descriptor_type body.now }
 {
     if !is_class_type(descriptor_type) {
         return first_row(standard_rows(), interface, descriptor_type, body);
     }
-    if let None = interface {
-        return first_row(other_rows(), interface, descriptor_type, body);
-    }
-    if let Some(row) = first_row(rows_of_class(interface), interface, descriptor_type, body) {
-        return Some(row);
-    }
-    if let Some(row) = first_row(
-        further_rows_of_class(interface),
-        interface,
-        descriptor_type,
-        body,
-    ) {
-        return Some(row);
-    }
-    first_row(other_rows(), interface, descriptor_type, body)
-}
-
-/// The first rows of the class of an interface, if there is one.
-fn rows_of_class(interface: Option<ClassCodes>) -> &'static [ClassDescriptor]
-    ensures { map row_of result.now ≡ rows_of_class interface }
-{
-    match interface {
-        Some(codes) => class_rows(codes.class),
-        None => &[],
+    match row_of_class(interface, descriptor_type, body) {
+        None => first_row(other_rows(), interface, descriptor_type, body),
+        Some(row) => Some(row),
     }
 }
 
-/// The rows of that class after those.
-fn further_rows_of_class(interface: Option<ClassCodes>) -> &'static [ClassDescriptor]
-    ensures { map row_of result.now ≡ further_rows_of_class interface }
+/// The first row that holds of the class of an interface, if there is one.
+#[inline(always)]
+#[tactic(auto, using(crate::proofs::RowLemmas::find_in_two))]
+fn row_of_class(
+    interface: Option<ClassCodes>,
+    descriptor_type: u8,
+    body: &[u8],
+) -> Option<&'static ClassDescriptor>
+    ensures { option_map row_of (option_copied result) ≡ first_row (rows_of_class interface) interface descriptor_type body.now }
 {
-    match interface {
-        Some(codes) => further_rows(codes.class),
-        None => &[],
+    let codes = interface?;
+    let (rows, further) = class_rows(codes.class);
+    match first_row(rows, interface, descriptor_type, body) {
+        None => first_row(further, interface, descriptor_type, body),
+        Some(row) => Some(row),
     }
 }

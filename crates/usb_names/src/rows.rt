@@ -1,5 +1,5 @@
 //! The rows of the table of class descriptors.
-ghost use Rattle.std.specs.Prelude.{◌≡◌, map};
+ghost use Rattle.std.specs.Prelude.{◌≡◌, ◌++◌, map};
 ghost use Rattle.usb_names.specs.Rows as tables;
 ghost use Rattle.usb_names.specs.Shown.{row_of};
 
@@ -126,32 +126,21 @@ pub(crate) fn other_rows() -> &'static [ClassDescriptor]
     &OTHER_ROWS
 }
 
-/// The first rows of a class.
-pub(crate) fn class_rows(class: u8) -> &'static [ClassDescriptor]
-    ensures { map row_of result.now ≡ tables.class_rows class }
+/// The rows of a class, in two lists.
+pub(crate) fn class_rows(class: u8) -> (&'static [ClassDescriptor], &'static [ClassDescriptor])
+    ensures { map row_of result.0.now ++ map row_of result.1.now ≡ tables.class_rows class }
 {
     match class {
-        0x01 => newer_audio_rows(),
-        0x02 => communications_rows(),
-        0x03 => hid_rows(),
-        0x08 => mass_storage_rows(),
-        0x09 => hub_rows(),
-        0x0a => cdc_data_rows(),
-        0x0b => smart_card_rows(),
-        0x0e => video_rows(),
-        0xfe => application_rows(),
-        _ => &[],
-    }
-}
-
-/// The rows of a class after those.
-pub(crate) fn further_rows(class: u8) -> &'static [ClassDescriptor]
-    ensures { map row_of result.now ≡ tables.further_rows class }
-{
-    match class {
-        0x01 => audio_rows(),
-        0x0e => further_video_rows(),
-        _ => &[],
+        0x01 => (newer_audio_rows(), audio_rows()),
+        0x02 => (&[], communications_rows()),
+        0x03 => (&[], hid_rows()),
+        0x08 => (&[], mass_storage_rows()),
+        0x09 => (&[], hub_rows()),
+        0x0a => (&[], cdc_data_rows()),
+        0x0b => (&[], smart_card_rows()),
+        0x0e => (video_rows(), further_video_rows()),
+        0xfe => (&[], application_rows()),
+        _ => (&[], &[]),
     }
 }
 

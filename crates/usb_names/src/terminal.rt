@@ -1,38 +1,28 @@
 //! Names of types of terminals.
-ghost use Rattle.std.specs.Prelude.{◌≡◌, map, option_map};
-ghost use Rattle.usb_names.specs.Named.{name_of, row_of};
+ghost use Rattle.std.specs.Prelude.{◌≡◌, map};
+ghost use Rattle.usb_names.specs.Named.{row_of};
 ghost use Rattle.usb_names.specs.Terminals as tables;
 
-use crate::named::{Named, name_in};
+use crate::named::{Named, Names};
 
-/// The name of a type of a terminal of audio, as wTerminalType has it.
-#[tactic(auto, unfolding(crate::specs::Named::name_of))]
-pub fn audio_terminal(code: u16) -> Option<&'static str>
-    ensures { option_map (λ name. name.now) result ≡ name_of tables.audio_terminals code }
-{
-    name_in(audio_terminals(), code)
-}
-
+/// The names of types of terminals of audio, by wTerminalType.
 #[tactic(auto, unfolding(crate::specs::Terminals::audio_terminals))]
-fn audio_terminals() -> &'static [Named<u16>]
-    ensures { map row_of result.now ≡ tables.audio_terminals }
+pub fn audio_terminals() -> Names<u16>
+    ensures { map row_of result.rows.now ≡ tables.audio_terminals }
 {
-    &AUDIO_TERMINALS
+    Names {
+        rows: &AUDIO_TERMINALS,
+    }
 }
 
-/// The name of a type of a terminal of video, as wTerminalType has it.
-#[tactic(auto, unfolding(crate::specs::Named::name_of))]
-pub fn video_terminal(code: u16) -> Option<&'static str>
-    ensures { option_map (λ name. name.now) result ≡ name_of tables.video_terminals code }
-{
-    name_in(video_terminals(), code)
-}
-
+/// The names of types of terminals of video, by wTerminalType.
 #[tactic(auto, unfolding(crate::specs::Terminals::video_terminals))]
-fn video_terminals() -> &'static [Named<u16>]
-    ensures { map row_of result.now ≡ tables.video_terminals }
+pub fn video_terminals() -> Names<u16>
+    ensures { map row_of result.rows.now ≡ tables.video_terminals }
 {
-    &VIDEO_TERMINALS
+    Names {
+        rows: &VIDEO_TERMINALS,
+    }
 }
 
 // made by tables.py

@@ -1,8 +1,7 @@
 -- What is left of a descriptor's fields.
-use Rattle.std.specs.Prelude.{ℕ, ◌&&◌, Bool, length, nat_le, List, [], ◌++◌, map}
-use Rattle.std.specs.List.{list_all}
-use Rattle.usb_names.specs.Shown.{Field, field_of}
-use Rattle.usb_text.specs.Written.{is_words}
+use Rattle.std.specs.Prelude.{ℕ, ◌&&◌, Bool, List, [], ◌++◌, map}
+use Rattle.usb_names.specs.Named.{is_name}
+use Rattle.usb_names.specs.Shown.{Field, are_fields, field_of}
 use Rattle.usb_explain.specs.declared.fields.Lists.{Lists}
 use Rattle.usb_explain.specs.declared.fields.Piece.{Piece}
 use Rattle.usb_explain.specs.Fields.{fields_in_bytes}
@@ -24,23 +23,11 @@ left_in l n = let layout = layout_left l in fields_in_bytes layout.fields layout
 abbrev pub piece_of : Piece → Field
 piece_of p = record { name = p.name.now; width = p.width; form = p.form }
 
--- a name is printable, and has at most 62 characters
-abbrev pub is_name : List ℕ → Bool
-is_name words = is_words words && nat_le (length words) 62
+-- the fields of a layout have names and bytes, and the rest has a name
+abbrev pub is_layout : Layout → Bool
+is_layout layout = are_fields layout.fields && (are_fields layout.group && is_name layout.rest)
 
--- so is that of a field
-abbrev pub has_words : Field → Bool
-has_words field = is_name field.name
-
--- the names of these fields are
-abbrev pub have_words : List Field → Bool
-have_words fields = list_all has_words fields
-
--- the names in a layout are
-abbrev pub layout_has_words : Layout → Bool
-layout_has_words layout = have_words layout.fields && (have_words layout.group && is_name layout.rest)
-
--- the names in these lists are
-abbrev pub lists_have_words : Lists → Bool
-lists_have_words l =
-    have_words (map field_of l.current.now) && (have_words (map field_of l.following.now) && (have_words (map field_of l.group.now) && is_name l.rest.now))
+-- the same of what is left of one
+abbrev pub is_rest_of_layout : Lists → Bool
+is_rest_of_layout l =
+    are_fields (map field_of l.current.now) && (are_fields (map field_of l.following.now) && (are_fields (map field_of l.group.now) && is_name l.rest.now))

@@ -1,33 +1,30 @@
 //! Descriptors of classes, and the device descriptor and qualifier.
-ghost use Rattle.std.specs.Prelude.{◌≡◌, option_map, IfSome, IsTrue, OnOk};
-ghost use Rattle.std.specs.Option.{option_copied};
+ghost use Rattle.std.specs.Prelude.{◌≡◌, option_map, OnOk};
 ghost use Rattle.usb_names.specs.Shown.{row_of};
 ghost use Rattle.usb_text.specs.Shown.{showing_all};
-ghost use Rattle.usb_text.specs.Written.{is_words};
 ghost use Rattle.usb_explain.specs.Headers.{row_shown};
 ghost use Rattle.usb_explain.specs.Sets.{device_shown, version_shown};
 
 use crate::names::put_class_words;
 use std::alloc::AllocError;
 use usb_fields::{byte_at, word_at};
-use usb_names::ClassDescriptor;
+use usb_names::ClassRow;
 use usb_text::Page;
 
 /// Puts the name of a descriptor of this row, or its type where it has none.
 pub(crate) fn put_row_words<P: Page>(
     page: &mut P,
     descriptor_type: u8,
-    row: Option<&'static ClassDescriptor>,
+    row: Option<ClassRow>,
 ) -> Result<(), AllocError>
-    requires { IfSome row (λ r. IsTrue (is_words r.now.name.now)) }
-    ensures { OnOk result (P.seen page.new ≡ showing_all P.showing (row_shown descriptor_type (option_map row_of (option_copied row.entry))) (P.seen page.old)) }
+    ensures { OnOk result (P.seen page.new ≡ showing_all P.showing (row_shown descriptor_type (option_map (λ found. row_of found.row.now) row.entry)) (P.seen page.old)) }
 {
     match row {
         None => {
             page.put("descriptor of type ")?;
             page.put_byte_code(descriptor_type)
         }
-        Some(row) => page.put_name(row.name),
+        Some(found) => page.put_name(found.row.name),
     }
 }
 
