@@ -203,7 +203,7 @@ impl Lists {
 
     /// Those of a class descriptor of this row.
     fn of_class(row: Option<ClassRow>) -> Lists
-        ensures layout { layout_left result ≡ class_layout (option_map (λ found. row_of found.row.now) row.entry) }
+        ensures layout { layout_left result ≡ class_layout (option_map (λ found. row_of found.row.now) row) }
         ensures words { IsTrue (is_rest_of_layout result) }
     {
         match row {

@@ -63,7 +63,7 @@ pub(crate) fn put_function_class_words<P: Page>(
 }
 
 fn put_class_name<P: Page>(page: &mut P, class: u8, name: Option<Word>) -> Result<(), AllocError>
-    ensures { OnOk result (P.seen page.new ≡ showing_all P.showing (name_or_number class (option_map (λ n. n.text.now) name.entry)) (P.seen page.old)) }
+    ensures { OnOk result (P.seen page.new ≡ showing_all P.showing (name_or_number class (option_map (λ n. n.text.now) name)) (P.seen page.old)) }
 {
     match name {
         None => {
@@ -76,7 +76,7 @@ fn put_class_name<P: Page>(page: &mut P, class: u8, name: Option<Word>) -> Resul
 
 #[inline(always)]
 fn put_further<P: Page>(page: &mut P, name: Option<Word>) -> Result<(), AllocError>
-    ensures { OnOk result (P.seen page.new ≡ showing_all P.showing (name_shown (option_map (λ n. n.text.now) name.entry)) (P.seen page.old)) }
+    ensures { OnOk result (P.seen page.new ≡ showing_all P.showing (name_shown (option_map (λ n. n.text.now) name)) (P.seen page.old)) }
 {
     match name {
         None => Ok(()),
@@ -137,7 +137,7 @@ pub(crate) fn put_protocol<P: Page>(
 /// Puts a code, and the name that it has, if there is one, as its meaning.
 #[inline(always)]
 fn put_code<P: Page>(page: &mut P, code: u8, name: Option<Word>) -> Result<(), AllocError>
-    ensures { OnOk result (P.seen page.new ≡ showing_all P.showing (code_shown code (option_map (λ n. n.text.now) name.entry)) (P.seen page.old)) }
+    ensures { OnOk result (P.seen page.new ≡ showing_all P.showing (code_shown code (option_map (λ n. n.text.now) name)) (P.seen page.old)) }
 {
     match name {
         None => page.put_byte_code(code),
@@ -176,7 +176,7 @@ pub(crate) fn put_terminal<P: Page>(
 
 /// Puts a type, and the name that it has, if there is one, as its meaning.
 fn put_type<P: Page>(page: &mut P, code: u16, name: Option<Word>) -> Result<(), AllocError>
-    ensures { OnOk result (P.seen page.new ≡ showing_all P.showing (code_shown code (option_map (λ n. n.text.now) name.entry)) (P.seen page.old)) }
+    ensures { OnOk result (P.seen page.new ≡ showing_all P.showing (code_shown code (option_map (λ n. n.text.now) name)) (P.seen page.old)) }
 {
     match name {
         None => page.put_word_code(code),

@@ -17,7 +17,7 @@ pub(crate) fn put_row_words<P: Page>(
     descriptor_type: u8,
     row: Option<ClassRow>,
 ) -> Result<(), AllocError>
-    ensures { OnOk result (P.seen page.new ≡ showing_all P.showing (row_shown descriptor_type (option_map (λ found. row_of found.row.now) row.entry)) (P.seen page.old)) }
+    ensures { OnOk result (P.seen page.new ≡ showing_all P.showing (row_shown descriptor_type (option_map (λ found. row_of found.row.now) row)) (P.seen page.old)) }
 {
     match row {
         None => {
