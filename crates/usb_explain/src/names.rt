@@ -1,7 +1,7 @@
 //! Class codes, types of terminals and GUIDs by their names.
 ghost use Rattle.std.specs.Prelude.{◌≡◌, map, option_map, IsTrue, OnOk};
 ghost use Rattle.std.specs.List.{list_all};
-ghost use Rattle.usb_names.specs.Named.{row_of};
+ghost use Rattle.usb_names.specs.Named.{name_of, row_of};
 ghost use Rattle.usb_text.specs.Shown.{showing_all};
 ghost use Rattle.usb_text.specs.Written.{is_words};
 ghost use Rattle.usb_explain.specs.Names.{class_field, class_names, code_shown, function_class_field, function_class_names, guid_shown, has_characters, is_letter_or_digit, name_or_number, name_shown, protocol_field, subclass_field, terminal_shown};
@@ -157,7 +157,7 @@ fn put_code<P: Page>(page: &mut P, code: u8, name: Option<Word>) -> Result<(), A
 /// assert_eq!(rt; lines.as_bytes(), b"0x0201 (microphone)");
 /// ```
 #[inline(never)]
-#[tactic(auto, unfolding(usb_names::specs::Named::name_of, crate::specs::Names::terminal_shown))]
+#[tactic(auto, unfolding(crate::specs::Names::terminal_shown))]
 pub(crate) fn put_terminal<P: Page>(
     page: &mut P,
     types: &Names<u16>,
@@ -166,19 +166,17 @@ pub(crate) fn put_terminal<P: Page>(
     ensures { OnOk result (P.seen page.new ≡ showing_all P.showing (terminal_shown (map row_of types.now.rows.now) value.now) (P.seen page.old)) }
 {
     match value {
-        [low, high] => {
-            let code = u16::from_le_bytes([*low, *high]);
-            put_type(page, code, types.name(code))
-        }
+        [low, high] => put_type(page, types, u16::from_le_bytes([*low, *high])),
         _ => page.put_digits(value),
     }
 }
 
-/// Puts a type, and the name that it has, if there is one, as its meaning.
-fn put_type<P: Page>(page: &mut P, code: u16, name: Option<Word>) -> Result<(), AllocError>
-    ensures { OnOk result (P.seen page.new ≡ showing_all P.showing (code_shown code (option_map (λ n. n.text.now) name)) (P.seen page.old)) }
+/// Puts a type, and the name that it has among these, if there is one, as its meaning.
+#[tactic(auto, unfolding(usb_names::specs::Named::name_of))]
+fn put_type<P: Page>(page: &mut P, types: &Names<u16>, code: u16) -> Result<(), AllocError>
+    ensures { OnOk result (P.seen page.new ≡ showing_all P.showing (code_shown code (name_of (map row_of types.now.rows.now) code)) (P.seen page.old)) }
 {
-    match name {
+    match types.name(code) {
         None => page.put_word_code(code),
         Some(name) => {
             page.begin_word_meaning(code)?;
