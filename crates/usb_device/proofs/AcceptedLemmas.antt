@@ -1,16 +1,12 @@
 -- What is known of accepted descriptors.
-use Rattle.std.proofs.Common.{◌≡◌, ℕ, ◌*◌, ◌<◌, ◌==◌, Bool, true, false, not, ◌||◌, List, [], ◌∷◌, length, ◌++◌, map, slice_get, Option, Some, None, refl, arith}
+use Rattle.std.proofs.Common.{◌≡◌, ℕ, ◌*◌, ◌<◌, ◌==◌, Bool, true, false, not, ◌||◌, List, [], ◌∷◌, length, slice_get, Option, Some, None, refl, arith}
 use Rattle.std.proofs.lemmas.Bool.Decides.{nat_tests}
 use Rattle.usb_file_data.specs.declared.file.DescriptorFile.{DescriptorFile}
 use Rattle.usb_file_data.specs.declared.file.Strings.{Strings}
 use Rattle.usb_file_data.specs.File.{has_long_string, are_wrong_strings, named_indices}
 use Rattle.usb_file_data.specs.Findings.{findings}
 use Rattle.usb_file_data.proofs.Sorting.{device_right}
-use Rattle.usb_device.specs.Accepted.{Accepted, has_wrong_strings, repeats_language}
-use Rattle.usb_device.specs.Descriptors.{descriptors, main_descriptors, other_descriptors}
-use Rattle.usb_device.specs.Offers.{set_offer}
-use Rattle.usb_device.specs.declared.encoded.Encoded.TheInside.{Inside}
-use Rattle.usb_device.specs.inside.Descriptions.{IsEncoded, languages_of, other_count}
+use Rattle.usb_device.specs.Accepted.{has_wrong_strings, repeats_language}
 
 -- where no rule is broken, packets of endpoint zero have at least one byte
 pub packet_some : (f : DescriptorFile) → findings f ≡ [] → 0 < f.device.packet
@@ -52,18 +48,3 @@ texts_as_many f s is right =
 pub none_first : {X : Type 0} (xs : List X) → slice_get xs 0 ≡ None → xs ≡ []
 none_first [] none = refl
 none_first (x ∷ xs) none = cc
-
--- what was made of a file is its encoding
-pub is_encoded : (d : Inside) (f : DescriptorFile) → d.file.value ≡ f → d.packet ≡ f.device.packet → d.sets ≡ map set_offer f.sets → d.other_sets ≡ other_count f.other → d.languages ≡ languages_of f.strings → d.image ≡ descriptors f → d.others ≡ length (main_descriptors f) → d.strings ≡ length (main_descriptors f ++ other_descriptors f.other) → d.named ≡ named_indices f → Accepted f d.speed → IsEncoded d
-is_encoded d f is packet sets other_sets languages image others strings named accepted =
-    record {
-      packet = rw is packet;
-      sets = rw is sets;
-      other_sets = rw is other_sets;
-      languages = rw is languages;
-      image = rw is image;
-      others = rw is others;
-      strings = rw is strings;
-      named = rw is named;
-      accepted = rw is accepted;
-    }

@@ -2,12 +2,9 @@ pub mod HaltLemmas
 pub mod StageLemmas
 pub mod WriteLemmas
 pub mod PlaceLemmas
-pub mod ImageLemmas
 pub mod AcceptedLemmas
 pub mod FitLemmas
-pub mod RankLemmas
 pub mod Replies
-pub mod OutlineLemmas
 pub mod OpenLemmas
 pub mod PieceLemmas
 pub mod FoundLemmas

@@ -1,5 +1,5 @@
 -- An image offers what the file offers that it was written of.
-use Rattle.std.proofs.Common.{◌≡◌, List, [], ◌∷◌, ◌++◌, map, refl, ap, ◌∙◌}
+use Rattle.std.proofs.Common.{◌≡◌, ◌<◌, ◌≤◌, ℕ, Bool, length, drop, fold, slice_index_or, arith, List, [], ◌∷◌, ◌++◌, map, refl, ap, subst, ◌∙◌}
 use Rattle.std.specs.List.{flat_map}
 use Rattle.usb_set.specs.declared.tree.Configuration.{Configuration}
 use Rattle.usb_set.specs.declared.tree.Endpoint.{Endpoint}
@@ -7,10 +7,20 @@ use Rattle.usb_set.specs.declared.tree.Setting.{Setting}
 use Rattle.usb_file_data.specs.declared.file.DescriptorFile.{DescriptorFile}
 use Rattle.usb_fields.specs.Device.{device_bytes}
 use Rattle.usb_file_data.specs.File.{named_indices, whole_set}
-use Rattle.usb_device.specs.Images.{Piece, descriptor_in, image_bytes, piece_in}
-use Rattle.usb_device.specs.Offers.{endpoint_offer, endpoints_in, offer_in, offer_of, set_in, set_offer, setting_in, setting_offer, sets_in}
+use Rattle.usb_device.specs.Images.{Piece, descriptor_in, image_bytes, pieces_of}
+use Rattle.usb_device.specs.Descriptors.{descriptor}
+use Rattle.usb_device.specs.Freedoms.{is_either, is_either_to}
+use Rattle.usb_device.specs.Step.{acked, served}
+use Rattle.usb_device.specs.View.{acked_by, acked_over, device_of, served_by, served_over}
+use Rattle.usb_device.specs.declared.endpoint_zero.EndpointZero.{EndpointZero}
+use Rattle.usb_device.specs.declared.state.State.{State}
+use Rattle.usb_fields.specs.Packets.{Reply, Sent}
+use Rattle.usb_fields.specs.declared.setup.Setup.{Setup}
+use Rattle.usb_device.specs.Offers.{SettingOffer, endpoint_offer, endpoints_in, offer_in, offer_of, packet_in, set_in, set_offer, setting_in, setting_offer, sets_in}
 use Rattle.usb_fields.specs.Setup.{class_of}
-use Rattle.usb_device.specs.Requests.{answer, answer_of, answer_to}
+use Rattle.usb_device.specs.Requests.{addresses_in, answer, answer_of, answer_to, interface_addresses}
+use Rattle.usb_device.specs.States.{without_halt}
+use Rattle.std.proofs.lemmas.List.Sums.{fold-append}
 use Rattle.usb_device.specs.FileImages.{endpoint_bytes, file_pieces, image_of, indexed, keyed, other_pieces, set_piece, setting_piece, string_pieces}
 use Rattle.usb_device.proofs.PieceLemmas.{read_back, read_piece}
 use Rattle.usb_device.proofs.FoundLemmas.{offers_descriptor}
@@ -36,17 +46,65 @@ sets_back (c ∷ cs) = λ i. set_back c i ∷ sets_back cs i
 sets_found : (f : DescriptorFile) → sets_in (file_pieces f) ≡ map set_offer f.sets
 sets_found f = ap (map set_in) (read_back (map set_piece f.sets)) ∙ sets_back f.sets
 
-head_back : (f : DescriptorFile) → (piece_in (image_of f)).number ≡ f.device.packet
+pub head_back : (f : DescriptorFile) → packet_in (image_of f) ≡ f.device.packet
+unfolding image_of packet_in
 head_back f =
     ap (λ (p : Piece). p.number) (read_piece (record { kind = 0; index = 1; number = f.device.packet; body = [] })
     (image_bytes ((keyed 129 0 (image_bytes (map set_piece f.sets)) ∷ keyed 1 0 (device_bytes f.device) ∷ (indexed 2 0 (map whole_set f.sets) ++ other_pieces f.other)) ++ string_pieces (named_indices f) f.strings)))
 
 pub same_offer : (f : DescriptorFile) → offer_in (image_of f) ≡ offer_of f
+unfolding image_of
 same_offer f =
-    ap (λ ps. record { packet = (piece_in (image_of f)).number; descriptor = descriptor_in ps; sets = sets_in ps }) (read_back (file_pieces f))
+    ap (λ ps. record { packet = packet_in (image_of f); descriptor = descriptor_in ps; sets = sets_in ps }) (read_back (file_pieces f))
     ∙ (λ i. record { packet = head_back f i; descriptor = λ kind index language. offers_descriptor f kind index language i; sets = sets_found f i })
 
 -- so a device answers over the image as over the file
 pub same_answers : (f : DescriptorFile) → answer_to (offer_in (image_of f)) ≡ answer f
 unfolding answer answer_to
 same_answers f = λ i s q. answer_of (class_of q.request_type) (same_offer f i) s q
+
+-- and hands out the same descriptors
+pub same_descriptor : (f : DescriptorFile) (kind index language : ℕ) → descriptor_in (pieces_of (image_of f)) kind index language ≡ descriptor f kind index language
+same_descriptor f kind index language = λ i. (same_offer f i).descriptor kind index language
+
+-- so each transaction is the same
+pub same_served : (f : DescriptorFile) → served_over (image_of f) ≡ served_by f
+same_served f = λ i d sent ready. served (same_answers f i) (head_back f i) d sent ready
+
+pub same_acked : (f : DescriptorFile) → acked_over (image_of f) ≡ acked_by f
+same_acked f = λ i d. acked (same_answers f i) (head_back f i) d
+
+pub same_either : (f : DescriptorFile) → is_either_to (offer_in (image_of f)) ≡ is_either f
+same_either f = λ i s q. is_either_to (same_offer f i) s q
+
+-- A device over an image of a file, as the file has it.
+
+pub by_file : (f : DescriptorFile) (image : List ℕ) (e : EndpointZero) (sent : Sent) (ready : Bool) (reply : Reply) → image ≡ image_of f →
+    reply ≡ (served_over image (device_of image e) sent ready).reply → reply ≡ (served_by f (device_of (image_of f) e) sent ready).reply
+by_file f image e sent ready reply is h =
+    subst (λ (i : List ℕ). reply ≡ (served_over i (device_of i e) sent ready).reply) is h ∙ (λ i. (same_served f i (device_of (image_of f) e) sent ready).reply)
+
+pub either_by_file : (f : DescriptorFile) (image : List ℕ) (s : State) (q : Setup) → image ≡ image_of f → is_either_to (offer_in image) s q ≡ is_either f s q
+either_by_file f image s q is = ap (λ i. is_either_to (offer_in i) s q) is ∙ (λ i. same_either f i s q)
+
+-- Endpoints, two bytes each.
+
+endpoint_next : (b : List ℕ) → 2 ≤ length b → endpoints_in b ≡ record { address = slice_index_or b 0 0; attributes = slice_index_or b 1 0 } ∷ endpoints_in (drop 2 b)
+unfolding endpoints_in
+endpoint_next [] long = absurd (let no : ⊥ = omega (arith, long) in no)
+endpoint_next (x ∷ []) long = absurd (let no : ⊥ = omega (arith, long) in no)
+endpoint_next (x ∷ y ∷ b) long = refl
+
+pub endpoint_step : (b rest : List ℕ) → 2 ≤ length b → rest ≡ drop 2 b → endpoints_in b ≡ record { address = slice_index_or b 0 0; attributes = slice_index_or b 1 0 } ∷ endpoints_in rest
+endpoint_step b rest long is = rw is (endpoint_next b long)
+
+pub endpoint_none : (b : List ℕ) → length b < 2 → endpoints_in b ≡ []
+unfolding endpoints_in
+endpoint_none [] short = refl
+endpoint_none (x ∷ []) short = refl
+endpoint_none (x ∷ y ∷ b) short = absurd (let no : ⊥ = omega (arith, short) in no)
+
+-- the halts without those of one setting more
+pub halts_more : (halts number : ℕ) (t : SettingOffer) (ts : List SettingOffer) →
+    fold without_halt halts (interface_addresses (t ∷ ts) number) ≡ fold without_halt (fold without_halt halts (addresses_in number t)) (interface_addresses ts number)
+halts_more halts number t ts = fold-append without_halt halts (addresses_in number t) (interface_addresses ts number)

@@ -1,7 +1,9 @@
 -- An image is read as what it was written of.
-use Rattle.std.proofs.Common.{◌≡◌, ℕ, zero, suc, ◌+◌, ◌*◌, ◌%◌, ◌/◌, ◌<◌, ◌≤◌, List, [], ◌∷◌, ◌++◌, length, take, drop, refl, ap, ◌∙◌, arith}
+use Rattle.std.proofs.Common.{◌≡◌, Bool, true, false, Some, ℕ, zero, suc, find, sym, ◌+◌, ◌*◌, ◌%◌, ◌/◌, ◌<◌, ◌≤◌, List, [], ◌∷◌, ◌++◌, length, take, drop, refl, ap, ◌∙◌, arith}
 use Rattle.std.proofs.lemmas.Grind.{common_steps}
-use Rattle.usb_device.specs.Images.{Piece, count_in, piece_in, rest_in, pieces_of, pieces_within, piece_bytes, image_bytes}
+use Rattle.std.proofs.lemmas.List.{drop-drop, length-drop}
+use Rattle.std.specs.Option.{option_map}
+use Rattle.usb_device.specs.Images.{Piece, body_of, find_in, has_key, count_in, piece_in, rest_in, pieces_of, pieces_within, piece_bytes, image_bytes}
 
 pub rest_shorter : (b : List ℕ) → 0 < length b → length (rest_in b) < length b
 rest_shorter b some = grind (arith, common_steps)
@@ -29,6 +31,37 @@ pub no_pieces : (b : List ℕ) → length b ≡ 0 → pieces_of b ≡ []
 unfolding pieces_of pieces_within
 no_pieces [] none = refl
 no_pieces (x ∷ b) none = absurd (let no : ⊥ = omega (arith, none) in no)
+
+-- at a place
+pub piece_at : (at : ℕ) (b : List ℕ) → at < length b → pieces_of (drop at b) ≡ piece_in (drop at b) ∷ pieces_of (drop (at + 8 + count_in (drop at b)) b)
+piece_at at b within =
+    let some : 0 < length (drop at b) = omega (arith, within, length-drop at b) in
+    pieces_at (drop at b) some
+    ∙ ap (λ rest. piece_in (drop at b) ∷ pieces_of rest) (ap (drop (count_in (drop at b))) (drop-drop 8 at b) ∙ drop-drop (count_in (drop at b)) (at + 8) b)
+
+pub body_at : (at : ℕ) (b : List ℕ) → (piece_in (drop at b)).body ≡ take (count_in (drop at b)) (drop (at + 8) b)
+body_at at b = ap (take (count_in (drop at b))) (drop-drop 8 at b)
+
+pub no_piece_at : (at : ℕ) (b : List ℕ) → length b ≤ at → pieces_of (drop at b) ≡ []
+no_piece_at at b past = no_pieces (drop at b) (omega (arith, past, length-drop at b))
+
+first_found : {X : Type 0} (p : X → Bool) (x : X) (xs : List X) → p x ≡ true → find p (x ∷ xs) ≡ Some x
+first_found p x xs is = grind (arith, common_steps, is)
+
+first_other : {X : Type 0} (p : X → Bool) (x : X) (xs : List X) → p x ≡ false → find p (x ∷ xs) ≡ find p xs
+first_other p x xs is = grind (arith, common_steps, is)
+
+-- the piece at a place is the one that is looked for, or those after it have it
+pub found_at : (k i n at : ℕ) (b : List ℕ) → at < length b → has_key k i n (piece_in (drop at b)) ≡ true → find_in (pieces_of (drop at b)) k i n ≡ Some (take (count_in (drop at b)) (drop (at + 8) b))
+found_at k i n at b within is =
+    ap (λ ps. option_map body_of (find (has_key k i n) ps)) (piece_at at b within)
+    ∙ ap (option_map body_of) (first_found (has_key k i n) (piece_in (drop at b)) (pieces_of (drop (at + 8 + count_in (drop at b)) b)) is)
+    ∙ ap (λ body. Some body) (body_at at b)
+
+pub passed_at : (k i n at : ℕ) (b : List ℕ) → at < length b → has_key k i n (piece_in (drop at b)) ≡ false →
+    find (has_key k i n) (pieces_of (drop (at + 8 + count_in (drop at b)) b)) ≡ find (has_key k i n) (pieces_of (drop at b))
+passed_at k i n at b within is =
+    sym (ap (find (has_key k i n)) (piece_at at b within) ∙ first_other (has_key k i n) (piece_in (drop at b)) (pieces_of (drop (at + 8 + count_in (drop at b)) b)) is)
 
 word_back : (n : ℕ) → n % 256 + 256 * (n / 256) ≡ n
 word_back n = grind arith

@@ -5,7 +5,7 @@ use Rattle.std.proofs.lemmas.List.{length-take-le}
 use Rattle.usb_fields.specs.declared.setup.Setup.{Setup}
 use Rattle.usb_fields.specs.Packets.{packets, flipped}
 use Rattle.usb_fields.proofs.PacketLemmas.{packets-at, packets-past}
-use Rattle.usb_file_data.specs.declared.file.DescriptorFile.{DescriptorFile}
+use Rattle.usb_device.specs.Offers.{packet_in}
 use Rattle.usb_device.specs.declared.stage.DataStage.{DataStage}
 use Rattle.usb_device.specs.Step.{Sending, StatusOut, next_stage}
 use Rattle.usb_device.specs.Stages.{data_bytes, source_bytes, IsData}
@@ -49,23 +49,22 @@ stage_ends q b n o pos whole fits past =
     let at = packets-past b n q.length (suc (o / n)) pos fits (rw on past) in
     rw (drop_past (packets b n q.length) (suc (o / n)) at) refl
 
-module _ (f : DescriptorFile) (d : DataStage) (q : Setup) where
+module _ (image : List ℕ) (d : DataStage) (q : Setup) where
   -- the bytes of a data stage are as many as the code counts
-  pub data_length : IsData f d q → length (data_bytes f d) ≡ d.count
-  data_length h = length-take-le d.count (source_bytes f d.source d.kept) h.count
+  pub data_length : IsData image d q → length (data_bytes image d) ≡ d.count
+  data_length h = length-take-le d.count (source_bytes image d.source d.kept) h.count
 
   -- the packet that is due stands at the offset
-  pub packets_left : 0 < f.device.packet → IsData f d q → drop (d.offset / f.device.packet) (packets (data_bytes f d) f.device.packet q.length) ≡ take f.device.packet (drop d.offset (data_bytes f d)) ∷ drop (suc (d.offset / f.device.packet)) (packets (data_bytes f d) f.device.packet q.length)
+  pub packets_left : 0 < packet_in image → IsData image d q → drop (d.offset / packet_in image) (packets (data_bytes image d) (packet_in image) q.length) ≡ take (packet_in image) (drop d.offset (data_bytes image d)) ∷ drop (suc (d.offset / packet_in image)) (packets (data_bytes image d) (packet_in image) q.length)
   packets_left pos h =
-      let within : d.offset ≤ length (data_bytes f d) = omega (arith, h.inside, data_length h) in
-      packet_here (data_bytes f d) f.device.packet q.length d.offset pos h.whole within h.asked
+      let within : d.offset ≤ length (data_bytes image d) = omega (arith, h.inside, data_length h) in
+      packet_here (data_bytes image d) (packet_in image) q.length d.offset pos h.whole within h.asked
 
   -- after a whole packet before the end the code is at the next one
-  pub data_goes_on : 0 < f.device.packet → IsData f d q → d.offset + f.device.packet ≤ d.count → d.offset + f.device.packet < q.length → IsData f (record d { offset = d.offset + f.device.packet; toggle = flipped d.toggle }) q
+  pub data_goes_on : 0 < packet_in image → IsData image d q → d.offset + packet_in image ≤ d.count → d.offset + packet_in image < q.length → IsData image (record d { offset = d.offset + packet_in image; toggle = flipped d.toggle }) q
   data_goes_on pos h inside asked =
-      let next = next_place d.offset f.device.packet pos h.whole in
+      let next = next_place d.offset (packet_in image) pos h.whole in
       record {
-        source = h.source;
         count = h.count;
         fits = h.fits;
         whole = rw next (grind (arith, h.whole));
@@ -75,15 +74,15 @@ module _ (f : DescriptorFile) (d : DataStage) (q : Setup) where
       }
 
   -- and the stage is the next one
-  pub stage_data_goes_on : 0 < f.device.packet → IsData f d q → d.offset + f.device.packet ≤ d.count → d.offset + f.device.packet < q.length → next_stage q (data_bytes f d) (d.offset / f.device.packet) (drop (suc (d.offset / f.device.packet)) (packets (data_bytes f d) f.device.packet q.length)) ≡ Sending q (data_bytes f d) ((d.offset + f.device.packet) / f.device.packet)
+  pub stage_data_goes_on : 0 < packet_in image → IsData image d q → d.offset + packet_in image ≤ d.count → d.offset + packet_in image < q.length → next_stage q (data_bytes image d) (d.offset / packet_in image) (drop (suc (d.offset / packet_in image)) (packets (data_bytes image d) (packet_in image) q.length)) ≡ Sending q (data_bytes image d) ((d.offset + packet_in image) / packet_in image)
   stage_data_goes_on pos h inside asked =
-      let within : d.offset + f.device.packet ≤ length (data_bytes f d) = omega (arith, data_length h) in
-      rw (next_place d.offset f.device.packet pos h.whole)
-      (stage_goes_on q (data_bytes f d) f.device.packet d.offset pos h.whole within asked)
+      let within : d.offset + packet_in image ≤ length (data_bytes image d) = omega (arith, data_length h) in
+      rw (next_place d.offset (packet_in image) pos h.whole)
+      (stage_goes_on q (data_bytes image d) (packet_in image) d.offset pos h.whole within asked)
 
-  pub stage_data_ends : 0 < f.device.packet → IsData f d q → (d.count < d.offset + f.device.packet) ⊎ (q.length ≤ d.offset + f.device.packet) → next_stage q (data_bytes f d) (d.offset / f.device.packet) (drop (suc (d.offset / f.device.packet)) (packets (data_bytes f d) f.device.packet q.length)) ≡ StatusOut q
+  pub stage_data_ends : 0 < packet_in image → IsData image d q → (d.count < d.offset + packet_in image) ⊎ (q.length ≤ d.offset + packet_in image) → next_stage q (data_bytes image d) (d.offset / packet_in image) (drop (suc (d.offset / packet_in image)) (packets (data_bytes image d) (packet_in image) q.length)) ≡ StatusOut q
   stage_data_ends pos h past =
       let long = data_length h in
-      stage_ends q (data_bytes f d) f.device.packet d.offset pos h.whole (omega (arith, long, h.fits)) (rw long past)
+      stage_ends q (data_bytes image d) (packet_in image) d.offset pos h.whole (omega (arith, long, h.fits)) (rw long past)
 
 pub ruleset stages = (packets_left, data_goes_on, stage_data_goes_on, stage_data_ends)

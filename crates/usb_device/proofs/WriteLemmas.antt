@@ -14,11 +14,10 @@ use Rattle.usb_fields.specs.Setup.{class_of, direction_of, recipient_of}
 use Rattle.usb_fields.specs.declared.packet.Toggle.{Toggle}
 use Rattle.usb_fields.specs.declared.packet.Toggle.TheVariants.{Data0, Data1}
 use Rattle.usb_fields.specs.Packets.{flipped, is_same_toggle}
-use Rattle.usb_file_data.specs.declared.file.DescriptorFile.{DescriptorFile}
 use Rattle.usb_device.specs.declared.state.State.{State}
 use Rattle.usb_device.specs.declared.stage.DataStage.{DataStage}
-use Rattle.usb_device.specs.Offers.{offer_of}
-use Rattle.usb_device.specs.Requests.{Outcome, Refused, when, bytes_in, gives, does, status_of, feature_of, get_status, set_address, get_descriptor, get_configuration, set_configuration, get_interface, set_interface, row, answer_of, answer}
+use Rattle.usb_device.specs.Offers.{Offer, offer_in, packet_in}
+use Rattle.usb_device.specs.Requests.{Outcome, Refused, when, bytes_in, gives, does, status_of, feature_of, get_status, set_address, get_descriptor, get_configuration, set_configuration, get_interface, set_interface, row, answer_of, answer_to}
 use Rattle.usb_device.specs.Beside.{brings_bytes, is_in}
 use Rattle.usb_device.specs.Step.{Written, awaited, gathered}
 use Rattle.usb_device.specs.declared.stage.Stage.TheVariants as stages
@@ -50,7 +49,7 @@ out_by c false e = refl
 out_by false true e = cc
 out_by true true e = cc
 
-module _ (f : DescriptorFile) (s : State) (q : Setup) (write : brings_bytes q ≡ true) where
+module _ (o : Offer) (s : State) (q : Setup) (write : brings_bytes q ≡ true) where
   long : (q.length == 0) ≡ false
   long = long_by (q.length == 0) (is_in (direction_of q.request_type)) write
 
@@ -63,46 +62,46 @@ module _ (f : DescriptorFile) (s : State) (q : Setup) (write : brings_bytes q �
   tells_refused : (c : Bool) (b : List ℕ) → when c (bytes_in (direction_of q.request_type) b) ≡ Refused
   tells_refused c b = when_refused c _ (out b)
 
-  gives_refused : (o : Option (List ℕ)) → gives s q o ≡ Refused
+  gives_refused : (found : Option (List ℕ)) → gives s q found ≡ Refused
   gives_refused None = refl
   gives_refused (Some b) = rw long (out _)
 
-  status_refused : (r : Recipient) → status_of r (offer_of f) s q ≡ Refused
+  status_refused : (r : Recipient) → status_of r o s q ≡ Refused
   status_refused Device = when_refused _ _ (tells_refused _ _)
   status_refused Interface = when_refused _ _ (tells_refused _ _)
   status_refused Endpoint = if_refused _ _ _ (when_refused _ _ (tells_refused _ _)) (when_refused _ _ (tells_refused _ _))
   status_refused Other = refl
   status_refused Reserved = refl
 
-  feature_refused : (on : Bool) (r : Recipient) → feature_of r on (offer_of f) s q ≡ Refused
+  feature_refused : (on : Bool) (r : Recipient) → feature_of r on o s q ≡ Refused
   feature_refused on Device = when_refused _ _ (does_refused _)
   feature_refused on Interface = refl
   feature_refused on Endpoint = when_refused _ _ (does_refused _)
   feature_refused on Other = refl
   feature_refused on Reserved = refl
 
-  get_status_refused : get_status (offer_of f) s q ≡ Refused
+  get_status_refused : get_status o s q ≡ Refused
   get_status_refused = when_refused _ _ (status_refused (recipient_of q.request_type))
 
-  set_address_refused : set_address (offer_of f) s q ≡ Refused
+  set_address_refused : set_address o s q ≡ Refused
   set_address_refused = when_refused _ _ (does_refused _)
 
-  get_descriptor_refused : get_descriptor (offer_of f) s q ≡ Refused
+  get_descriptor_refused : get_descriptor o s q ≡ Refused
   get_descriptor_refused = when_refused _ _ (gives_refused _)
 
-  get_configuration_refused : get_configuration (offer_of f) s q ≡ Refused
+  get_configuration_refused : get_configuration o s q ≡ Refused
   get_configuration_refused = when_refused _ _ (tells_refused _ _)
 
-  set_configuration_refused : set_configuration (offer_of f) s q ≡ Refused
+  set_configuration_refused : set_configuration o s q ≡ Refused
   set_configuration_refused = when_refused _ _ (does_refused _)
 
-  get_interface_refused : get_interface (offer_of f) s q ≡ Refused
+  get_interface_refused : get_interface o s q ≡ Refused
   get_interface_refused = when_refused _ _ (tells_refused _ _)
 
-  set_interface_refused : set_interface (offer_of f) s q ≡ Refused
+  set_interface_refused : set_interface o s q ≡ Refused
   set_interface_refused = when_refused _ _ (does_refused _)
 
-  row_refused : row (offer_of f) s q ≡ Refused
+  row_refused : row o s q ≡ Refused
   row_refused =
       if_refused (q.request == 0) _ _ get_status_refused
       (if_refused (q.request == 1) _ _ (feature_refused false (recipient_of q.request_type))
@@ -114,7 +113,7 @@ module _ (f : DescriptorFile) (s : State) (q : Setup) (write : brings_bytes q �
       (if_refused (q.request == 10) _ _ get_interface_refused
       (if_refused (q.request == 11) _ _ set_interface_refused refl))))))))
 
-  class_refused : (c : Class) → answer_of c (offer_of f) s q ≡ Refused
+  class_refused : (c : Class) → answer_of c o s q ≡ Refused
   unfolding answer_of
   class_refused classes.Standard = row_refused
   class_refused classes.Class = refl
@@ -122,12 +121,12 @@ module _ (f : DescriptorFile) (s : State) (q : Setup) (write : brings_bytes q �
   class_refused classes.Reserved = refl
 
   -- the table refuses each request that brings bytes
-  pub writes_are_refused : answer f s q ≡ Refused
-  unfolding answer
+  pub writes_are_refused : answer_to o s q ≡ Refused
+  unfolding answer_to
   writes_are_refused = class_refused (class_of q.request_type)
 
   -- so its owner is asked once all of them have come
-  pub last_gathered : (got bytes : List ℕ) → length got ≤ q.length → length bytes ≡ q.length - length got → gathered q (answer f s q) (got ++ bytes) ≡ Written q (got ++ bytes)
+  pub last_gathered : (got bytes : List ℕ) → length got ≤ q.length → length bytes ≡ q.length - length got → gathered q (answer_to o s q) (got ++ bytes) ≡ Written q (got ++ bytes)
   last_gathered got bytes few last =
       let same : (length (got ++ bytes) == q.length) ≡ true = simp length-append (grind (arith, nat_tests, few, last)) in
       rw (same, writes_are_refused) refl
@@ -144,27 +143,27 @@ awaited_flips packet count n whole some few =
     rw split (div-mul-add (suc k) packet (n - 1) (omega arith))) in
     rw (here, next) refl
 
-module _ (f : DescriptorFile) (d : DataStage) (q : Setup) (pos : 0 < f.device.packet) (h : IsReceiving f d q) where
-  flips : (e : DataStage) (n : ℕ) → e.offset ≡ d.offset + n → e.toggle ≡ flipped d.toggle → 0 < n → n ≤ f.device.packet → IsWrite f e q
+module _ (image : List ℕ) (d : DataStage) (q : Setup) (pos : 0 < packet_in image) (h : IsReceiving image d q) where
+  flips : (e : DataStage) (n : ℕ) → e.offset ≡ d.offset + n → e.toggle ≡ flipped d.toggle → 0 < n → n ≤ packet_in image → IsWrite image e q
   flips e n at toggle some few =
       record {
         write = h.is_write.write;
         room = h.is_write.room;
-        toggle = rw (toggle, at, awaited_flips f.device.packet d.offset n h.whole some few, h.is_write.toggle) refl;
+        toggle = rw (toggle, at, awaited_flips (packet_in image) d.offset n h.whole some few, h.is_write.toggle) refl;
       }
 
   -- after a whole packet with bytes left after it more are to come
-  pub write_goes_on : (e : DataStage) (n : ℕ) → e.offset ≡ d.offset + n → e.toggle ≡ flipped d.toggle → n ≡ min f.device.packet (q.length - d.offset) → n ≢ q.length - d.offset → IsReceiving f e q
+  pub write_goes_on : (e : DataStage) (n : ℕ) → e.offset ≡ d.offset + n → e.toggle ≡ flipped d.toggle → n ≡ min (packet_in image) (q.length - d.offset) → n ≢ q.length - d.offset → IsReceiving image e q
   write_goes_on e n at toggle due left =
-      let whole : n ≡ f.device.packet = omega (arith, due, left) in
+      let whole : n ≡ packet_in image = omega (arith, due, left) in
       record {
         is_write = flips e n at toggle (omega (arith, whole, pos)) (omega (arith, whole));
-        whole = rw (at, whole, next_place d.offset f.device.packet pos h.whole) (grind (arith, h.whole));
+        whole = rw (at, whole, next_place d.offset (packet_in image) pos h.whole) (grind (arith, h.whole));
         more = omega (arith, at, due, left, h.more);
       }
 
   -- with all that is left all have come
-  pub write_ends : (e : DataStage) (n : ℕ) → e.offset ≡ d.offset + n → e.toggle ≡ flipped d.toggle → n ≡ min f.device.packet (q.length - d.offset) → n ≡ q.length - d.offset → IsWrite f e q × (e.offset ≡ q.length)
+  pub write_ends : (e : DataStage) (n : ℕ) → e.offset ≡ d.offset + n → e.toggle ≡ flipped d.toggle → n ≡ min (packet_in image) (q.length - d.offset) → n ≡ q.length - d.offset → IsWrite image e q × (e.offset ≡ q.length)
   write_ends e n at toggle due all =
       (flips e n at toggle (omega (arith, all, h.more)) (omega (arith, due, all)), omega (arith, at, all, h.more))
 
@@ -174,13 +173,13 @@ same_self Data0 = refl
 same_self Data1 = refl
 
 -- the last packet: the owner is asked
-pub gathers_last : (f : DescriptorFile) (e : EndpointZero) (next : DataStage) (toggle : Toggle) (bytes : List ℕ) → e.stage ≡ stages.Receiving → IsOf f e → e.pending ≡ false → e.data_stage.offset ≤ length e.data_stage.kept → toggle ≡ e.data_stage.toggle → length bytes ≡ min f.device.packet (e.request.length - e.data_stage.offset) → length bytes ≡ e.request.length - e.data_stage.offset → written_bytes next ≡ written_bytes e.data_stage ++ bytes → device_of f (record e { stage = stages.Written; data_stage = next }) ≡ (received_by f e toggle bytes).device
-gathers_last f e next toggle bytes at is heard room right due all came =
-    let h : IsReceiving f e.data_stage e.request = subst (λ stage. IsStage f stage e.data_stage e.request) at is in
+pub gathers_last : (image : List ℕ) (e : EndpointZero) (next : DataStage) (toggle : Toggle) (bytes : List ℕ) → e.stage ≡ stages.Receiving → IsOf image e → e.pending ≡ false → e.data_stage.offset ≤ length e.data_stage.kept → toggle ≡ e.data_stage.toggle → length bytes ≡ min (packet_in image) (e.request.length - e.data_stage.offset) → length bytes ≡ e.request.length - e.data_stage.offset → written_bytes next ≡ written_bytes e.data_stage ++ bytes → device_of image (record e { stage = stages.Written; data_stage = next }) ≡ (received_by image e toggle bytes).device
+gathers_last image e next toggle bytes at is heard room right due all came =
+    let h : IsReceiving image e.data_stage e.request = subst (λ stage. IsStage image stage e.data_stage e.request) at is in
     let long : length (written_bytes e.data_stage) ≡ e.data_stage.offset = length-take-le e.data_stage.offset e.data_stage.kept room in
-    let same : is_same_toggle e.data_stage.toggle (awaited f.device.packet (length (written_bytes e.data_stage))) ≡ true =
-    rw (long, h.is_write.toggle) (same_self (awaited f.device.packet e.data_stage.offset)) in
-    let fits : (length bytes == min f.device.packet (e.request.length - length (written_bytes e.data_stage))) ≡ true = rw long (grind (arith, nat_tests, due)) in
-    rw (at, heard, right, same, fits, last_gathered f e.state e.request h.is_write.write (written_bytes e.data_stage) bytes (rw long (omega (arith, h.more))) (rw long all), came) refl
+    let same : is_same_toggle e.data_stage.toggle (awaited (packet_in image) (length (written_bytes e.data_stage))) ≡ true =
+    rw (long, h.is_write.toggle) (same_self (awaited (packet_in image) e.data_stage.offset)) in
+    let fits : (length bytes == min (packet_in image) (e.request.length - length (written_bytes e.data_stage))) ≡ true = rw long (grind (arith, nat_tests, due)) in
+    rw (at, heard, right, same, fits, last_gathered (offer_in image) e.state e.request h.is_write.write (written_bytes e.data_stage) bytes (rw long (omega (arith, h.more))) (rw long all), came) refl
 
 pub ruleset writes = (gathers_last, write_goes_on, write_ends)

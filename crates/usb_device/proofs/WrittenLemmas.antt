@@ -23,6 +23,7 @@ speeds_written f =
     ∙ sym (flat_map-append piece_bytes (front_pieces f) (indexed 2 0 (map whole_set f.sets) ++ other_pieces f.other))
 
 pub file_written : (f : DescriptorFile) → image_bytes (speed_pieces f) ++ image_bytes (string_pieces (named_indices f) f.strings) ≡ image_of f
+unfolding image_of
 file_written f = sym (flat_map-append piece_bytes (speed_pieces f) (string_pieces (named_indices f) f.strings))
 
 -- one set more

@@ -75,5 +75,5 @@ speed_pieces f = front_pieces f ++ (indexed 2 0 (map whole_set f.sets) ++ other_
 abbrev pub file_pieces : DescriptorFile → List Piece
 file_pieces f = speed_pieces f ++ string_pieces (named_indices f) f.strings
 
-abbrev pub image_of : DescriptorFile → List ℕ
+unfoldable pub image_of : DescriptorFile → List ℕ
 image_of f = image_bytes (file_pieces f)

@@ -1,9 +1,8 @@
 -- What a device is once it has its answer back.
-use Rattle.std.specs.Prelude.{◌≡◌, ⊤, []}
+use Rattle.std.specs.Prelude.{◌≡◌, ℕ, List, ⊤, []}
 use Rattle.std.specs.Borrow.{Fml, MutBor, follows_so}
 use mathlib.Core.Option.{none}
 use mir.Syntax.{named}
-use Rattle.usb_file_data.specs.declared.file.DescriptorFile.{DescriptorFile}
 use Rattle.usb_device.specs.declared.endpoint_zero.EndpointZero.{EndpointZero}
 use Rattle.usb_device.specs.Step.{DeviceView}
 use Rattle.usb_device.specs.View.{View, device_of, IsOf}
@@ -16,6 +15,6 @@ EndsAs device v =
     let row = the_row (record { mir = named 1; lft = [] }) in
     follows_so row row device.ghost_name none (λ _ _. ⊤) (λ u. u ≡ v)
 
--- and so of what changes in a device: it is then that of a device with these descriptors, and this one
-abbrev pub PartEndsAs : MutBor EndpointZero → DescriptorFile → DeviceView → Fml
-PartEndsAs part f v = follows_so the_part_row the_part_row part.ghost_name none (λ _ _. ⊤) (λ u. (device_of f u ≡ v) × IsOf f u)
+-- and so of what changes in a device: it is then that of a device with this image, and this one
+abbrev pub PartEndsAs : MutBor EndpointZero → List ℕ → DeviceView → Fml
+PartEndsAs part image v = follows_so the_part_row the_part_row part.ghost_name none (λ _ _. ⊤) (λ u. (device_of image u ≡ v) × IsOf image u)

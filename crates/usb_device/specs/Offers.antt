@@ -66,5 +66,9 @@ pieces_in (Some b) = pieces_of b
 abbrev pub sets_in : List Piece → List SetOffer
 sets_in ps = map set_in (pieces_in (find_in ps 129 0 0))
 
+-- bMaxPacketSize0, which the head tells
+unfoldable pub packet_in : List ℕ → ℕ
+packet_in b = (piece_in b).number
+
 abbrev pub offer_in : List ℕ → Offer
-offer_in b = record { packet = (piece_in b).number; descriptor = descriptor_in (pieces_of b); sets = sets_in (pieces_of b) }
+offer_in b = record { packet = packet_in b; descriptor = descriptor_in (pieces_of b); sets = sets_in (pieces_of b) }

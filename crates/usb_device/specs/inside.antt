@@ -1,6 +1,5 @@
 -- What no public contract cites.
+pub mod Places
+pub mod Sets
 pub mod Reactions
-pub mod Images
 pub mod Descriptions
-pub mod Ranks
-pub mod Outlines

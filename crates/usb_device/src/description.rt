@@ -1,5 +1,5 @@
 //! The descriptors of a device, with the tree of their file.
-ghost use Rattle.std.specs.Prelude.{◌≡◌, ◌<◌, length, IfErr, IfOk, MatchOption, OnOk, None};
+ghost use Rattle.std.specs.Prelude.{◌≡◌, ◌<◌, IfErr, IfOk, OnOk, None};
 ghost use Rattle.std.specs.Option.{option_copied};
 
 use crate::acceptance::DescriptionFault;
@@ -36,7 +36,7 @@ impl Model for Description {
 
 impl Description {
     ghost use Rattle.usb_device.specs.Accepted.{refusal_of, Accepted, Refuses};
-    ghost use Rattle.usb_device.specs.Descriptors.{descriptor, descriptors, descriptor_at, IsFound};
+    ghost use Rattle.usb_device.specs.Descriptors.{descriptor};
 
     /// The description of a device of this speed, exactly where the file is accepted: each of its descriptors is encoded
     /// here, once.
@@ -90,23 +90,8 @@ impl Description {
         self.encoded.packet()
     }
 
-    /// The bytes of the descriptor at this place, where one is: [`Encoded::bytes`].
-    pub fn bytes(&self, place: usize) -> &[u8]
-        requires { place < length (descriptors self.now.file) }
-        ensures { result.now ≡ descriptor_at self.now.file place }
-    {
-        self.encoded.bytes(place)
-    }
-
-    /// The place of the descriptor of this type and index: [`Encoded::find`].
-    pub fn find(&self, kind: u8, index: u8, language: u16) -> Option<usize>
-        ensures { MatchOption result (descriptor self.now.file kind index language ≡ None) (IsFound self.now.file (descriptor self.now.file kind index language)) }
-    {
-        self.encoded.find(kind, index, language)
-    }
-
     /// The bytes of the descriptor of this type and index, in this language where it is a string, or `None` where the
-    /// device has none such: [`Description::find`] and [`Description::bytes`] in one call.
+    /// device has none such.
     ///
     /// ```rust
     /// let bytes = description.descriptor(descriptor_type::DEVICE, 0, 0);
@@ -115,9 +100,6 @@ impl Description {
     pub fn descriptor(&self, kind: u8, index: u8, language: u16) -> Option<&[u8]>
         ensures { option_copied result ≡ descriptor self.now.file kind index language }
     {
-        match self.find(kind, index, language) {
-            Some(place) => Some(self.bytes(place)),
-            None => None,
-        }
+        self.encoded.descriptor(kind, index, language)
     }
 }

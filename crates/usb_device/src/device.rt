@@ -68,7 +68,7 @@ impl<'d> Device<'d> {
         ensures { result ≡ record { description = d.now; device = new_device } }
     {
         Device {
-            endpoint_zero: EndpointZero::new(d),
+            endpoint_zero: EndpointZero::new(d.image()),
             description: d,
         }
     }
@@ -77,7 +77,7 @@ impl<'d> Device<'d> {
     pub fn reset(&mut self)
         ensures { self.new ≡ record self.old { device = new_device } }
     {
-        self.endpoint_zero = EndpointZero::new(self.description);
+        self.endpoint_zero = EndpointZero::new(self.description.image());
     }
 
     /// One transaction, answered as the table of requests and the stages say. Where `ready` is false the device has no
@@ -102,14 +102,14 @@ impl<'d> Device<'d> {
         ensures reply { reply_with (packet_due self.new.description.file.device.packet self.new.device.stage) result ≡ (served_by self.old.description.file self.old.device (sent_of t.now) ready).reply }
         ensures device { self.new ≡ record self.old { device = (served_by self.old.description.file self.old.device (sent_of t.now) ready).device } }
     {
-        self.endpoint_zero.react(self.description, t, ready)
+        self.endpoint_zero.react(self.description.image(), t, ready)
     }
 
     #[inline(always)]
     fn packet(&self) -> &[u8]
         ensures { result.now ≡ packet_due self.now.description.file.device.packet self.now.device.stage }
     {
-        self.endpoint_zero.packet(self.description)
+        self.endpoint_zero.packet(self.description.image())
     }
 
     /// Call it when the host has acknowledged the packet, never right after `serve`. If the last answer of
@@ -119,7 +119,7 @@ impl<'d> Device<'d> {
     pub fn acked(&mut self)
         ensures { self.new ≡ record self.old { device = acked_by self.old.description.file self.old.device } }
     {
-        self.endpoint_zero.acked(self.description);
+        self.endpoint_zero.acked(self.description.image());
     }
 
     /// The request that is rejected, and of whose rejection the host doesn't know yet. A SETUP is acknowledged whatever it
@@ -159,7 +159,8 @@ impl<'d> Device<'d> {
         ensures err { IfErr result (λ why. unanswered (unfit_bytes room_size bytes.now) (refused_in self.old.device.stage) ≡ Some why) }
         ensures same { OnErr result (self.new ≡ self.old) }
     {
-        self.endpoint_zero.answer_with(self.description, bytes)
+        self.endpoint_zero
+            .answer_with(self.description.image(), bytes)
     }
 
     /// Accepts the request that is rejected. One without data is answered by its status stage, as if the table had. Of a
@@ -175,7 +176,7 @@ impl<'d> Device<'d> {
         ensures err { IfErr result (λ why. unaccepted room_size self.old.device.stage ≡ Some why) }
         ensures same { OnErr result (self.new ≡ self.old) }
     {
-        self.endpoint_zero.accept(self.description)
+        self.endpoint_zero.accept(self.description.image())
     }
 
     /// The write whose data have all come, and that isn't answered yet, with its wLength bytes: from its last packet to
@@ -213,7 +214,7 @@ impl<'d> Device<'d> {
     pub fn refuse(&mut self)
         ensures { self.new ≡ record self.old { device = rejected (answer self.old.description.file) self.old.device } }
     {
-        self.endpoint_zero.refuse(self.description);
+        self.endpoint_zero.refuse(self.description.image());
     }
 
     /// The request that was carried out, one of the table's own too: from the first empty packet of its status stage to

@@ -24,7 +24,7 @@ const HEAD: u8 = 0;
 
 pub(crate) const LANGUAGE: u8 = 128;
 
-const SETS: u8 = 129;
+pub(crate) const SETS: u8 = 129;
 
 /// Room for the images of most files.
 const BYTES: usize = 1024;

@@ -1,10 +1,7 @@
 //! The halted endpoints as bits: bit n for endpoint n OUT, bit 16 + n for endpoint n IN.
-ghost use Rattle.std.specs.Prelude.{◌≡◌, ◌<◌, fold};
+ghost use Rattle.std.specs.Prelude.{◌≡◌, ◌<◌};
 ghost use Rattle.usb_device.specs.Requests.{changed_halts};
 ghost use Rattle.usb_device.specs.States.{halt_of, halt_place, with_halt, without_halt};
-ghost use Rattle.usb_device.specs.inside.Outlines.{cleared_in};
-
-use crate::outline::EndpointIn;
 
 /// The place of an endpoint's bit.
 fn place(endpoint: u8) -> u32
@@ -31,7 +28,7 @@ fn with(halts: u32, endpoint: u8) -> u32
 
 /// The halts without that of the endpoint.
 #[tactic(auto, using(crate::proofs::HaltLemmas::one_shl))]
-fn without(halts: u32, endpoint: u8) -> u32
+pub(crate) fn without(halts: u32, endpoint: u8) -> u32
     ensures { result ≡ without_halt halts endpoint }
 {
     halts & !(1 << place(endpoint))
@@ -46,17 +43,4 @@ pub(crate) fn changed(halts: u32, endpoint: u8, on: bool) -> u32
     } else {
         without(halts, endpoint)
     }
-}
-
-/// The halts without those of the endpoints that are of an interface.
-pub(crate) fn without_interface(halts: u32, endpoints: &[EndpointIn], number: u8) -> u32
-    ensures { result ≡ fold (cleared_in number) halts endpoints.now }
-{
-    let mut left = halts;
-    for endpoint in endpoints {
-        if endpoint.setting.number == number {
-            left = without(left, endpoint.address);
-        }
-    }
-    left
 }

@@ -1,195 +1,90 @@
-//! Byte strings one after another in one buffer, and the rank of each among sorted numbers.
-ghost use Rattle.std.specs.Prelude.{◌≡◌, ◌<◌, ◌≤◌, ◌==◌, length, position, IfSome};
-ghost use Rattle.usb_device.specs.inside.Ranks.{HasRanks};
-ghost use Rattle.std.specs.Prelude.{◌≡◌, ◌<◌, ◌++◌, ◌∷◌, [], false, length, slice_get, IfErr, IfOk, OnErr, OnOk, Some};
-ghost use Rattle.std.specs.List.{AllByRecursion};
-ghost use Rattle.usb_fields.specs.Bytes.{AreBytes};
-ghost use Rattle.usb_fields.specs.Units.{units_bytes, WriteUnitsFails};
-ghost use Rattle.usb_file_data.specs.File.{has_no_layout, whole_set};
+//! A device image that is lent.
+ghost use Rattle.std.specs.Prelude.{◌≡◌, IfSome, option_and_then};
+ghost use Rattle.std.specs.Option.{option_copied, option_map};
+ghost use Rattle.usb_device.specs.Images.{descriptor_in, find_in, pieces_of, string_in};
+ghost use Rattle.usb_device.specs.Offers.{packet_in, sets_in};
+ghost use Rattle.usb_device.specs.inside.Places.{bytes_at, IsPlace};
+ghost use Rattle.usb_device.specs.inside.Sets.{sets_left};
 
-use std::alloc::{AllocError, Global};
-use std::marker::Model;
-use usb_fields::{UnitFault, known_bytes, write_units_onto};
-use usb_set::{Configuration, EncodeFault, encode_onto};
+use crate::file_image::{LANGUAGE, SETS};
+use crate::piece::{Place, find};
+use crate::sets::Sets;
+use usb_fields::{descriptor_type, word_at};
 
-/// The entry of a table of ranks for a number that is none of the list.
-const ABSENT: u8 = 255;
-
-/// A list of at most 255 bytes, with a table of the rank of each byte, so that no look-up goes over the list.
-#[derive(Debug, Drop)]
-pub(crate) struct Ranks {
-    numbers: Vec<u8>,
-    ranks: [u8; 256],
-}
-
-impl Model for Ranks {
-    ghost use Rattle.std.specs.Prelude.{ℕ, List};
-
-    ghost Value = { List ℕ };
-
-    ghost use Rattle.usb_device.specs.inside.Ranks.{numbers_of, IsRanked};
-
-    ghost view = { numbers_of };
-
-    ghost invariant = { IsRanked };
-}
-
-impl Ranks {
-    /// Those of a list.
-    pub(crate) fn new(numbers: Vec<u8>) -> Ranks
-        requires { length numbers.items ≤ 255 }
-        ensures { result ≡ numbers.items }
-    {
-        let ranks = ranks_of(&numbers);
-        Ranks { numbers, ranks }
-    }
-
-    /// How many numbers there are.
-    pub(crate) fn len(&self) -> usize
-        ensures count { result ≡ length self.now }
-        ensures most { result ≤ 255 }
-    {
-        self.numbers.len()
-    }
-
-    /// The first place of the number, if it has one.
-    #[inline(always)]
-    pub(crate) fn place(&self, number: u8) -> Option<usize>
-        ensures place { result ≡ position (λ n. n == number) self.now }
-        ensures within { IfSome result (λ place. place < length self.now) }
-    {
-        let rank = self.ranks[usize::from(number)];
-        if rank == ABSENT {
-            None
-        } else {
-            Some(usize::from(rank))
-        }
-    }
-}
-
-/// The table of a list.
-fn ranks_of(numbers: &[u8]) -> [u8; 256]
-    requires { length numbers.now ≤ 255 }
-    ensures { HasRanks result numbers.now }
-{
-    let mut ranks = [ABSENT; 256];
-    for i in 0..numbers.len() {
-        let number = usize::from(numbers[i]);
-        if ranks[number] == ABSENT {
-            ranks[number] = i as u8;
-        }
-    }
-    ranks
-}
-
-/// Where a byte string is.
+/// All that a device answers from, as one byte string that is read where it lies: what [`write_image`](crate::write_image)
+/// wrote, or any other bytes.
 #[derive(Clone, Copy, Debug)]
-struct Span {
-    start: usize,
-    count: usize,
+pub struct Image<'a> {
+    /// The bytes.
+    pub bytes: &'a [u8],
 }
 
-/// Room for the bytes of most files, and for their descriptors, a set as one.
-const BYTES: usize = 1024;
-
-const SPANS: usize = 16;
-
-/// A list of byte strings in one buffer.
-#[derive(Debug, Drop)]
-pub(crate) struct Image {
-    bytes: Vec<u8>,
-    spans: Vec<Span>,
-}
-
-impl Model for Image {
-    ghost use Rattle.std.specs.Prelude.{ℕ, List};
-
-    ghost Value = { List (List ℕ) };
-
-    ghost use Rattle.usb_device.specs.inside.Images.{pieces_of, IsImage};
-
-    ghost view = { pieces_of };
-
-    ghost invariant = { IsImage };
-}
-
-impl Image {
-    /// An image without any, with room for those of most files, so that it seldom grows.
-    pub(crate) fn new(alloc: Global) -> Result<Image, AllocError>
-        ensures { IfOk result (λ image. image ≡ []) }
+impl<'a> Image<'a> {
+    /// bMaxPacketSize0, in bytes: how many a data packet of endpoint zero has at most (USB 2.0, 9.6.1).
+    #[tactic(auto, unfolding(crate::specs::Offers::packet_in))]
+    #[inline(always)]
+    pub fn packet(&self) -> usize
+        ensures { result ≡ packet_in self.now.bytes.now }
     {
-        Ok(Image {
-            bytes: Vec::with_capacity(alloc, BYTES)?,
-            spans: Vec::with_capacity(alloc, SPANS)?,
+        usize::from(word_at(self.bytes, 2))
+    }
+
+    /// The descriptor of this type and index, in this language where it is a string, or `None` where there is none such:
+    /// what GET_DESCRIPTOR asks for (USB 2.0, 9.4.3).
+    ///
+    /// ```rust
+    /// let device = Image { bytes: &image }.descriptor(descriptor_type::DEVICE, 0, 0);
+    /// assert_eq!(rt; device.map(|b| b.len()), Some(18));
+    /// ```
+    pub fn descriptor(&self, kind: u8, index: u8, language: u16) -> Option<&'a [u8]>
+        ensures { option_copied result ≡ descriptor_in (pieces_of self.now.bytes.now) kind index language }
+    {
+        match self.find(kind, index, language) {
+            Some(place) => Some(place.bytes(self.bytes)),
+            None => None,
+        }
+    }
+
+    /// Where that descriptor is.
+    #[inline(always)]
+    pub(crate) fn find(&self, kind: u8, index: u8, language: u16) -> Option<Place>
+        ensures found { option_map (bytes_at self.now.bytes.now) result ≡ descriptor_in (pieces_of self.now.bytes.now) kind index language }
+        ensures within { IfSome result (IsPlace self.now.bytes.now) }
+    {
+        match kind {
+            descriptor_type::DEVICE
+            | descriptor_type::CONFIGURATION
+            | descriptor_type::DEVICE_QUALIFIER
+            | descriptor_type::OTHER_SPEED_CONFIGURATION => find(self.bytes, kind, index, 0),
+            descriptor_type::STRING if index == 0 => find(self.bytes, kind, 0, 0),
+            descriptor_type::STRING => self.find_string(index, language),
+            _ => None,
+        }
+    }
+
+    /// Where the string of this index is in this language: the other languages are passed over at once.
+    fn find_string(&self, index: u8, language: u16) -> Option<Place>
+        ensures found { option_map (bytes_at self.now.bytes.now) result ≡ option_and_then (string_in index) (find_in (pieces_of self.now.bytes.now) 128 0 language) }
+        ensures within { IfSome result (IsPlace self.now.bytes.now) }
+    {
+        let strings = find(self.bytes, LANGUAGE, 0, language)?;
+        let place = find(strings.bytes(self.bytes), descriptor_type::STRING, index, 0)?;
+        Some(Place {
+            start: strings.start + place.start,
+            count: place.count,
         })
     }
 
-    /// How many there are.
-    pub(crate) fn len(&self) -> usize
-        ensures { result ≡ length self.now }
+    /// The sets, as requests can name them.
+    #[tactic(auto, using(crate::proofs::PieceLemmas::no_pieces))]
+    pub(crate) fn sets(&self) -> Sets<'a>
+        ensures { sets_left result ≡ sets_in (pieces_of self.now.bytes.now) }
     {
-        self.spans.len()
+        match find(self.bytes, SETS, 0, 0) {
+            Some(place) => Sets {
+                pieces: place.bytes(self.bytes),
+            },
+            None => Sets { pieces: &[] },
+        }
     }
-
-    /// Adds one at the end.
-    pub(crate) fn add(&mut self, piece: &[u8]) -> Result<(), AllocError>
-        ensures { OnOk result (self.new ≡ self.old ++ piece.now ∷ []) }
-    {
-        let start = self.bytes.len();
-        self.bytes.extend_from_slice(piece)?;
-        add_span(&mut self.spans, start, piece.len())?;
-        Ok(())
-    }
-
-    /// Adds the bytes of a set at the end, where it has some.
-    #[tactic(auto, unfolding(usb_file_data::specs::File::whole_set))]
-    pub(crate) fn add_set(&mut self, c: &Configuration) -> Result<(), EncodeFault>
-        ensures bytes { OnOk result (self.new ≡ self.old ++ whole_set c.now ∷ []) }
-        ensures allowed { OnOk result (has_no_layout c.now ≡ false) }
-    {
-        let start = self.bytes.len();
-        encode_onto(c, &mut self.bytes)?;
-        let count = self.bytes.len() - start;
-        add_span(&mut self.spans, start, count)?;
-        Ok(())
-    }
-
-    /// Adds the bytes of a string or a language list at the end, where it has not too many units.
-    pub(crate) fn add_string(&mut self, units: &[u16]) -> Result<(), UnitFault>
-        ensures bytes { OnOk result (self.new ≡ self.old ++ units_bytes units.now ∷ []) }
-        ensures long { IfErr result (WriteUnitsFails units.now) }
-    {
-        let start = self.bytes.len();
-        write_units_onto(units, &mut self.bytes)?;
-        let count = self.bytes.len() - start;
-        add_span(&mut self.spans, start, count)?;
-        Ok(())
-    }
-
-    /// The one at this place.
-    #[inline(always)]
-    pub(crate) fn get(&self, place: usize) -> &[u8]
-        requires { place < length self.now }
-        ensures { slice_get self.now place ≡ Some result.now }
-    {
-        let span = self.spans[place];
-        &self.bytes[span.start..span.start + span.count]
-    }
-
-    /// For the proofs of callers: their elements are bytes.
-    #[tactic(auto, using(crate::proofs::ImageLemmas::pieces_fit))]
-    pub(crate) fn known(&self)
-        ensures { AllByRecursion AreBytes self.now }
-    {
-        known_bytes(&self.bytes);
-    }
-}
-
-/// Adds one span at the end.
-fn add_span(spans: &mut Vec<Span>, start: usize, count: usize) -> Result<(), AllocError>
-    ensures ok { OnOk result (spans.new.items ≡ spans.old.items ++ record { start = start; count = count } ∷ []) }
-    ensures err { OnErr result (spans.new.items ≡ spans.old.items) }
-{
-    spans.push(Span { start, count })?;
-    Ok(())
 }

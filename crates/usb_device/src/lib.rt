@@ -7,26 +7,26 @@
 //! [`Device::state`] is what it keeps between requests, [`State::device_state`] in which [`DeviceState`] it then is,
 //! and [`Device::stage`] its stage in a transfer. What a device rejects its owner may answer: [`Device::refused`].
 //!
-//! A device needs no tree of its descriptors: [`Encoded`] is a description without it, whose file proofs alone see.
-//! [`EndpointZero`] is what changes in a device, without the description; [`OwnedDevice`] owns its description, and so
+//! A device needs no tree of its descriptors: all that it answers from is an *image*, one byte string. [`write_image`] writes
+//! it, and [`Image`] reads it where it lies, whatever bytes it is: the law [`laws::an_image_is_read_back`] is that it offers
+//! what the file does. [`Encoded`] is a description without the tree: it owns an image, and proofs alone see its file.
+//!
+//! [`EndpointZero`] is what changes in a device, and its calls are lent an image; [`OwnedDevice`] owns its description, and so
 //! can be one handle of a program in another language, for which [`NzgTransaction`] and [`NzgPacket`] are what passes
 //! on the bus, in numbers and lent bytes.
-//!
-//! [`write_image`] makes one byte string of all that a device answers from, and [`Image`] reads it where it lies, whatever
-//! bytes it is: the law [`laws::an_image_is_read_back`] is that it offers what the file does.
 //!
 //! What is allowed of a device under test, beside a device of the same descriptors, [`judge`] says, transaction by
 //! transaction.
 //!
-//! - Which descriptors make a device is `specs/Accepted.antt`, and where each is `specs/Descriptors.antt`.
+//! - Which descriptors make a device is `specs/Accepted.antt`, and which one a request asks for `specs/Descriptors.antt`.
 //! - The format of an image is `specs/Images.antt`, that of a file `specs/FileImages.antt`, and what a device offers its
 //!   host, by either, `specs/Offers.antt`.
 //! - What comes of each request is `specs/Requests.antt`, a definition for each row of the table, over
 //!   `specs/Offers.antt` and `specs/States.antt`; what may be answered beside the table is `specs/Beside.antt`, and
 //!   what is allowed of a device under test `specs/Conformance.antt` and `specs/OpenTransfers.antt`.
 //! - How a device goes through a control transfer is `specs/Step.antt`, whatever the table is.
-//! - What the parts of a device mean is `specs/View.antt` and `specs/Stages.antt`: the code has an offset and a toggle
-//!   where the definition has a list of packets. Transactions as numbers are `specs/Transactions.antt`.
+//! - What the parts of a device mean is `specs/View.antt` and `specs/Stages.antt`: the code has a place in the image, an
+//!   offset and a toggle where the definition has a list of packets. Transactions as numbers are `specs/Transactions.antt`.
 #![tactic(auto)]
 
 mod acceptance;
@@ -34,20 +34,17 @@ mod beside;
 mod conformance;
 mod description;
 mod device;
-mod device_image;
 mod encoded;
-mod encoded_file;
 mod endpoint_zero;
 mod file_image;
 mod halts;
 mod image;
 pub mod laws;
 mod open_transfer;
-mod outline;
 mod owned_device;
 mod piece;
 mod request;
-mod selected;
+mod sets;
 mod stage;
 mod state;
 mod transaction;
@@ -57,10 +54,10 @@ pub use beside::{ROOM, Unanswered, is_open};
 pub use conformance::{Difference, is_ready, judge};
 pub use description::Description;
 pub use device::Device;
-pub use device_image::Image;
 pub use encoded::Encoded;
 pub use endpoint_zero::EndpointZero;
 pub use file_image::write_image;
+pub use image::Image;
 pub use open_transfer::{OpenStage, OpenTransfer};
 pub use owned_device::OwnedDevice;
 pub use request::is_set_address;

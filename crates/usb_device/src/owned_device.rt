@@ -47,7 +47,7 @@ impl OwnedDevice {
         // For the proof alone: the descriptors are accepted.
         self.description.known();
         tell(
-            self.endpoint_zero.serve(&self.description, t, ready),
+            self.endpoint_zero.serve(self.description.image(), t, ready),
             packet,
         );
     }
@@ -73,7 +73,7 @@ impl OwnedDevice {
         let size = self.description.packet();
         let has = self
             .endpoint_zero
-            .serve(&self.description, t, is_ready(came));
+            .serve(self.description.image(), t, is_ready(came));
         tell(has, packet);
         judge(transfer, free, request, size, t.stage, came, has)
     }
@@ -97,7 +97,7 @@ impl OwnedDevice {
     {
         let state = self.endpoint_zero.state();
         let request = Request {
-            description: &self.description,
+            image: self.description.image(),
             state: &state,
             setup,
         };

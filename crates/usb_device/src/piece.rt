@@ -1,7 +1,8 @@
 //! The pieces of a device image, read where they lie: any bytes are a list of pieces.
-ghost use Rattle.std.specs.Prelude.{◌≡◌, ◌++◌, find, length, OnOk};
-ghost use Rattle.std.specs.Option.{option_copied, option_map};
-ghost use Rattle.usb_device.specs.Images.{body_of, count_in, has_key, header_bytes, piece_bytes, piece_in, pieces_of, rest_in};
+ghost use Rattle.std.specs.Prelude.{◌≡◌, ◌++◌, ◌∷◌, ◌<◌, ◌^◌, [], find, length, take, drop, IfSome, MatchOption, OnOk};
+ghost use Rattle.std.specs.Option.{option_map};
+ghost use Rattle.usb_device.specs.Images.{body_of, count_in, find_in, has_key, header_bytes, piece_bytes, piece_in, pieces_of, rest_in};
+ghost use Rattle.usb_device.specs.inside.Places.{bytes_at, piece_of, IsPlace};
 
 use std::alloc::AllocError;
 use usb_fields::{after, byte_at, prefix, word_at, word_bytes};
@@ -9,34 +10,55 @@ use usb_fields::{after, byte_at, prefix, word_at, word_bytes};
 /// How many bytes there are before those of a piece.
 const HEADER: usize = 8;
 
+/// A piece, whose bytes are lent.
+#[derive(Clone, Copy)]
+pub(crate) struct Piece<'a> {
+    pub(crate) kind: u8,
+    pub(crate) index: u8,
+    pub(crate) number: u16,
+    pub(crate) body: &'a [u8],
+}
+
+/// Where bytes are in an image.
+#[derive(Clone, Copy)]
+pub(crate) struct Place {
+    pub(crate) start: usize,
+    pub(crate) count: usize,
+}
+
+impl Place {
+    /// That of so many bytes from a place on, or of those that there are.
+    fn new(bytes: &[u8], start: usize, count: usize) -> Place
+        ensures place { bytes_at bytes.now result ≡ take count (drop start bytes.now) }
+        ensures within { IsPlace bytes.now result }
+    {
+        let start = start.min(bytes.len());
+        Place {
+            start,
+            count: count.min(bytes.len() - start),
+        }
+    }
+
+    /// The bytes.
+    pub(crate) fn bytes(self, image: &[u8]) -> &[u8]
+        requires { IsPlace image.now self }
+        ensures { result.now ≡ bytes_at image.now self }
+    {
+        &image[self.start..self.start + self.count]
+    }
+}
+
 /// How many bytes the first piece has.
 // A head that is whole is read at once, with one test of its length.
 #[inline(always)]
 fn count(pieces: &[u8]) -> usize
-    ensures { result ≡ count_in pieces.now }
+    ensures count { result ≡ count_in pieces.now }
+    ensures few { result < 2 ^ 32 }
 {
-    let (low, high) = match pieces {
-        [_, _, _, _, c0, c1, c2, c3, ..] => (
-            u16::from_le_bytes([*c0, *c1]),
-            u16::from_le_bytes([*c2, *c3]),
-        ),
-        _ => (word_at(pieces, 4), word_at(pieces, 6)),
-    };
-    usize::from(low) + 65536 * usize::from(high)
-}
-
-/// The bytes of the first piece.
-pub(crate) fn body(pieces: &[u8]) -> &[u8]
-    ensures { result.now ≡ body_of (piece_in pieces.now) }
-{
-    prefix(after(pieces, HEADER), count(pieces))
-}
-
-/// The pieces after the first.
-pub(crate) fn rest(pieces: &[u8]) -> &[u8]
-    ensures { result.now ≡ rest_in pieces.now }
-{
-    after(after(pieces, HEADER), count(pieces))
+    match pieces {
+        [_, _, _, _, c0, c1, c2, c3, ..] => u32::from_le_bytes([*c0, *c1, *c2, *c3]) as usize,
+        _ => usize::from(word_at(pieces, 4)) + 65536 * usize::from(word_at(pieces, 6)),
+    }
 }
 
 /// Whether these numbers name the first piece.
@@ -56,17 +78,41 @@ fn has_key(pieces: &[u8], kind: u8, index: u8, number: u16) -> bool
     }
 }
 
-/// The bytes of the first of the pieces that these numbers name.
-#[tactic(auto, using(crate::proofs::PieceLemmas::rest_shorter, crate::proofs::PieceLemmas::pieces_at))]
-pub(crate) fn find(pieces: &[u8], kind: u8, index: u8, number: u16) -> Option<&[u8]>
-    ensures { option_copied result ≡ option_map body_of (find (has_key kind index number) (pieces_of pieces.now)) }
+/// The first piece, where there is one, and the pieces after it.
+#[tactic(auto, using(crate::proofs::PieceLemmas::pieces_at, crate::proofs::PieceLemmas::no_pieces))]
+pub(crate) fn first(pieces: &[u8]) -> Option<(Piece<'_>, &[u8])>
+    ensures { MatchOption result (pieces_of pieces.now ≡ []) (λ r. pieces_of pieces.now ≡ piece_of r.0 ∷ pieces_of r.1.now) }
 {
-    let mut left = pieces;
-    while !left.is_empty() {
+    if pieces.is_empty() {
+        return None;
+    }
+    let ahead = after(pieces, HEADER);
+    let count = count(pieces);
+    let piece = Piece {
+        kind: byte_at(pieces, 0),
+        index: byte_at(pieces, 1),
+        number: word_at(pieces, 2),
+        body: prefix(ahead, count),
+    };
+    Some((piece, after(ahead, count)))
+}
+
+/// The place of the first of the pieces that these numbers name.
+#[tactic(auto, using(crate::proofs::PieceLemmas::found_at, crate::proofs::PieceLemmas::passed_at, crate::proofs::PieceLemmas::no_piece_at))]
+#[inline(never)]
+pub(crate) fn find(pieces: &[u8], kind: u8, index: u8, number: u16) -> Option<Place>
+    ensures found { option_map (bytes_at pieces.now) result ≡ find_in (pieces_of pieces.now) kind index number }
+    ensures within { IfSome result (IsPlace pieces.now) }
+{
+    let mut at = 0;
+    while at < pieces.len() {
+        let left = after(pieces, at);
+        let start = at + HEADER;
+        let count = count(left);
         if has_key(left, kind, index, number) {
-            return Some(body(left));
+            return Some(Place::new(pieces, start, count));
         }
-        left = rest(left);
+        at = start + count;
     }
     None
 }

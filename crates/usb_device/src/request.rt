@@ -2,37 +2,38 @@
 //!
 //! The functions are inlined, so that a response, which is of several shapes, needs no room in memory.
 ghost use Rattle.std.specs.Prelude.{◌≡◌, ◌∷◌, [], find, if◌then◌else◌};
-ghost use Rattle.std.specs.Option.{option_copied};
+ghost use Rattle.std.specs.Option.{option_map};
 ghost use Rattle.usb_device.specs.Step.{is_set_address};
 
 mod freedom;
 
-use crate::encoded::Encoded;
-use crate::outline::Outline;
+use crate::halts;
+use crate::image::Image;
+use crate::sets::Set;
 use crate::stage::{Change, Decision};
 use crate::state::State;
-use crate::{halts, selected};
 use usb_fields::{Class, Direction, Recipient, Setup, feature, request};
 
 /// A request, and the device that it is made to.
 #[derive(Clone, Copy)]
 pub(crate) struct Request<'r> {
-    pub(crate) description: &'r Encoded,
+    pub(crate) image: Image<'r>,
     pub(crate) state: &'r State,
     pub(crate) setup: Setup,
 }
 
 impl<'r> Request<'r> {
-    ghost use Rattle.usb_device.specs.Requests.{answer, does, feature_of, get_configuration, get_descriptor, get_interface, get_status, halt_feature, has_value, is_device, is_interface, names_endpoint, names_endpoint_zero, names_interface, row, set_address, set_configuration, set_interface, status_of_device, status_of_endpoint, status_of_interface, tells, wakeup_feature};
-    ghost use Rattle.usb_device.specs.Offers.{offer_of};
+    ghost use Rattle.usb_device.specs.Requests.{answer_to, does, feature_of, get_configuration, get_descriptor, get_interface, get_status, halt_feature, has_value, is_device, is_interface, names_endpoint, names_endpoint_zero, names_interface, row, shown_attributes, set_address, set_configuration, set_interface, status_of_device, status_of_endpoint, status_of_interface, tells, wakeup_feature};
+    ghost use Rattle.usb_device.specs.Offers.{offer_in};
     ghost use Rattle.usb_fields.specs.Setup.{recipient_of};
+    ghost use Rattle.usb_device.specs.inside.Sets.{set_of};
     ghost use Rattle.usb_device.specs.inside.Reactions.{changed, says, AsksFor};
 
     /// The answer.
-    #[tactic(auto, unfolding(crate::specs::Requests::answer, crate::specs::Requests::answer_of))]
+    #[tactic(auto, unfolding(crate::specs::Requests::answer_to, crate::specs::Requests::answer_of))]
     #[inline(always)]
     pub(crate) fn decide(&self) -> Decision
-        ensures answer { says self.now result ≡ answer self.now.description.now.file self.now.state.now self.now.setup }
+        ensures answer { says self.now result ≡ answer_to (offer_in self.now.image.bytes.now) self.now.state.now self.now.setup }
         ensures asked { AsksFor self.now result }
     {
         match self.setup.class() {
@@ -44,7 +45,7 @@ impl<'r> Request<'r> {
     /// The answer to a standard request, by bRequest (table 9-4).
     #[inline(always)]
     fn by_request(&self) -> Decision
-        ensures answer { says self.now result ≡ row (offer_of self.now.description.now.file) self.now.state.now self.now.setup }
+        ensures answer { says self.now result ≡ row (offer_in self.now.image.bytes.now) self.now.state.now self.now.setup }
         ensures asked { AsksFor self.now result }
     {
         match self.setup.request {
@@ -64,7 +65,7 @@ impl<'r> Request<'r> {
     /// GET_STATUS (9.4.5).
     #[inline(always)]
     fn get_status(&self) -> Decision
-        ensures answer { says self.now result ≡ get_status (offer_of self.now.description.now.file) self.now.state.now self.now.setup }
+        ensures answer { says self.now result ≡ get_status (offer_in self.now.image.bytes.now) self.now.state.now self.now.setup }
         ensures asked { AsksFor self.now result }
     {
         if self.setup.value != 0 {
@@ -81,20 +82,20 @@ impl<'r> Request<'r> {
     /// Bit 0 self-powered, bit 1 remote wakeup (figure 9-4).
     #[inline(always)]
     fn status_of_device(&self) -> Decision
-        ensures answer { says self.now result ≡ status_of_device (offer_of self.now.description.now.file) self.now.state.now self.now.setup }
+        ensures answer { says self.now result ≡ status_of_device (offer_in self.now.image.bytes.now) self.now.state.now self.now.setup }
         ensures asked { AsksFor self.now result }
     {
         if !self.state.has_address() || self.setup.index != 0 {
             return Decision::Refused;
         }
-        let attributes = selected::attributes(self.sets(), self.state);
-        self.status(attributes / 64 % 2 + 2 * u8::from(self.state.wakeup))
+        let self_powered = (self.shown_attributes() / 64 % 2) as u8;
+        self.status(self_powered + 2 * u8::from(self.state.wakeup))
     }
 
     /// Two zero bytes (figure 9-5).
     #[inline(always)]
     fn status_of_interface(&self) -> Decision
-        ensures answer { says self.now result ≡ status_of_interface (offer_of self.now.description.now.file) self.now.state.now self.now.setup }
+        ensures answer { says self.now result ≡ status_of_interface (offer_in self.now.image.bytes.now) self.now.state.now self.now.setup }
         ensures asked { AsksFor self.now result }
     {
         if self.state.is_configured() && self.names_interface() {
@@ -107,7 +108,7 @@ impl<'r> Request<'r> {
     /// Bit 0 the endpoint's halt (figure 9-6).
     #[inline(always)]
     fn status_of_endpoint(&self) -> Decision
-        ensures answer { says self.now result ≡ status_of_endpoint (offer_of self.now.description.now.file) self.now.state.now self.now.setup }
+        ensures answer { says self.now result ≡ status_of_endpoint (offer_in self.now.image.bytes.now) self.now.state.now self.now.setup }
         ensures asked { AsksFor self.now result }
     {
         if self.names_endpoint_zero() {
@@ -129,7 +130,7 @@ impl<'r> Request<'r> {
     /// CLEAR_FEATURE and SET_FEATURE (9.4.1 and 9.4.9).
     #[inline(always)]
     fn change_feature(&self, on: bool) -> Decision
-        ensures answer { says self.now result ≡ feature_of (recipient_of self.now.setup.request_type) on (offer_of self.now.description.now.file) self.now.state.now self.now.setup }
+        ensures answer { says self.now result ≡ feature_of (recipient_of self.now.setup.request_type) on (offer_in self.now.image.bytes.now) self.now.state.now self.now.setup }
         ensures asked { AsksFor self.now result }
     {
         match self.setup.recipient() {
@@ -142,13 +143,13 @@ impl<'r> Request<'r> {
     /// DEVICE_REMOTE_WAKEUP (table 9-6).
     #[inline(always)]
     fn change_wakeup(&self, on: bool) -> Decision
-        ensures answer { says self.now result ≡ wakeup_feature on (offer_of self.now.description.now.file) self.now.state.now self.now.setup }
+        ensures answer { says self.now result ≡ wakeup_feature on (offer_in self.now.image.bytes.now) self.now.state.now self.now.setup }
         ensures asked { AsksFor self.now result }
     {
         if self.state.has_address()
             && self.setup.value == feature::DEVICE_REMOTE_WAKEUP
             && self.setup.index == 0
-            && selected::any_can_wake(self.sets())
+            && self.image.sets().can_wake()
         {
             self.done(Change::Wakeup(on))
         } else {
@@ -159,7 +160,7 @@ impl<'r> Request<'r> {
     /// ENDPOINT_HALT (table 9-6).
     #[inline(always)]
     fn change_halt(&self, on: bool) -> Decision
-        ensures answer { says self.now result ≡ halt_feature on (offer_of self.now.description.now.file) self.now.state.now self.now.setup }
+        ensures answer { says self.now result ≡ halt_feature on (offer_in self.now.image.bytes.now) self.now.state.now self.now.setup }
         ensures asked { AsksFor self.now result }
     {
         if !self.state.is_configured()
@@ -181,7 +182,7 @@ impl<'r> Request<'r> {
     /// SET_ADDRESS (9.4.6).
     #[inline(always)]
     fn set_address(&self) -> Decision
-        ensures answer { says self.now result ≡ set_address (offer_of self.now.description.now.file) self.now.state.now self.now.setup }
+        ensures answer { says self.now result ≡ set_address (offer_in self.now.image.bytes.now) self.now.state.now self.now.setup }
         ensures asked { AsksFor self.now result }
     {
         if self.is_to_device()
@@ -198,14 +199,14 @@ impl<'r> Request<'r> {
     /// GET_DESCRIPTOR (9.4.3).
     #[inline(always)]
     fn get_descriptor(&self) -> Decision
-        ensures answer { says self.now result ≡ get_descriptor (offer_of self.now.description.now.file) self.now.state.now self.now.setup }
+        ensures answer { says self.now result ≡ get_descriptor (offer_in self.now.image.bytes.now) self.now.state.now self.now.setup }
         ensures asked { AsksFor self.now result }
     {
         if !self.is_to_device() {
             return Decision::Refused;
         }
         let [index, kind] = self.setup.value.to_le_bytes();
-        match self.description.find(kind, index, self.setup.index) {
+        match self.image.find(kind, index, self.setup.index) {
             Some(_) if self.setup.length == 0 => Decision::Done(Change::Nothing),
             Some(place) => match self.setup.direction() {
                 Direction::In => Decision::Descriptor(place),
@@ -218,7 +219,7 @@ impl<'r> Request<'r> {
     /// GET_CONFIGURATION (9.4.2).
     #[inline(always)]
     fn get_configuration(&self) -> Decision
-        ensures answer { says self.now result ≡ get_configuration (offer_of self.now.description.now.file) self.now.state.now self.now.setup }
+        ensures answer { says self.now result ≡ get_configuration (offer_in self.now.image.bytes.now) self.now.state.now self.now.setup }
         ensures asked { AsksFor self.now result }
     {
         if self.is_to_device()
@@ -235,7 +236,7 @@ impl<'r> Request<'r> {
     /// SET_CONFIGURATION (9.4.7).
     #[inline(always)]
     fn set_configuration(&self) -> Decision
-        ensures answer { says self.now result ≡ set_configuration (offer_of self.now.description.now.file) self.now.state.now self.now.setup }
+        ensures answer { says self.now result ≡ set_configuration (offer_in self.now.image.bytes.now) self.now.state.now self.now.setup }
         ensures asked { AsksFor self.now result }
     {
         if !self.is_to_device() || !self.state.has_address() || self.setup.index != 0 {
@@ -245,7 +246,7 @@ impl<'r> Request<'r> {
             return Decision::Refused;
         }
         let value = self.setup.value as u8;
-        if value == 0 || selected::any_with_value(self.sets(), value) {
+        if value == 0 || self.image.sets().has_value(value) {
             self.done(Change::Configuration(value))
         } else {
             Decision::Refused
@@ -255,7 +256,7 @@ impl<'r> Request<'r> {
     /// GET_INTERFACE (9.4.4).
     #[inline(always)]
     fn get_interface(&self) -> Decision
-        ensures answer { says self.now result ≡ get_interface (offer_of self.now.description.now.file) self.now.state.now self.now.setup }
+        ensures answer { says self.now result ≡ get_interface (offer_in self.now.image.bytes.now) self.now.state.now self.now.setup }
         ensures asked { AsksFor self.now result }
     {
         if self.is_to_interface()
@@ -272,7 +273,7 @@ impl<'r> Request<'r> {
     /// SET_INTERFACE (9.4.10).
     #[inline(always)]
     fn set_interface(&self) -> Decision
-        ensures answer { says self.now result ≡ set_interface (offer_of self.now.description.now.file) self.now.state.now self.now.setup }
+        ensures answer { says self.now result ≡ set_interface (offer_in self.now.image.bytes.now) self.now.state.now self.now.setup }
         ensures asked { AsksFor self.now result }
     {
         if !self.is_to_interface() || !self.state.is_configured() {
@@ -344,22 +345,30 @@ impl<'r> Request<'r> {
     }
 
     /// The selected configuration.
-    fn selected(&self) -> Option<&'r Outline>
-        ensures { option_copied result ≡ find (has_value self.now.state.now.selected) (offer_of self.now.description.now.file).sets }
+    fn selected(&self) -> Option<Set<'r>>
+        ensures { option_map set_of result ≡ find (has_value self.now.state.now.selected) (offer_in self.now.image.bytes.now).sets }
     {
-        selected::with_value(self.sets(), self.state.selected)
+        self.image.sets().with_value(self.state.selected)
     }
 
-    /// The sets.
-    fn sets(&self) -> &'r [Outline]
-        ensures { result.now ≡ (offer_of self.now.description.now.file).sets }
+    /// bmAttributes of the selected configuration, and where none is selected of the first.
+    fn shown_attributes(&self) -> u16
+        ensures { result ≡ shown_attributes (offer_in self.now.image.bytes.now) self.now.state.now }
     {
-        self.description.sets()
+        let shown = if self.state.is_configured() {
+            self.selected()
+        } else {
+            self.image.sets().next()
+        };
+        match shown {
+            Some(c) => c.attributes,
+            None => 0,
+        }
     }
 
     /// Whether wIndex is an interface of the selected configuration.
     fn names_interface(&self) -> bool
-        ensures { result ≡ names_interface (offer_of self.now.description.now.file) self.now.state.now self.now.setup.index }
+        ensures { result ≡ names_interface (offer_in self.now.image.bytes.now) self.now.state.now self.now.setup.index }
     {
         match self.selected() {
             Some(c) => self.setup.index < 256 && c.has_interface(self.setup.index as u8),
@@ -376,7 +385,7 @@ impl<'r> Request<'r> {
 
     /// wIndex, where it is an endpoint of a setting that is chosen in the selected configuration.
     fn endpoint(&self) -> Option<u8>
-        ensures { result ≡ (if names_endpoint (offer_of self.now.description.now.file) self.now.state.now self.now.setup.index then Some self.now.setup.index else None) }
+        ensures { result ≡ (if names_endpoint (offer_in self.now.image.bytes.now) self.now.state.now self.now.setup.index then Some self.now.setup.index else None) }
     {
         if self.setup.index >= 256 {
             return None;

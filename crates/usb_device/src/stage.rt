@@ -2,11 +2,13 @@
 ghost use Rattle.std.specs.Prelude.{◌≡◌, ◌+◌, ◌≤◌, ◌++◌, length, take, drop};
 ghost use Rattle.usb_fields.specs.Packets.{flipped};
 ghost use Rattle.usb_device.specs.Beside.{room_size};
-ghost use Rattle.usb_device.specs.Stages.{data_bytes, source_bytes, written_bytes, IsSource};
+ghost use Rattle.usb_device.specs.Offers.{packet_in};
+ghost use Rattle.usb_device.specs.Stages.{data_bytes, source_bytes, written_bytes};
 
 use crate::beside::ROOM;
-use crate::encoded::Encoded;
-use usb_fields::Toggle;
+use crate::image::Image;
+use crate::piece::Place;
+use usb_fields::{Toggle, after};
 
 /// What a device answers to a transaction, with the bytes left out.
 #[derive(Clone, Copy)]
@@ -39,8 +41,8 @@ pub(crate) enum Change {
 /// What the device does about a request.
 #[derive(Clone, Copy)]
 pub(crate) enum Decision {
-    /// The descriptor at this place, cut to wLength.
-    Descriptor(usize),
+    /// The descriptor that is here in the image, cut to wLength.
+    Descriptor(Place),
     /// One byte.
     Byte(u8),
     /// The two bytes of a status, of which the second is 0.
@@ -76,8 +78,8 @@ pub enum Stage {
 /// Where the bytes of a data stage are.
 #[derive(Clone, Copy, Debug, PartialEq, Eq, Hash)]
 pub(crate) enum Source {
-    /// The descriptor at this place of the description.
-    Descriptor(usize),
+    /// In the image, from this place on.
+    Image(usize),
     /// The bytes that the device keeps.
     Kept,
 }
@@ -134,22 +136,24 @@ impl DataStage {
 
     /// The packet that is due.
     #[inline(always)]
-    pub(crate) fn packet<'a>(&'a self, d: &'a Encoded) -> &'a [u8]
-        requires source { IsSource d.now.file self.now.source }
-        requires count { self.now.count ≤ length (source_bytes d.now.file self.now.source self.now.kept) }
+    pub(crate) fn packet<'a>(&'a self, image: Image<'a>) -> &'a [u8]
+        requires count { self.now.count ≤ length (source_bytes image.bytes.now self.now.source self.now.kept) }
         requires inside { self.now.offset ≤ self.now.count }
-        ensures { result.now ≡ take d.now.file.device.packet (drop self.now.offset (data_bytes d.now.file self.now)) }
+        ensures { result.now ≡ take (packet_in image.entry.bytes.now) (drop self.now.offset (data_bytes image.entry.bytes.now self.now)) }
     {
-        packet_at(&self.source_bytes(d)[..self.count], self.offset, d.packet())
+        packet_at(
+            &self.source_bytes(image)[..self.count],
+            self.offset,
+            image.packet(),
+        )
     }
 
     #[inline(always)]
-    fn source_bytes<'a>(&'a self, d: &'a Encoded) -> &'a [u8]
-        requires { IsSource d.now.file self.now.source }
-        ensures { result.now ≡ source_bytes d.now.file self.now.source self.now.kept }
+    fn source_bytes<'a>(&'a self, image: Image<'a>) -> &'a [u8]
+        ensures { result.now ≡ source_bytes image.entry.bytes.now self.now.source self.now.kept }
     {
         match self.source {
-            Source::Descriptor(place) => d.bytes(place),
+            Source::Image(start) => after(image.bytes, start),
             Source::Kept => &self.kept,
         }
     }

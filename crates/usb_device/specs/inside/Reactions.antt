@@ -1,8 +1,9 @@
 -- Answers to transactions, as the code holds them: without the bytes.
-use Rattle.std.specs.Prelude.{◌≡◌, ◌<◌, Bool, true, false, [], ◌∷◌, length, take, slice_set, ℕ, List, drop}
+use Rattle.std.specs.Prelude.{◌≡◌, ◌<◌, Bool, true, false, [], ◌∷◌, take, slice_set, ℕ, List, drop}
 use Rattle.usb_fields.specs.declared.setup.Setup.{Setup}
-use Rattle.usb_file_data.specs.declared.file.DescriptorFile.{DescriptorFile}
-use Rattle.usb_device.specs.Descriptors.{descriptors, descriptor_at}
+use Rattle.usb_device.specs.FileImages.{image_of}
+use Rattle.usb_device.specs.Offers.{offer_in, packet_in}
+use Rattle.usb_device.specs.inside.Places.{bytes_at, IsPlace}
 use Rattle.usb_device.specs.declared.request.Request.{Request}
 use Rattle.usb_device.specs.declared.state.State.{State}
 use Rattle.usb_device.specs.declared.stage.Change.{Change}
@@ -12,7 +13,7 @@ use Rattle.usb_device.specs.declared.stage.Stage.TheVariants as stages
 use Rattle.usb_device.specs.declared.stage.Decision.{Decision}
 use Rattle.usb_device.specs.declared.stage.Decision.TheVariants as decisions
 use Rattle.usb_device.specs.States.{first_alternates}
-use Rattle.usb_device.specs.Requests.{Outcome, Bytes, Done, Refused, answer}
+use Rattle.usb_device.specs.Requests.{Outcome, Bytes, Done, Refused, answer_to}
 use Rattle.usb_fields.specs.Packets.{Reply, AckReply, NakReply, StallReply, DataReply, NoReply, packets}
 use Rattle.usb_device.specs.declared.stage.Reaction.{Reaction}
 use Rattle.usb_device.specs.declared.stage.Reaction.TheVariants.{Ack, Nak, Stall, Packet, Empty, Silence}
@@ -36,28 +37,28 @@ changed s (Alternate number alternate halts) =
     record s { alternates = slice_set s.alternates number alternate; halts = halts }
 
 -- what a decision says
-abbrev pub outcome_of : DescriptorFile → State → Setup → Decision → Outcome
-outcome_of f s q (decisions.Descriptor place) = Bytes (take q.length (descriptor_at f place))
-outcome_of f s q (decisions.Byte byte) = Bytes (byte ∷ [])
-outcome_of f s q (decisions.Status byte) = Bytes (byte ∷ 0 ∷ [])
-outcome_of f s q (decisions.Done change) = Done (changed s change)
-outcome_of f s q decisions.Refused = Refused
+abbrev pub outcome_of : List ℕ → State → Setup → Decision → Outcome
+outcome_of image s q (decisions.Descriptor place) = Bytes (take q.length (bytes_at image place))
+outcome_of image s q (decisions.Byte byte) = Bytes (byte ∷ [])
+outcome_of image s q (decisions.Status byte) = Bytes (byte ∷ 0 ∷ [])
+outcome_of image s q (decisions.Done change) = Done (changed s change)
+outcome_of image s q decisions.Refused = Refused
 
 -- what is sent is there, and was asked for
-abbrev pub IsAsked : DescriptorFile → Setup → Decision → Type 0
-IsAsked f q (decisions.Descriptor place) = (place < length (descriptors f)) × (0 < q.length)
-IsAsked f q (decisions.Byte byte) = q.length ≡ 1
-IsAsked f q (decisions.Status byte) = q.length ≡ 2
-IsAsked f q (decisions.Done change) = Unit {0}
-IsAsked f q decisions.Refused = Unit {0}
+abbrev pub IsAsked : List ℕ → Setup → Decision → Type 0
+IsAsked image q (decisions.Descriptor place) = IsPlace image place × (0 < q.length)
+IsAsked image q (decisions.Byte byte) = q.length ≡ 1
+IsAsked image q (decisions.Status byte) = q.length ≡ 2
+IsAsked image q (decisions.Done change) = Unit {0}
+IsAsked image q decisions.Refused = Unit {0}
 
 -- what a decision to a request says
 abbrev pub says : Request → Decision → Outcome
-says r response = outcome_of r.description.now.file r.state.now r.setup response
+says r response = outcome_of r.image.bytes.now r.state.now r.setup response
 
 -- what it sends is there, and was asked for
 abbrev pub AsksFor : Request → Decision → Type 0
-AsksFor r response = IsAsked r.description.now.file r.setup response
+AsksFor r response = IsAsked r.image.bytes.now r.setup response
 
 -- the first of these packets, if there is one
 abbrev pub first_packet : List (List ℕ) → List ℕ
@@ -92,20 +93,22 @@ has_status_out stages.StatusOut = true
 has_status_out stages.Over = true
 has_status_out stage = false
 
--- IN to a device with these descriptors, and OUT
-abbrev pub sent_by : DescriptorFile → EndpointZero → Served
-sent_by f e = served_in (answer f) f.device.packet e.state (stage_in f e)
+-- IN to a device with this image, and OUT
+abbrev pub sent_by : List ℕ → EndpointZero → Served
+sent_by image e = served_in (answer_to (offer_in image)) (packet_in image) e.state (stage_in image e)
 
-abbrev pub received_by : DescriptorFile → EndpointZero → Toggle → List ℕ → Served
-received_by f e toggle bytes = served_out (answer f) f.device.packet e.state (stage_in f e) toggle bytes
+abbrev pub received_by : List ℕ → EndpointZero → Toggle → List ℕ → Served
+received_by image e toggle bytes =
+    served_out (answer_to (offer_in image)) (packet_in image) e.state (stage_in image e) toggle bytes
 
 -- the reply, where its bytes are those of the packet that is due
-abbrev pub replied : DescriptorFile → EndpointZero → Reaction → Reply
-replied f e reaction = reply_with (packet_due f.device.packet (stage_in f e)) reaction
+abbrev pub replied : List ℕ → EndpointZero → Reaction → Reply
+replied image e reaction = reply_with (packet_due (packet_in image) (stage_in image e)) reaction
 
 -- a device as callers see it
 abbrev pub view_of : Inside → View
-view_of d = record { description = d.description.now; device = device_of d.description.now.file d.endpoint_zero }
+view_of d =
+    record { description = d.description.now; device = device_of (image_of d.description.now.file) d.endpoint_zero }
 
 abbrev pub IsDevice : Inside → Type 0
-IsDevice d = IsOf d.description.now.file d.endpoint_zero
+IsDevice d = IsOf (image_of d.description.now.file) d.endpoint_zero

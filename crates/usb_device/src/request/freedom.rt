@@ -5,19 +5,19 @@ use super::Request;
 use usb_fields::{Class, Recipient, feature, request};
 
 impl<'r> Request<'r> {
-    ghost use Rattle.usb_device.specs.Offers.{offer_of};
+    ghost use Rattle.usb_device.specs.Offers.{offer_in};
     ghost use Rattle.usb_fields.specs.Setup.{recipient_of};
-    ghost use Rattle.usb_device.specs.Freedoms.{by_code, is_either, is_endpoint, may_halt, may_set, names_isochronous};
+    ghost use Rattle.usb_device.specs.Freedoms.{by_code, is_either_to, is_endpoint, may_halt, may_set, names_isochronous};
 
     /// Whether a device may do either.
     pub(crate) fn is_either(&self) -> bool
-        ensures { result ≡ is_either self.now.description.now.file self.now.state.now self.now.setup }
+        ensures { result ≡ is_either_to (offer_in self.now.image.bytes.now) self.now.state.now self.now.setup }
     {
         self.by_code() && self.setup.length == 0 && self.setup.class() == Class::Standard
     }
 
     fn by_code(&self) -> bool
-        ensures { result ≡ by_code (offer_of self.now.description.now.file) self.now.state.now self.now.setup }
+        ensures { result ≡ by_code (offer_in self.now.image.bytes.now) self.now.state.now self.now.setup }
     {
         match self.setup.request {
             request::SET_INTERFACE => self.may_set(),
@@ -28,7 +28,7 @@ impl<'r> Request<'r> {
 
     /// SET_INTERFACE of the only setting of an interface (9.4.10).
     fn may_set(&self) -> bool
-        ensures { result ≡ may_set (offer_of self.now.description.now.file) self.now.state.now self.now.setup }
+        ensures { result ≡ may_set (offer_in self.now.image.bytes.now) self.now.state.now self.now.setup }
     {
         if !self.is_to_interface() || !self.state.is_configured() {
             return false;
@@ -46,7 +46,7 @@ impl<'r> Request<'r> {
 
     /// ENDPOINT_HALT of endpoint zero, or of an isochronous endpoint (9.4.5).
     fn may_halt(&self) -> bool
-        ensures { result ≡ may_halt (offer_of self.now.description.now.file) self.now.state.now self.now.setup }
+        ensures { result ≡ may_halt (offer_in self.now.image.bytes.now) self.now.state.now self.now.setup }
     {
         self.is_to_endpoint()
             && self.setup.value == feature::ENDPOINT_HALT
@@ -61,7 +61,7 @@ impl<'r> Request<'r> {
     }
 
     fn names_isochronous(&self) -> bool
-        ensures { result ≡ names_isochronous (offer_of self.now.description.now.file) self.now.state.now self.now.setup.index }
+        ensures { result ≡ names_isochronous (offer_in self.now.image.bytes.now) self.now.state.now self.now.setup.index }
     {
         match self.selected() {
             Some(c) => {

@@ -1,0 +1,7 @@
+use Rattle.std.proofs.Common.{arith}
+use Rattle.usb_device.proofs.OfferLemmas.{endpoint_step}
+use Rattle.usb_device.proofs.sets.EndpointsIterator.next.Goals as goal
+
+pub returns-clause-steps : goal.returns-clause-steps
+returns-clause-steps c =
+    endpoint_step c.args.self.now.bytes.now c.after-self.result.now (omega (arith, c.in-len2-up.len_at_least)) c.after-self.ensures
