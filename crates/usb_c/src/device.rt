@@ -71,7 +71,7 @@ fn open_at(alloc: Global, device: &mut NzgDevice, bytes: &[u8], speed: Speed) ->
         Ok(description) => description,
         Err(fault) => return refused_description(fault),
     };
-    let endpoint_zero = EndpointZero::new(&description);
+    let endpoint_zero = EndpointZero::new(description.image());
     match Box::new(
         alloc,
         OwnedDevice {
@@ -97,7 +97,7 @@ pub extern "C" fn nzg_device_reset(alloc: Global, device: &mut NzgDevice) -> boo
         return false;
     };
     let owned: &mut OwnedDevice = &mut held;
-    owned.endpoint_zero = EndpointZero::new(&owned.description);
+    owned.endpoint_zero = EndpointZero::new(owned.description.image());
     *device = NzgDevice::of(held);
     true
 }
@@ -136,7 +136,7 @@ pub extern "C" fn nzg_device_acked(alloc: Global, device: &mut NzgDevice) -> boo
         return false;
     };
     let owned: &mut OwnedDevice = &mut held;
-    owned.endpoint_zero.acked(&owned.description);
+    owned.endpoint_zero.acked(owned.description.image());
     *device = NzgDevice::of(held);
     true
 }
@@ -174,7 +174,9 @@ pub extern "C" fn nzg_device_answer_with(
         return Verdict::Closed.answer();
     };
     let owned: &mut OwnedDevice = &mut held;
-    let taken = owned.endpoint_zero.answer_with(&owned.description, bytes);
+    let taken = owned
+        .endpoint_zero
+        .answer_with(owned.description.image(), bytes);
     *device = NzgDevice::of(held);
     match taken {
         Ok(()) => Verdict::Done(0).answer(),
@@ -192,7 +194,7 @@ pub extern "C" fn nzg_device_accept(alloc: Global, device: &mut NzgDevice) -> An
         return Verdict::Closed.answer();
     };
     let owned: &mut OwnedDevice = &mut held;
-    let taken = owned.endpoint_zero.accept(&owned.description);
+    let taken = owned.endpoint_zero.accept(owned.description.image());
     *device = NzgDevice::of(held);
     match taken {
         Ok(()) => Verdict::Done(0).answer(),
@@ -256,7 +258,7 @@ pub extern "C" fn nzg_device_refuse(alloc: Global, device: &mut NzgDevice) -> bo
         return false;
     };
     let owned: &mut OwnedDevice = &mut held;
-    owned.endpoint_zero.refuse(&owned.description);
+    owned.endpoint_zero.refuse(owned.description.image());
     *device = NzgDevice::of(held);
     true
 }
