@@ -1,6 +1,6 @@
 -- A device image: the descriptors that a device hands out, and what requests can name, as one byte string that is read
 -- where it lies. It is a list of pieces, and any bytes are one.
-use Rattle.std.specs.Prelude.{ℕ, zero, suc, ◌+◌, ◌*◌, ◌%◌, ◌/◌, ◌==◌, ◌&&◌, Bool, List, [], ◌∷◌, ◌++◌, length, take, drop, slice_index, find, Option, None, option_and_then, if◌then◌else◌}
+use Rattle.std.specs.Prelude.{ℕ, zero, suc, ◌+◌, ◌*◌, ◌%◌, ◌/◌, ◌==◌, ◌&&◌, Bool, List, [], ◌∷◌, ◌++◌, length, take, drop, nat_lt, slice_index, find, Option, None, option_and_then, if◌then◌else◌}
 use Rattle.std.specs.Option.{option_map}
 use Rattle.std.specs.List.{flat_map}
 use Rattle.usb_fields.specs.Bytes.{little_endian, little_endian_at}
@@ -48,7 +48,7 @@ piece_bytes p = header_bytes p.kind p.index p.number (length p.body) ++ p.body
 abbrev pub image_bytes : List Piece → List ℕ
 image_bytes ps = flat_map piece_bytes ps
 
--- Read. A byte that is not there is 0.
+-- Read. A byte that is not there is 0, and fewer than 8 bytes are no piece.
 
 -- how many bytes the first piece has
 abbrev pub count_in : List ℕ → ℕ
@@ -67,13 +67,12 @@ piece_in b = record {
 abbrev pub rest_in : List ℕ → List ℕ
 rest_in b = drop (count_in b) (drop 8 b)
 
--- the pieces, at most so many
+-- the pieces, at most so many, where each has what is before its bytes
 unfoldable pub pieces_within : ℕ → List ℕ → List Piece
 pieces_within zero b = []
-pieces_within (suc n) [] = []
-pieces_within (suc n) (x ∷ b) = piece_in (x ∷ b) ∷ pieces_within n (rest_in (x ∷ b))
+pieces_within (suc n) b = if nat_lt (length b) 8 then [] else piece_in b ∷ pieces_within n (rest_in b)
 
--- the pieces of any bytes: each has one byte at least
+-- the pieces of any bytes
 unfoldable pub pieces_of : List ℕ → List Piece
 pieces_of b = pieces_within (length b) b
 

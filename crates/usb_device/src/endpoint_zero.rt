@@ -50,7 +50,7 @@ impl EndpointZero {
     ghost use Rattle.usb_device.specs.Lending.{PartEndsAs};
     ghost use Rattle.usb_device.specs.Beside.{room_size};
     ghost use Rattle.usb_device.specs.inside.Places.{bytes_at, IsPlace};
-    ghost use Rattle.usb_device.specs.inside.Reactions.{is_sending, received_by, replied, sent_by, packet_due};
+    ghost use Rattle.usb_device.specs.inside.Reactions.{is_sending, outcome_of, received_by, replied, sent_by, packet_due, IsAsked};
 
     /// That of a new device with this image, and of one after a bus reset.
     pub fn new(image: Image<'_>) -> EndpointZero
@@ -159,6 +159,7 @@ impl EndpointZero {
     }
 
     /// A SETUP: the transfer that the request begins.
+    // What most of them ask for is decided first, with few registers.
     #[inline(never)]
     fn begin(&mut self, image: Image<'_>, q: Setup)
         ensures device { device_of image.entry.bytes.now self.new ≡ record (device_of image.entry.bytes.now self.old) { stage = begun q (answer_to (offer_in image.entry.bytes.now) self.old.state q) } }
@@ -169,7 +170,35 @@ impl EndpointZero {
             state: &self.state,
             setup: q,
         };
-        match request.decide() {
+        match request.decide_read() {
+            Some(decision) => self.enter(image, decision, q),
+            None => self.begin_other(image, q),
+        }
+    }
+
+    /// The same, whatever the request is.
+    #[inline(never)]
+    fn begin_other(&mut self, image: Image<'_>, q: Setup)
+        ensures device { device_of image.entry.bytes.now self.new ≡ record (device_of image.entry.bytes.now self.old) { stage = begun q (answer_to (offer_in image.entry.bytes.now) self.old.state q) } }
+        ensures of { IsOf image.entry.bytes.now self.new }
+    {
+        let request = Request {
+            image,
+            state: &self.state,
+            setup: q,
+        };
+        let decision = request.decide();
+        self.enter(image, decision, q);
+    }
+
+    /// The transfer of a request about which this is decided.
+    #[inline(always)]
+    fn enter(&mut self, image: Image<'_>, decision: Decision, q: Setup)
+        requires { IsAsked image.bytes.now q decision }
+        ensures device { device_of image.entry.bytes.now self.new ≡ record (device_of image.entry.bytes.now self.old) { stage = begun q (outcome_of image.entry.bytes.now self.old.state q decision) } }
+        ensures of { IsOf image.entry.bytes.now self.new }
+    {
+        match decision {
             Decision::Descriptor(place) => self.send_descriptor(image, place, q),
             Decision::Byte(byte) => self.send_kept(image, &[byte], q),
             Decision::Status(first) => self.send_kept(image, &[first, 0], q),

@@ -26,7 +26,10 @@ impl<'a> Image<'a> {
     pub fn packet(&self) -> usize
         ensures { result ≡ packet_in self.now.bytes.now }
     {
-        usize::from(word_at(self.bytes, 2))
+        match self.bytes {
+            [_, _, p0, p1, ..] => usize::from(u16::from_le_bytes([*p0, *p1])),
+            _ => usize::from(word_at(self.bytes, 2)),
+        }
     }
 
     /// The descriptor of this type and index, in this language where it is a string, or `None` where there is none such:
@@ -52,27 +55,14 @@ impl<'a> Image<'a> {
         ensures within { IfSome result (IsPlace self.now.bytes.now) }
     {
         match kind {
+            descriptor_type::STRING if index != 0 => find_string(self.bytes, index, language),
             descriptor_type::DEVICE
             | descriptor_type::CONFIGURATION
+            | descriptor_type::STRING
             | descriptor_type::DEVICE_QUALIFIER
             | descriptor_type::OTHER_SPEED_CONFIGURATION => find(self.bytes, kind, index, 0),
-            descriptor_type::STRING if index == 0 => find(self.bytes, kind, 0, 0),
-            descriptor_type::STRING => self.find_string(index, language),
             _ => None,
         }
-    }
-
-    /// Where the string of this index is in this language: the other languages are passed over at once.
-    fn find_string(&self, index: u8, language: u16) -> Option<Place>
-        ensures found { option_map (bytes_at self.now.bytes.now) result ≡ option_and_then (string_in index) (find_in (pieces_of self.now.bytes.now) 128 0 language) }
-        ensures within { IfSome result (IsPlace self.now.bytes.now) }
-    {
-        let strings = find(self.bytes, LANGUAGE, 0, language)?;
-        let place = find(strings.bytes(self.bytes), descriptor_type::STRING, index, 0)?;
-        Some(Place {
-            start: strings.start + place.start,
-            count: place.count,
-        })
     }
 
     /// The sets, as requests can name them.
@@ -87,4 +77,18 @@ impl<'a> Image<'a> {
             None => Sets { pieces: &[] },
         }
     }
+}
+
+/// Where the string of this index is in this language: the other languages are passed over at once.
+#[inline(never)]
+fn find_string(pieces: &[u8], index: u8, language: u16) -> Option<Place>
+    ensures found { option_map (bytes_at pieces.now) result ≡ option_and_then (string_in index) (find_in (pieces_of pieces.now) 128 0 language) }
+    ensures within { IfSome result (IsPlace pieces.now) }
+{
+    let strings = find(pieces, LANGUAGE, 0, language)?;
+    let place = find(strings.bytes(pieces), descriptor_type::STRING, index, 0)?;
+    Some(Place {
+        start: strings.start + place.start,
+        count: place.count,
+    })
 }

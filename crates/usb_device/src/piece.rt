@@ -1,5 +1,5 @@
 //! The pieces of a device image, read where they lie: any bytes are a list of pieces.
-ghost use Rattle.std.specs.Prelude.{◌≡◌, ◌++◌, ◌∷◌, ◌<◌, ◌^◌, [], find, length, take, drop, IfSome, MatchOption, OnOk};
+ghost use Rattle.std.specs.Prelude.{◌≡◌, ◌+◌, ◌++◌, ◌∷◌, ◌<◌, ◌≤◌, ◌^◌, [], find, length, take, drop, true, IfSome, MatchOption, OnOk};
 ghost use Rattle.std.specs.Option.{option_map};
 ghost use Rattle.usb_device.specs.Images.{body_of, count_in, find_in, has_key, header_bytes, piece_bytes, piece_in, pieces_of, rest_in};
 ghost use Rattle.usb_device.specs.inside.Places.{bytes_at, piece_of, IsPlace};
@@ -28,11 +28,12 @@ pub(crate) struct Place {
 
 impl Place {
     /// That of so many bytes from a place on, or of those that there are.
+    #[inline(always)]
     fn new(bytes: &[u8], start: usize, count: usize) -> Place
+        requires { start ≤ length bytes.now }
         ensures place { bytes_at bytes.now result ≡ take count (drop start bytes.now) }
         ensures within { IsPlace bytes.now result }
     {
-        let start = start.min(bytes.len());
         Place {
             start,
             count: count.min(bytes.len() - start),
@@ -48,34 +49,29 @@ impl Place {
     }
 }
 
-/// How many bytes the first piece has.
-// A head that is whole is read at once, with one test of its length.
+/// How many bytes the first piece has, whose head is whole.
 #[inline(always)]
 fn count(pieces: &[u8]) -> usize
+    requires { 8 ≤ length pieces.now }
     ensures count { result ≡ count_in pieces.now }
     ensures few { result < 2 ^ 32 }
 {
-    match pieces {
-        [_, _, _, _, c0, c1, c2, c3, ..] => u32::from_le_bytes([*c0, *c1, *c2, *c3]) as usize,
-        _ => usize::from(word_at(pieces, 4)) + 65536 * usize::from(word_at(pieces, 6)),
-    }
+    let [_, _, _, _, c0, c1, c2, c3, ..] = pieces else {
+        unreachable!();
+    };
+    u32::from_le_bytes([*c0, *c1, *c2, *c3]) as usize
 }
 
-/// Whether these numbers name the first piece.
+/// Whether these numbers name the first piece, whose head is whole.
 #[inline(always)]
 fn has_key(pieces: &[u8], kind: u8, index: u8, number: u16) -> bool
+    requires { 8 ≤ length pieces.now }
     ensures { result ≡ has_key kind index number (piece_in pieces.now) }
 {
-    match pieces {
-        [k, i, n0, n1, ..] => {
-            kind == *k && index == *i && number == u16::from_le_bytes([*n0, *n1])
-        }
-        _ => {
-            kind == byte_at(pieces, 0)
-                && index == byte_at(pieces, 1)
-                && number == word_at(pieces, 2)
-        }
-    }
+    let [k, i, n0, n1, ..] = pieces else {
+        unreachable!();
+    };
+    kind == *k && index == *i && number == u16::from_le_bytes([*n0, *n1])
 }
 
 /// The first piece, where there is one, and the pieces after it.
@@ -83,7 +79,7 @@ fn has_key(pieces: &[u8], kind: u8, index: u8, number: u16) -> bool
 pub(crate) fn first(pieces: &[u8]) -> Option<(Piece<'_>, &[u8])>
     ensures { MatchOption result (pieces_of pieces.now ≡ []) (λ r. pieces_of pieces.now ≡ piece_of r.0 ∷ pieces_of r.1.now) }
 {
-    if pieces.is_empty() {
+    if pieces.len() < HEADER {
         return None;
     }
     let ahead = after(pieces, HEADER);
@@ -97,24 +93,39 @@ pub(crate) fn first(pieces: &[u8]) -> Option<(Piece<'_>, &[u8])>
     Some((piece, after(ahead, count)))
 }
 
-/// The place of the first of the pieces that these numbers name.
-#[tactic(auto, using(crate::proofs::PieceLemmas::found_at, crate::proofs::PieceLemmas::passed_at, crate::proofs::PieceLemmas::no_piece_at))]
-#[inline(never)]
+/// The place of the bytes of the first of the pieces that these numbers name.
+#[tactic(auto, using(crate::proofs::PieceLemmas::no_piece_at))]
+#[inline(always)]
 pub(crate) fn find(pieces: &[u8], kind: u8, index: u8, number: u16) -> Option<Place>
     ensures found { option_map (bytes_at pieces.now) result ≡ find_in (pieces_of pieces.now) kind index number }
     ensures within { IfSome result (IsPlace pieces.now) }
 {
-    let mut at = 0;
-    while at < pieces.len() {
-        let left = after(pieces, at);
-        let start = at + HEADER;
-        let count = count(left);
-        if has_key(left, kind, index, number) {
-            return Some(Place::new(pieces, start, count));
-        }
-        at = start + count;
+    let at = seek(pieces, kind, index, number);
+    if at >= pieces.len() {
+        return None;
     }
-    None
+    let count = count(&pieces[at..]);
+    Some(Place::new(pieces, at + HEADER, count))
+}
+
+/// Where the first of the pieces begins that these numbers name, or the end of the bytes.
+#[tactic(auto, using(crate::proofs::PieceLemmas::no_piece_at))]
+#[inline(never)]
+fn seek(pieces: &[u8], kind: u8, index: u8, number: u16) -> usize
+    ensures same { find (has_key kind index number) (pieces_of (drop result pieces.now)) ≡ find (has_key kind index number) (pieces_of pieces.now) }
+    ensures whole { result < length pieces.now → result + 8 ≤ length pieces.now }
+    ensures here { result < length pieces.now → has_key kind index number (piece_in (drop result pieces.now)) ≡ true }
+{
+    let end = pieces.len().saturating_sub(HEADER - 1);
+    let mut at = 0;
+    while at < end {
+        let left = &pieces[at..];
+        if has_key(left, kind, index, number) {
+            return at;
+        }
+        at += HEADER + count(left);
+    }
+    pieces.len()
 }
 
 /// Adds what is before so many bytes of a piece. With 4 GiB or more there is no memory, since a count has four bytes.

@@ -1,7 +1,7 @@
 //! The table of standard requests: a function for each row (USB 2.0, 9.4).
 //!
 //! The functions are inlined, so that a response, which is of several shapes, needs no room in memory.
-ghost use Rattle.std.specs.Prelude.{◌≡◌, ◌∷◌, [], find, if◌then◌else◌};
+ghost use Rattle.std.specs.Prelude.{◌≡◌, ◌∷◌, [], find, IfSome, if◌then◌else◌};
 ghost use Rattle.std.specs.Option.{option_map};
 ghost use Rattle.usb_device.specs.Step.{is_set_address};
 
@@ -9,10 +9,14 @@ mod freedom;
 
 use crate::halts;
 use crate::image::Image;
+use crate::piece::find;
 use crate::sets::Set;
 use crate::stage::{Change, Decision};
 use crate::state::State;
-use usb_fields::{Class, Direction, Recipient, Setup, feature, request};
+use usb_fields::{Class, Direction, Recipient, Setup, descriptor_type, feature, request};
+
+/// bmRequestType of a standard request to the device, which answers by data (9.3.1).
+const READ_OF_DEVICE: u8 = 0x80;
 
 /// A request, and the device that it is made to.
 #[derive(Clone, Copy)]
@@ -40,6 +44,28 @@ impl<'r> Request<'r> {
             Class::Standard => self.by_request(),
             _ => Decision::Refused,
         }
+    }
+
+    /// The answer to GET_DESCRIPTOR for a device descriptor or a set, and `None` to any other request.
+    #[tactic(auto, unfolding(crate::specs::Requests::answer_to, crate::specs::Requests::answer_of))]
+    #[inline(always)]
+    pub(crate) fn decide_read(&self) -> Option<Decision>
+        ensures answer { IfSome result (λ d. says self.now d ≡ answer_to (offer_in self.now.image.bytes.now) self.now.state.now self.now.setup) }
+        ensures asked { IfSome result (AsksFor self.now) }
+    {
+        let [index, kind] = self.setup.value.to_le_bytes();
+        let is_read = self.setup.request_type == READ_OF_DEVICE
+            && self.setup.request == request::GET_DESCRIPTOR
+            && (kind == descriptor_type::DEVICE || kind == descriptor_type::CONFIGURATION);
+        if !is_read {
+            return None;
+        }
+        let decision = match find(self.image.bytes, kind, index, 0) {
+            Some(_) if self.setup.length == 0 => Decision::Done(Change::Nothing),
+            Some(place) => Decision::Descriptor(place),
+            None => Decision::Refused,
+        };
+        Some(decision)
     }
 
     /// The answer to a standard request, by bRequest (table 9-4).

@@ -1,6 +1,6 @@
 use Rattle.std.proofs.Common.{◌≡◌, ◌-◌, drop, find, length}
 use Rattle.usb_device.specs.Images.{has_key, pieces_of}
-use Rattle.usb_device.proofs.piece.find.Given as goal
+use Rattle.usb_device.proofs.piece.seek.Given as goal
 
 -- the piece is among those that are left
 abbrev pub invariant-loop-at : goal.invariant-loop-at
