@@ -12,7 +12,7 @@ use crate::endpoint_zero::EndpointZero;
 use crate::stage::{Reaction, Stage};
 use crate::state::State;
 use std::marker::Model;
-use usb_fields::{Answer, Setup, Toggle, Transaction};
+use usb_fields::{Answer, Setup, Stage as Token, Toggle, Transaction};
 
 /// A device on the bus: it answers each transaction as USB 2.0 says, by its description. It never
 /// allocates: the bytes of an [`Answer::Data`] are lent from the description, or from a room in the device, which
@@ -102,7 +102,17 @@ impl<'d> Device<'d> {
         ensures reply { reply_with (packet_due self.new.description.file.device.packet self.new.device.stage) result ≡ (served_by self.old.description.file self.old.device (sent_of t.now) ready).reply }
         ensures device { self.new ≡ record self.old { device = (served_by self.old.description.file self.old.device (sent_of t.now) ready).device } }
     {
-        self.endpoint_zero.react(self.description.image(), t, ready)
+        // The image is read only where the device has time.
+        match t.stage {
+            Token::Setup(_) => self.endpoint_zero.react(self.description.image(), t, ready),
+            _ => {
+                if ready {
+                    self.endpoint_zero.react(self.description.image(), t, ready)
+                } else {
+                    self.endpoint_zero.put_off(t)
+                }
+            }
+        }
     }
 
     #[inline(always)]

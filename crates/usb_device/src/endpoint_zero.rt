@@ -1,6 +1,6 @@
 //! The device's end of the control transfers of endpoint zero.
 ghost use Rattle.std.specs.Borrow.{sem};
-ghost use Rattle.std.specs.Prelude.{◌≡◌, ◌<◌, ◌≤◌, ◌/◌, ℕ, List, suc, true, false, if◌then◌else◌, [], take, drop, length};
+ghost use Rattle.std.specs.Prelude.{◌≡◌, ◌<◌, ◌≤◌, ◌/◌, ◌==◌, ℕ, List, suc, true, false, if◌then◌else◌, [], take, drop, length};
 ghost use Rattle.usb_fields.specs.Packets.{reply_of, sent_of, packets, StallReply, DataReply};
 ghost use Rattle.usb_fields.specs.declared.packet.Toggle.TheVariants.{Data1};
 ghost use Rattle.usb_device.specs.Offers.{offer_in, packet_in};
@@ -155,6 +155,20 @@ impl EndpointZero {
                     Reaction::Nak
                 }
             }
+        }
+    }
+
+    /// An IN or OUT for which the device has no time.
+    #[inline(always)]
+    pub(crate) fn put_off(&mut self, t: &Transaction<'_>) -> Reaction
+        ensures reaction { result ≡ (if t.now.address == self.old.state.address then Reaction.Nak else Reaction.Silence) }
+        ensures device { self.new ≡ record self.old { pending = false } }
+    {
+        self.pending = false;
+        if t.address == self.state.address {
+            Reaction::Nak
+        } else {
+            Reaction::Silence
         }
     }
 

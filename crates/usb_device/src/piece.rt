@@ -94,9 +94,18 @@ pub(crate) fn first(pieces: &[u8]) -> Option<(Piece<'_>, &[u8])>
 }
 
 /// The place of the bytes of the first of the pieces that these numbers name.
+#[inline(never)]
+pub(crate) fn find(pieces: &[u8], kind: u8, index: u8, number: u16) -> Option<Place>
+    ensures found { option_map (bytes_at pieces.now) result ≡ find_in (pieces_of pieces.now) kind index number }
+    ensures within { IfSome result (IsPlace pieces.now) }
+{
+    find_inlined(pieces, kind, index, number)
+}
+
+/// The same, for what is asked most: where it is called there is no call, and no result in memory.
 #[tactic(auto, using(crate::proofs::PieceLemmas::no_piece_at))]
 #[inline(always)]
-pub(crate) fn find(pieces: &[u8], kind: u8, index: u8, number: u16) -> Option<Place>
+pub(crate) fn find_inlined(pieces: &[u8], kind: u8, index: u8, number: u16) -> Option<Place>
     ensures found { option_map (bytes_at pieces.now) result ≡ find_in (pieces_of pieces.now) kind index number }
     ensures within { IfSome result (IsPlace pieces.now) }
 {
@@ -110,7 +119,7 @@ pub(crate) fn find(pieces: &[u8], kind: u8, index: u8, number: u16) -> Option<Pl
 
 /// Where the first of the pieces begins that these numbers name, or the end of the bytes.
 #[tactic(auto, using(crate::proofs::PieceLemmas::no_piece_at))]
-#[inline(never)]
+#[inline(always)]
 fn seek(pieces: &[u8], kind: u8, index: u8, number: u16) -> usize
     ensures same { find (has_key kind index number) (pieces_of (drop result pieces.now)) ≡ find (has_key kind index number) (pieces_of pieces.now) }
     ensures whole { result < length pieces.now → result + 8 ≤ length pieces.now }

@@ -9,7 +9,7 @@ mod freedom;
 
 use crate::halts;
 use crate::image::Image;
-use crate::piece::find;
+use crate::piece::find_inlined;
 use crate::sets::Set;
 use crate::stage::{Change, Decision};
 use crate::state::State;
@@ -60,7 +60,7 @@ impl<'r> Request<'r> {
         if !is_read {
             return None;
         }
-        let decision = match find(self.image.bytes, kind, index, 0) {
+        let decision = match find_inlined(self.image.bytes, kind, index, 0) {
             Some(_) if self.setup.length == 0 => Decision::Done(Change::Nothing),
             Some(place) => Decision::Descriptor(place),
             None => Decision::Refused,

@@ -3,7 +3,7 @@ use Rattle.std.specs.Option.{option_map}
 use Rattle.std.proofs.lemmas.Bool.Decides.{nat_tests}
 use Rattle.usb_device.specs.Images.{body_of, count_in}
 use Rattle.usb_device.proofs.PieceLemmas.{all_left, found_at}
-use Rattle.usb_device.proofs.piece.find.Goals as goal
+use Rattle.usb_device.proofs.piece.find_inlined.Goals as goal
 
 pub returns-clause-found : goal.returns-clause-found
 returns-clause-found c =
