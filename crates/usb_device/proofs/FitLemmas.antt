@@ -3,7 +3,7 @@ use Rattle.std.proofs.Common.{◌≡◌, ℕ, suc, ◌*◌, ◌≤◌, List, [],
 use Rattle.std.specs.List.{AllByRecursion, flat_map}
 use Rattle.std.proofs.lemmas.Grind.{flat_map-append}
 use Rattle.std.proofs.lemmas.List.{length-drop, take-append-drop}
-use Rattle.usb_fields.specs.Bytes.{AreBytes}
+use Rattle.usb_fields.specs.Bytes.{AreBytes, little_endian}
 use Rattle.usb_fields.specs.Device.{device_bytes, qualifier_bytes}
 use Rattle.usb_fields.specs.Units.{units_bytes}
 use Rattle.usb_fields.proofs.ByteParts.{bytes_append}
@@ -12,8 +12,8 @@ use Rattle.usb_file_data.specs.declared.file.Other.{Other}
 use Rattle.usb_file_data.specs.declared.file.Strings.{Strings}
 use Rattle.usb_file_data.specs.File.{file_bytes, named_indices, other_bytes, sets_bytes, strings_bytes, whole_set}
 use Rattle.usb_device.specs.Accepted.{has_wrong_strings}
-use Rattle.usb_device.specs.Images.{Piece, header_bytes, image_bytes, piece_bytes}
-use Rattle.usb_device.specs.FileImages.{file_pieces, front_pieces, image_of, indexed, language_pieces, named_strings, other_pieces, speed_pieces, string_pieces}
+use Rattle.usb_device.specs.Images.{Piece, header_bytes, image_bytes, piece_bytes, table_bytes}
+use Rattle.usb_device.specs.FileImages.{file_pieces, front_pieces, image_of, indexed, language_pieces, other_pieces, places, speed_pieces, string_pieces}
 use Rattle.usb_device.proofs.AcceptedLemmas.{texts_as_many}
 
 left : (a b : List ℕ) → AreBytes (a ++ b) → AreBytes a
@@ -50,20 +50,15 @@ others_fit : (o : Option Other) → AllByRecursion HasBytes (other_pieces o) →
 others_fit None h = tt
 others_fit (Some o) h = bytes_append (qualifier_bytes o.qualifier) (sets_bytes o.sets) h.0 (indexed_fit whole_set 7 0 o.sets h.1)
 
--- the strings of a language
-named_fit : (named : List ℕ) (texts : List (List ℕ)) → AllByRecursion HasBytes (named_strings named texts) → AreBytes (flat_map units_bytes (take (length named) texts))
-unfolding named_strings
-named_fit [] texts h = tt
-named_fit (n ∷ named) [] h = tt
-named_fit (n ∷ named) (u ∷ texts) h = bytes_append (units_bytes u) (flat_map units_bytes (take (length named) texts)) h.0 (named_fit named texts h.1)
-
 languages_fit : (named languages : List ℕ) (texts : List (List ℕ)) → length texts ≤ length languages * length named → AllByRecursion HasBytes (language_pieces named languages texts) → AreBytes (flat_map units_bytes texts)
 unfolding language_pieces
 languages_fit named [] [] few h = tt
 languages_fit named [] (u ∷ texts) few h = absurd (let no : ⊥ = omega (arith, few) in no)
 languages_fit named (l ∷ languages) texts few h =
     let n = length named in
-    let here = named_fit named texts (all_bodies (named_strings named texts) h.0) in
+    let table = table_bytes (places 255 1 0 named texts) in
+    let strings = flat_map units_bytes (take n texts) in
+    let here : AreBytes strings = right table strings (right (little_endian (length table)) (table ++ strings) h.0) in
     let fewer : length (drop n texts) ≤ length languages * n = grind (arith, few, length-drop n texts) in
     let later = languages_fit named languages (drop n texts) fewer h.1 in
     subst (λ t. AreBytes (flat_map units_bytes t)) (take-append-drop n texts)

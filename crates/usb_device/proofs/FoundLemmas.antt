@@ -13,11 +13,11 @@ use Rattle.usb_file_data.specs.declared.file.DescriptorFile.{DescriptorFile}
 use Rattle.usb_file_data.specs.declared.file.Other.{Other}
 use Rattle.usb_file_data.specs.declared.file.Strings.{Strings}
 use Rattle.usb_fields.specs.Device.{device_bytes, qualifier_bytes}
-use Rattle.usb_file_data.specs.File.{named_indices, units_at, whole_set}
+use Rattle.usb_file_data.specs.File.{named_among, named_indices, string_indices, units_at, whole_set}
 use Rattle.usb_device.specs.Descriptors.{descriptor, device_of, other_set_at, qualifier_of, set_at, string_at}
-use Rattle.usb_device.specs.Images.{Piece, body_of, descriptor_in, find_in, has_key, image_bytes, string_in}
-use Rattle.usb_device.specs.FileImages.{file_pieces, front_pieces, indexed, keyed, language_pieces, named_strings, other_pieces, speed_pieces, string_pieces}
-use Rattle.usb_device.proofs.PieceLemmas.{read_back}
+use Rattle.usb_device.specs.Images.{Piece, body_of, descriptor_in, find_in, has_key, string_in}
+use Rattle.usb_device.specs.FileImages.{file_pieces, front_pieces, indexed, keyed, language_bytes, language_pieces, other_pieces, speed_pieces, string_pieces}
+use Rattle.usb_device.proofs.TableLemmas.{Ascending, ascending, here, string_found, there}
 
 -- A piece is not found where none is of its kind.
 
@@ -82,19 +82,6 @@ set_found kind first i [] = grind (arith, common_steps)
 set_found kind first zero (body ∷ rest) = grind (arith, common_steps)
 set_found kind first (suc i) (body ∷ rest) = let h = set_found kind (suc first) i rest in grind (arith, common_steps, h)
 
-string_found : (index : ℕ) (named : List ℕ) (texts : List (List ℕ)) → find_in (named_strings named texts) 3 index 0 ≡ option_map units_bytes (option_and_then (slice_get texts) (position (λ n. n == index) named))
-unfolding named_strings
-string_found index [] texts = grind (arith, common_steps)
-string_found index (n ∷ named) [] = grind (arith, common_steps)
-string_found index (n ∷ named) (units ∷ texts) = let h = string_found index named texts in grind (arith, common_steps, h)
-
--- the place of the first element, and of one after it
-here : {X : Type 0} (p : X → Bool) (x : X) (xs : List X) → p x ≡ true → position p (x ∷ xs) ≡ Some 0
-here p x xs is = grind (arith, common_steps, is)
-
-there : {X : Type 0} (p : X → Bool) (x : X) (xs : List X) → p x ≡ false → position p (x ∷ xs) ≡ option_map suc (position p xs)
-there p x xs is = grind (arith, common_steps, is)
-
 dropped : {X : Type 0} (n i : ℕ) (xs : List X) → slice_get (drop n xs) i ≡ slice_get xs (n + i)
 dropped zero i xs = let e : 0 + i ≡ i = omega arith in rw e refl
 dropped (suc n) i [] = refl
@@ -131,27 +118,31 @@ placed : (named languages : List ℕ) (texts : List (List ℕ)) (index language 
 placed named languages texts index language o is =
     ap (λ p. option_map units_bytes (option_and_then (slice_get texts) (option_and_then (λ r. option_map (λ c. r * length named + c) (position (λ n. n == index) named)) p))) (sym is)
 
+-- the named indices are in order
+named_ascending : (indices : List ℕ) → Ascending 255 1 (named_among indices)
+unfolding named_among
+named_ascending indices = ascending (λ n. list_any (λ index. index == n) indices) 255 1
+
 -- a string is found by its index in its language
-language_found : (named languages : List ℕ) (texts : List (List ℕ)) (index language : ℕ) →
-    option_and_then (string_in index) (find_in (language_pieces named languages texts) 128 0 language) ≡ option_map units_bytes (units_at (record { languages = languages; texts = texts }) named index language)
+language_found : (named languages : List ℕ) (texts : List (List ℕ)) (i language : ℕ) → Ascending 255 1 named →
+    option_and_then (string_in (suc i)) (find_in (language_pieces named languages texts) 128 0 language) ≡ option_map units_bytes (units_at (record { languages = languages; texts = texts }) named (suc i) language)
 unfolding language_pieces
-language_found named [] texts index language = refl
-language_found named (l ∷ languages) texts index language = by (l == language) refl (language_found named languages (drop (length named) texts) index language)
+language_found named [] texts i language in_order = refl
+language_found named (l ∷ languages) texts i language in_order = by (l == language) refl (language_found named languages (drop (length named) texts) i language in_order)
   where
     by : (b : Bool) → (l == language) ≡ b →
-        option_and_then (string_in index) (find_in (language_pieces named languages (drop (length named) texts)) 128 0 language) ≡ option_map units_bytes (units_at (record { languages = languages; texts = drop (length named) texts }) named index language) →
-        option_and_then (string_in index) (find_in (language_pieces named (l ∷ languages) texts) 128 0 language) ≡ option_map units_bytes (units_at (record { languages = l ∷ languages; texts = texts }) named index language)
+        option_and_then (string_in (suc i)) (find_in (language_pieces named languages (drop (length named) texts)) 128 0 language) ≡ option_map units_bytes (units_at (record { languages = languages; texts = drop (length named) texts }) named (suc i) language) →
+        option_and_then (string_in (suc i)) (find_in (language_pieces named (l ∷ languages) texts) 128 0 language) ≡ option_map units_bytes (units_at (record { languages = l ∷ languages; texts = texts }) named (suc i) language)
     by true is later =
-        seen language l index (image_bytes (named_strings named texts)) (language_pieces named languages (drop (length named) texts)) true is
-        ∙ ap (λ ps. find_in ps 3 index 0) (read_back (named_strings named texts))
-        ∙ string_found index named texts
-        ∙ ap (λ o. option_map units_bytes (option_and_then (slice_get texts) o)) (sym (zero_row (length named) (position (λ n. n == index) named)))
-        ∙ placed named (l ∷ languages) texts index language (Some 0) (here (λ m. m == language) l languages is)
+        seen language l (suc i) (language_bytes named texts) (language_pieces named languages (drop (length named) texts)) true is
+        ∙ string_found named texts i in_order
+        ∙ ap (λ o. option_map units_bytes (option_and_then (slice_get texts) o)) (sym (zero_row (length named) (position (λ n. n == suc i) named)))
+        ∙ placed named (l ∷ languages) texts (suc i) language (Some 0) (here (λ m. m == language) l languages is)
     by false is later =
-        seen language l index (image_bytes (named_strings named texts)) (language_pieces named languages (drop (length named) texts)) false is
+        seen language l (suc i) (language_bytes named texts) (language_pieces named languages (drop (length named) texts)) false is
         ∙ later
-        ∙ ap (λ o. option_map units_bytes o) (next_row texts (length named) (position (λ m. m == language) languages) (position (λ n. n == index) named))
-        ∙ placed named (l ∷ languages) texts index language (option_map suc (position (λ m. m == language) languages)) (there (λ m. m == language) l languages is)
+        ∙ ap (λ o. option_map units_bytes o) (next_row texts (length named) (position (λ m. m == language) languages) (position (λ n. n == suc i) named))
+        ∙ placed named (l ∷ languages) texts (suc i) language (option_map suc (position (λ m. m == language) languages)) (there (λ m. m == language) l languages is)
 
 -- What is found in all of them.
 
@@ -175,11 +166,11 @@ either : (b : Bool) (o : Option (List ℕ)) → (if b then o else o) ≡ o
 either true o = refl
 either false o = refl
 
-in_strings : (named : List ℕ) (s : Option Strings) (index language : ℕ) →
+in_strings : (named : List ℕ) (s : Option Strings) (index language : ℕ) → Ascending 255 1 named →
     (if index == 0 then find_in (string_pieces named s) 3 0 0 else option_and_then (string_in index) (find_in (string_pieces named s) 128 0 language)) ≡ string_at s named index language
-in_strings named None index language = either (index == 0) None
-in_strings named (Some s) index language =
-    ap (λ o. if index == 0 then Some (units_bytes s.languages) else o) (language_found named s.languages s.texts index language)
+in_strings named None index language in_order = either (index == 0) None
+in_strings named (Some s) zero language in_order = refl
+in_strings named (Some s) (suc i) language in_order = language_found named s.languages s.texts i language in_order
 
 module _ (f : DescriptorFile) where
   sets : List Piece
@@ -234,7 +225,7 @@ module _ (f : DescriptorFile) where
   offers_string index language =
       ap (λ o. if index == 0 then o else option_and_then (string_in index) (find_in (file_pieces f) 128 0 language)) (in_texts 3 0 refl refl refl refl)
       ∙ ap (λ o. if index == 0 then find_in strings 3 0 0 else option_and_then (string_in index) o) (in_texts 128 language refl refl refl refl)
-      ∙ in_strings (named_indices f) f.strings index language
+      ∙ in_strings (named_indices f) f.strings index language (named_ascending (string_indices f))
 
   pub offers_descriptor : (kind index language : ℕ) → descriptor_in (file_pieces f) kind index language ≡ descriptor f kind index language
   offers_descriptor kind index language = λ i.

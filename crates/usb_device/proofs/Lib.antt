@@ -7,6 +7,7 @@ pub mod FitLemmas
 pub mod Replies
 pub mod OpenLemmas
 pub mod PieceLemmas
+pub mod TableLemmas
 pub mod FoundLemmas
 pub mod OfferLemmas
 pub mod LongLemmas

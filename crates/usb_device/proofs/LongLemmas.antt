@@ -1,12 +1,12 @@
--- Strings and their pieces.
-use Rattle.std.proofs.Common.{◌≡◌, ℕ, zero, suc, ◌+◌, ◌*◌, ◌<◌, ◌≤◌, List, [], ◌∷◌, ◌++◌, false, length, drop, get_or, refl, arith, min}
+-- Strings, and the pieces of languages.
+use Rattle.std.proofs.Common.{◌≡◌, ℕ, zero, suc, ◌+◌, ◌*◌, ◌<◌, ◌≤◌, List, [], ◌∷◌, ◌++◌, false, length, drop, get_or, refl, arith}
 use Rattle.std.specs.List.{list_any, flat_map}
 use Rattle.std.proofs.lemmas.Grind.{common_steps}
 use Rattle.usb_fields.specs.Bytes.{little_endian}
 use Rattle.usb_fields.specs.Units.{units_bytes}
 use Rattle.usb_file_data.specs.File.{is_long_string}
 use Rattle.usb_device.specs.Images.{image_bytes, piece_bytes}
-use Rattle.usb_device.specs.FileImages.{keyed, language_pieces, named_strings}
+use Rattle.usb_device.specs.FileImages.{language_bytes, language_pieces}
 
 flat_long : (u : List ℕ) → length (flat_map little_endian u) ≡ 2 * length u
 flat_long [] = refl
@@ -33,30 +33,9 @@ drop-get i [] d within = absurd (omega (arith, within))
 drop-get zero (x ∷ xs) d within = refl
 drop-get (suc i) (x ∷ xs) d within = let e : suc i + 1 ≡ suc (i + 1) = omega arith in rw e (drop-get i xs d (omega (arith, within)))
 
-no_texts : (named : List ℕ) → named_strings named [] ≡ []
-unfolding named_strings
-no_texts [] = refl
-no_texts (n ∷ named) = refl
-
--- one string more
-pub string_more : (i : ℕ) (named : List ℕ) (texts : List (List ℕ)) (n : ℕ) (u : List ℕ) → i < length named → i < length texts →
-    image_bytes (named_strings (drop i named) (drop i texts)) ≡ piece_bytes (keyed 3 (get_or named i n) (units_bytes (get_or texts i u))) ++ image_bytes (named_strings (drop (i + 1) named) (drop (i + 1) texts))
-unfolding named_strings
-string_more i named texts n u a b = rw (drop-get i named n a, drop-get i texts u b) refl
-
--- and at the end of either list no more
-pub no_strings : (i : ℕ) (named : List ℕ) (texts : List (List ℕ)) → min (length named) (length texts) ≤ i → named_strings (drop i named) (drop i texts) ≡ []
-unfolding named_strings
-no_strings zero [] texts ends = refl
-no_strings zero (n ∷ named) [] ends = refl
-no_strings zero (n ∷ named) (u ∷ texts) ends = absurd (let no : ⊥ = omega (arith, ends) in no)
-no_strings (suc i) [] texts ends = refl
-no_strings (suc i) (n ∷ named) [] ends = no_texts (drop i named)
-no_strings (suc i) (n ∷ named) (u ∷ texts) ends = no_strings i named texts (omega (arith, ends))
-
 -- one language more
 pub language_more : (named languages : List ℕ) (i : ℕ) (texts : List (List ℕ)) (l : ℕ) → i < length languages →
-    image_bytes (language_pieces named (drop i languages) texts) ≡ piece_bytes (record { kind = 128; index = 0; number = get_or languages i l; body = image_bytes (named_strings named texts) }) ++ image_bytes (language_pieces named (drop (i + 1) languages) (drop (length named) texts))
+    image_bytes (language_pieces named (drop i languages) texts) ≡ piece_bytes (record { kind = 128; index = 0; number = get_or languages i l; body = language_bytes named texts }) ++ image_bytes (language_pieces named (drop (i + 1) languages) (drop (length named) texts))
 unfolding language_pieces
 language_more named languages i texts l a = rw (drop-get i languages l a) refl
 

@@ -77,16 +77,16 @@ pub passed_at : (k i n at : ℕ) (b : List ℕ) → at + 8 ≤ length b → has_
 passed_at k i n at b within is =
     sym (ap (find (has_key k i n)) (piece_at at b within) ∙ first_other (has_key k i n) (piece_in (drop at b)) (pieces_of (drop (at + 8 + count_in (drop at b)) b)) is)
 
-word_back : (n : ℕ) → n % 256 + 256 * (n / 256) ≡ n
+pub word_back : (n : ℕ) → n % 256 + 256 * (n / 256) ≡ n
 word_back n = grind arith
 
 long_back : (n : ℕ) → n % 65536 + 65536 * (n / 65536) ≡ n
 long_back n = grind arith
 
-take_all : (xs ys : List ℕ) → take (length xs) (xs ++ ys) ≡ xs
+pub take_all : (xs ys : List ℕ) → take (length xs) (xs ++ ys) ≡ xs
 take_all xs ys = grind (arith, common_steps)
 
-drop_all : (xs ys : List ℕ) → drop (length xs) (xs ++ ys) ≡ ys
+pub drop_all : (xs ys : List ℕ) → drop (length xs) (xs ++ ys) ≡ ys
 drop_all xs ys = grind (arith, common_steps)
 
 -- the count of a piece is that of its bytes

@@ -1,6 +1,7 @@
 -- Places in an image.
-use Rattle.std.proofs.Common.{◌≡◌, ℕ, zero, suc, ◌+◌, ◌≤◌, List, [], ◌∷◌, length, take, drop, refl, ap, sym, ◌∙◌, arith, Some}
+use Rattle.std.proofs.Common.{◌≡◌, ℕ, zero, suc, ◌+◌, ◌≤◌, List, [], ◌∷◌, length, take, drop, min, refl, ap, sym, ◌∙◌, arith, Some}
 use Rattle.std.specs.Prelude.{option_and_then}
+use Rattle.std.proofs.lemmas.Grind.{common_steps}
 use Rattle.std.proofs.lemmas.List.{drop-drop}
 use Rattle.usb_device.specs.declared.piece.Place.{Place}
 use Rattle.usb_device.specs.Images.{find_in, pieces_of, string_in}
@@ -19,7 +20,15 @@ part_at b s p within = part_of_part s.count p.start p.count (drop s.start b) wit
 
 -- a string in the part of its language
 pub string_there : (b : List ℕ) (s p : Place) (index language : ℕ) → IsPlace (bytes_at b s) p → Some (bytes_at b s) ≡ find_in (pieces_of b) 128 0 language →
-    Some (bytes_at (bytes_at b s) p) ≡ find_in (pieces_of (bytes_at b s)) 3 index 0 →
+    Some (bytes_at (bytes_at b s) p) ≡ string_in index (bytes_at b s) →
     Some (bytes_at b (record { start = s.start + p.start; count = p.count })) ≡ option_and_then (string_in index) (find_in (pieces_of b) 128 0 language)
 string_there b s p index language within strings found =
     ap (λ x. Some x) (sym (part_at b s p within)) ∙ found ∙ ap (option_and_then (string_in index)) strings
+
+-- a string among those of its language, behind their table
+pub from_place : (n s t : ℕ) (b : List ℕ) → take n (drop (min (2 + s + t) (length b)) b) ≡ take n (drop t (drop s (drop 2 b)))
+from_place n s t b =
+    ap (take n) (drop_most (2 + s + t) b ∙ sym (ap (drop t) (drop-drop s 2 b) ∙ drop-drop t (2 + s) b))
+  where
+    drop_most : (n : ℕ) (b : List ℕ) → drop (min n (length b)) b ≡ drop n b
+    drop_most n b = grind (arith, common_steps)

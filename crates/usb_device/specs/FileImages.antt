@@ -1,5 +1,5 @@
 -- The image of a descriptor file.
-use Rattle.std.specs.Prelude.{ℕ, suc, List, [], ◌∷◌, ◌++◌, length, drop, map, Option, None, Some}
+use Rattle.std.specs.Prelude.{ℕ, zero, suc, ◌+◌, ◌==◌, List, [], ◌∷◌, ◌++◌, length, take, drop, map, Option, None, Some, if◌then◌else◌}
 use Rattle.std.specs.List.{flat_map}
 use Rattle.usb_fields.specs.Units.{units_bytes}
 use Rattle.usb_set.specs.declared.tree.Configuration.{Configuration}
@@ -10,7 +10,7 @@ use Rattle.usb_file_data.specs.declared.file.Other.{Other}
 use Rattle.usb_file_data.specs.declared.file.Strings.{Strings}
 use Rattle.usb_fields.specs.Device.{device_bytes, qualifier_bytes}
 use Rattle.usb_file_data.specs.File.{whole_set, named_indices}
-use Rattle.usb_device.specs.Images.{Piece, image_bytes}
+use Rattle.usb_device.specs.Images.{Piece, image_bytes, strings_bytes}
 
 -- a descriptor with its type and index
 abbrev pub keyed : ℕ → ℕ → List ℕ → Piece
@@ -39,17 +39,24 @@ abbrev pub other_pieces : Option Other → List Piece
 other_pieces None = []
 other_pieces (Some o) = keyed 6 0 (qualifier_bytes o.qualifier) ∷ indexed 7 0 (map whole_set o.sets)
 
--- the strings of a language: one for each of the named indices
-unfoldable pub named_strings : List ℕ → List (List ℕ) → List Piece
-named_strings [] texts = []
-named_strings (index ∷ named) [] = []
-named_strings (index ∷ named) (units ∷ texts) = keyed 3 index (units_bytes units) ∷ named_strings named texts
+-- the places of the strings of these indices, where so many indices are left, from this one on, and the strings from this place
+-- on, and where the last one ends
+unfoldable pub places : ℕ → ℕ → ℕ → List ℕ → List (List ℕ) → List ℕ
+places zero next at named texts = at ∷ []
+places (suc n) next at [] texts = at ∷ []
+places (suc n) next at (index ∷ named) [] = at ∷ []
+places (suc n) next at (index ∷ named) (units ∷ texts) =
+    at ∷ (if index == next then places n (next + 1) (at + length (units_bytes units)) named texts else places n (next + 1) at (index ∷ named) (units ∷ texts))
+
+-- the strings of a language: the first of these texts, one for each of the named indices
+abbrev pub language_bytes : List ℕ → List (List ℕ) → List ℕ
+language_bytes named texts = strings_bytes (places 255 1 0 named texts) (flat_map units_bytes (take (length named) texts))
 
 -- those of each language: the strings are language by language
 unfoldable pub language_pieces : List ℕ → List ℕ → List (List ℕ) → List Piece
 language_pieces named [] texts = []
 language_pieces named (language ∷ languages) texts =
-    record { kind = 128; index = 0; number = language; body = image_bytes (named_strings named texts) }
+    record { kind = 128; index = 0; number = language; body = language_bytes named texts }
     ∷ language_pieces named languages (drop (length named) texts)
 
 -- the language list and the strings, if there are any

@@ -1,6 +1,6 @@
 -- A device image: the descriptors that a device hands out, and what requests can name, as one byte string that is read
 -- where it lies. It is a list of pieces, and any bytes are one.
-use Rattle.std.specs.Prelude.{ℕ, zero, suc, ◌+◌, ◌*◌, ◌%◌, ◌/◌, ◌==◌, ◌&&◌, Bool, List, [], ◌∷◌, ◌++◌, length, take, drop, nat_lt, slice_index, find, Option, None, option_and_then, if◌then◌else◌}
+use Rattle.std.specs.Prelude.{ℕ, zero, suc, ◌+◌, ◌-◌, ◌*◌, ◌%◌, ◌/◌, ◌==◌, ◌&&◌, Bool, List, [], ◌∷◌, ◌++◌, length, take, drop, nat_lt, slice_index, find, Option, None, Some, option_and_then, if◌then◌else◌}
 use Rattle.std.specs.Option.{option_map}
 use Rattle.std.specs.List.{flat_map}
 use Rattle.usb_fields.specs.Bytes.{little_endian, little_endian_at}
@@ -11,7 +11,7 @@ use Rattle.usb_fields.specs.Bytes.{little_endian, little_endian_at}
 --   0    the head: the version of the format, and bMaxPacketSize0
 --   1    the device descriptor (USB 2.0, 9.6.1), 2 a set (9.6.3), 6 the qualifier (9.6.2), 7 a set of the other speed (9.6.4),
 --        each with its index, and 3 the language list (9.6.7)
---   128  the strings of a language, which is its number: each is a piece of kind 3 with its index
+--   128  the strings of a language, which is its number: a table of places, and the strings one after another ("Strings" below)
 --   129  what requests can name: each set of the device is a piece of kind 2 with its bConfigurationValue and
 --        bmAttributes, each setting in it one of kind 4 with its bInterfaceNumber and bAlternateSetting, and each endpoint
 --        there two bytes, bEndpointAddress and bmAttributes
@@ -76,15 +76,36 @@ pieces_within (suc n) b = if nat_lt (length b) 8 then [] else piece_in b ∷ pie
 unfoldable pub pieces_of : List ℕ → List Piece
 pieces_of b = pieces_within (length b) b
 
+-- Strings. Those of a language are found by a table of places: for each index, from 1 to the last one that is named, where its
+-- string begins among the strings, and at the end where the last string ends. A string ends where the next one begins, so an
+-- index whose place is that of the next one has no string. All are numbers of two bytes: in a language are at most 255 strings
+-- of at most 254 bytes (9.6.7), and so 64,770 bytes. Before the table is how many bytes it has. An index that is not named costs
+-- two bytes where a higher one is: 474 in each language with strings 1 and 0xEE, which Microsoft's OS descriptors have.
+
+-- a table
+abbrev pub table_bytes : List ℕ → List ℕ
+table_bytes places = flat_map little_endian places
+
+-- the strings of a language, of places among these bytes
+abbrev pub strings_bytes : List ℕ → List ℕ → List ℕ
+strings_bytes places strings = little_endian (length (table_bytes places)) ++ (table_bytes places ++ strings)
+
+-- the bytes from a place to a later one
+abbrev pub bytes_between : ℕ → ℕ → List ℕ → Option (List ℕ)
+bytes_between start end b = if nat_lt start end then Some (take (end - start) (drop start b)) else None
+
+-- the string of this index, from 1 on, in the strings of a language
+abbrev pub string_in : ℕ → List ℕ → Option (List ℕ)
+string_in index b =
+    if nat_lt (2 * index) (little_endian_at b 0)
+    then bytes_between (little_endian_at b (2 * index)) (little_endian_at b (2 * index + 2)) (drop (little_endian_at b 0) (drop 2 b))
+    else None
+
 -- What a device hands out by it.
 
 -- the bytes of the first piece that these numbers name
 abbrev pub find_in : List Piece → ℕ → ℕ → ℕ → Option (List ℕ)
 find_in ps kind index number = option_map body_of (find (has_key kind index number) ps)
-
--- the string of this index among these pieces
-abbrev pub string_in : ℕ → List ℕ → Option (List ℕ)
-string_in index strings = find_in (pieces_of strings) 3 index 0
 
 -- the descriptor of this type and index, in this language where it is a string (9.4.3)
 abbrev pub descriptor_in : List Piece → ℕ → ℕ → ℕ → Option (List ℕ)

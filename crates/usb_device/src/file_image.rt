@@ -7,12 +7,13 @@ ghost use Rattle.usb_fields.specs.Units.{units_bytes};
 ghost use Rattle.usb_file_data.specs.File.{has_long_string, has_no_layout, is_long_string, other_sets, whole_set};
 ghost use Rattle.usb_device.specs.Accepted.{has_wrong_sets, Accepted, Refuses};
 ghost use Rattle.usb_device.specs.Images.{image_bytes, piece_bytes};
-ghost use Rattle.usb_device.specs.FileImages.{endpoint_bytes, front_pieces, image_of, indexed, keyed, language_pieces, named_strings, other_pieces, set_piece, setting_piece, speed_pieces, string_pieces};
+ghost use Rattle.usb_device.specs.FileImages.{endpoint_bytes, front_pieces, image_of, indexed, keyed, language_pieces, other_pieces, set_piece, setting_piece, speed_pieces, string_pieces};
 
 use crate::acceptance::{DescriptionFault, examine, has_wrong_sets};
 use crate::piece;
+use crate::string_table::{self, add_units, string_length};
 use std::alloc::{AllocError, Global};
-use usb_fields::{Sequence, Speed, UnitFault, descriptor_type, write_units_onto};
+use usb_fields::{Sequence, Speed, descriptor_type};
 use usb_file_data::{DescriptorFile, Other, Strings, has_wrong_count, has_wrong_kind, named};
 use usb_set::{Configuration, EncodeFault, Endpoint, Setting, encode_onto};
 
@@ -254,7 +255,7 @@ fn add_each_language(
     requires texts { list_any is_long_string strings.now.texts ≡ false }
     ensures { OnOk result (pieces.new.items ≡ pieces.old.items ++ image_bytes (keyed 3 0 (units_bytes strings.now.languages) ∷ language_pieces named.now strings.now.languages strings.now.texts)) }
 {
-    add_string(pieces, 0, &strings.languages)?;
+    add_language_list(pieces, &strings.languages)?;
     add_languages(alloc, pieces, named, &strings.languages, &strings.texts)?;
     Ok(())
 }
@@ -272,7 +273,7 @@ fn add_languages(
 {
     let mut left = texts;
     for language in languages {
-        let strings = strings_of(alloc, named, left)?;
+        let strings = string_table::write(alloc, named, left)?;
         piece::add(pieces, LANGUAGE, 0, *language, &strings)?;
         left = after_those(left, named.len());
     }
@@ -290,43 +291,18 @@ fn after_those(texts: &[Sequence<u16>], count: usize) -> &[Sequence<u16>]
     }
 }
 
-/// The strings of one language, as pieces: the first of these texts are its.
-#[tactic(auto, using(crate::proofs::LongLemmas::short_at))]
-fn strings_of(alloc: Global, named: &[u8], texts: &[Sequence<u16>]) -> Result<Vec<u8>, AllocError>
-    requires { list_any is_long_string texts.now ≡ false }
-    ensures { IfOk result (λ b. b.items ≡ image_bytes (named_strings named.now texts.now)) }
-{
-    let mut strings = Vec::new(alloc);
-    for i in 0..named.len().min(texts.len()) {
-        add_string(&mut strings, named[i], &texts[i])?;
-    }
-    Ok(strings)
-}
-
-/// Adds a string or the language list.
-fn add_string(pieces: &mut Vec<u8>, index: u8, units: &[u16]) -> Result<(), AllocError>
-    requires { is_long_string units.now ≡ false }
-    ensures { OnOk result (pieces.new.items ≡ pieces.old.items ++ piece_bytes (keyed 3 index (units_bytes units.now))) }
+/// Adds the language list.
+fn add_language_list(pieces: &mut Vec<u8>, languages: &[u16]) -> Result<(), AllocError>
+    requires { is_long_string languages.now ≡ false }
+    ensures { OnOk result (pieces.new.items ≡ pieces.old.items ++ piece_bytes (keyed 3 0 (units_bytes languages.now))) }
 {
     piece::add_header(
         pieces,
         descriptor_type::STRING,
-        index,
         0,
-        string_length(units),
+        0,
+        string_length(languages),
     )?;
-    match write_units_onto(units, pieces) {
-        Ok(()) => Ok(()),
-        Err(UnitFault::Memory) => Err(AllocError),
-        Err(_) => unreachable!(),
-    }
-}
-
-/// bLength of a string or the language list.
-#[tactic(auto, using(crate::proofs::LongLemmas::units_long))]
-fn string_length(units: &[u16]) -> usize
-    requires { is_long_string units.now ≡ false }
-    ensures { result ≡ length (units_bytes units.now) }
-{
-    2 + 2 * units.len()
+    add_units(pieces, languages)?;
+    Ok(())
 }

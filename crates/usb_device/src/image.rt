@@ -9,6 +9,7 @@ ghost use Rattle.usb_device.specs.inside.Sets.{sets_left};
 use crate::file_image::{LANGUAGE, SETS};
 use crate::piece::{Place, find};
 use crate::sets::Sets;
+use crate::string_table;
 use usb_fields::{descriptor_type, word_at};
 
 /// All that a device answers from, as one byte string that is read where it lies: what [`write_image`](crate::write_image)
@@ -86,7 +87,7 @@ fn find_string(pieces: &[u8], index: u8, language: u16) -> Option<Place>
     ensures within { IfSome result (IsPlace pieces.now) }
 {
     let strings = find(pieces, LANGUAGE, 0, language)?;
-    let place = find(strings.bytes(pieces), descriptor_type::STRING, index, 0)?;
+    let place = string_table::find(strings.bytes(pieces), index)?;
     Some(Place {
         start: strings.start + place.start,
         count: place.count,

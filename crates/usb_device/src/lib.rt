@@ -47,6 +47,7 @@ mod request;
 mod sets;
 mod stage;
 mod state;
+mod string_table;
 mod transaction;
 
 pub use acceptance::DescriptionFault;

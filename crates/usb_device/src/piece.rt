@@ -29,7 +29,7 @@ pub(crate) struct Place {
 impl Place {
     /// That of so many bytes from a place on, or of those that there are.
     #[inline(always)]
-    fn new(bytes: &[u8], start: usize, count: usize) -> Place
+    pub(crate) fn new(bytes: &[u8], start: usize, count: usize) -> Place
         requires { start ≤ length bytes.now }
         ensures place { bytes_at bytes.now result ≡ take count (drop start bytes.now) }
         ensures within { IsPlace bytes.now result }

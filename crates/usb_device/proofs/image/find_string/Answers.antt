@@ -1,5 +1,5 @@
 use Rattle.std.proofs.Common.{◌≡◌, List, Some, ℕ, subst}
-use Rattle.usb_device.specs.Images.{find_in, pieces_of}
+use Rattle.usb_device.specs.Images.{string_in}
 use Rattle.usb_device.specs.inside.Places.{bytes_at, IsPlace}
 use Rattle.usb_device.proofs.PlaceLemmas.{string_there}
 use Rattle.usb_device.proofs.image.find_string.Goals as goal
@@ -12,4 +12,4 @@ returns-clause-found c =
     string_there c.args.pieces.now s p index c.args.language
     (subst (λ (b : List ℕ). IsPlace b p) c.bytes.ensures c.in_ok-place.ensures.within)
     c.in_ok-strings.ensures.found
-    (subst (λ (b : List ℕ). Some (bytes_at b p) ≡ find_in (pieces_of b) 3 index 0) c.bytes.ensures c.in_ok-place.ensures.found)
+    (subst (λ (b : List ℕ). Some (bytes_at b p) ≡ string_in index b) c.bytes.ensures c.in_ok-place.ensures.found)
