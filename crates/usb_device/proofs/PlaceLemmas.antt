@@ -1,8 +1,7 @@
 -- Places in an image.
 use Rattle.std.proofs.Common.{◌≡◌, ℕ, zero, suc, ◌+◌, ◌≤◌, List, [], ◌∷◌, length, take, drop, min, refl, ap, sym, ◌∙◌, arith, Some}
 use Rattle.std.specs.Prelude.{option_and_then}
-use Rattle.std.proofs.lemmas.Grind.{common_steps}
-use Rattle.std.proofs.lemmas.List.{drop-drop}
+use Rattle.std.proofs.lemmas.List.{drop-drop, drop_min}
 use Rattle.usb_device.specs.declared.piece.Place.{Place}
 use Rattle.usb_device.specs.Images.{find_in, pieces_of, string_in}
 use Rattle.usb_device.specs.inside.Places.{bytes_at, IsPlace}
@@ -27,8 +26,4 @@ string_there b s p index language within strings found =
 
 -- a string among those of its language, behind their table
 pub from_place : (n s t : ℕ) (b : List ℕ) → take n (drop (min (2 + s + t) (length b)) b) ≡ take n (drop t (drop s (drop 2 b)))
-from_place n s t b =
-    ap (take n) (drop_most (2 + s + t) b ∙ sym (ap (drop t) (drop-drop s 2 b) ∙ drop-drop t (2 + s) b))
-  where
-    drop_most : (n : ℕ) (b : List ℕ) → drop (min n (length b)) b ≡ drop n b
-    drop_most n b = grind (arith, common_steps)
+from_place n s t b = ap (take n) (drop_min (2 + s + t) b ∙ sym (ap (drop t) (drop-drop s 2 b) ∙ drop-drop t (2 + s) b))

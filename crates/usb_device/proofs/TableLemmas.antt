@@ -84,10 +84,6 @@ some_place (suc n) next at [] texts = omega arith
 some_place (suc n) next at (m ∷ named) [] = omega arith
 some_place (suc n) next at (m ∷ named) (u ∷ texts) = omega arith
 
-none_of_none : {X Y : Type 0} (f : X → Option Y) (o : Option X) → ((x : X) → f x ≡ None) → option_and_then f o ≡ None
-none_of_none f None none = refl
-none_of_none f (Some x) none = none x
-
 moved : {X : Type 0} (x : X) (xs : List X) (o : Option ℕ) → option_and_then (slice_get (x ∷ xs)) (option_map suc o) ≡ option_and_then (slice_get xs) o
 moved x xs None = refl
 moved x xs (Some i) = refl
@@ -130,69 +126,53 @@ seen zero next i (m ∷ named) texts pre h = absurd h
 seen (suc n) next i [] texts pre h = at_end (length pre) i _
 seen (suc n) next i (m ∷ named) [] pre h = at_end (length pre) i _ ∙ ap (option_map units_bytes) (sym (no_text (position (λ k. k == next + i) (m ∷ named))))
 seen (suc n) next zero (m ∷ named) (u ∷ texts) pre (inl h) =
-    let a = length pre in
-    let b = a + length (units_bytes u) in
-    let rest = flat_map units_bytes (take (length named) texts) in
+    let b = length pre + length (units_bytes u) in
     let is : (m == next + 0) ≡ true = (let e = h.0 in grind (arith, nat_tests, e)) in
-    ap (λ t. picked (a ∷ (if t then places n (next + 1) b named texts else places n (next + 1) a (m ∷ named) (u ∷ texts))) 0 (pre ++ (units_bytes u ++ rest))) h.0
-    ∙ next_to a b (places n (next + 1) b named texts) _ (some_place n (next + 1) b named texts) (first_place n (next + 1) b named texts)
-    ∙ first_string u pre rest
-    ∙ ap (found_of (u ∷ texts)) (sym (here (λ k. k == next + 0) m named is))
+    rw h.0
+    (next_to (length pre) b (places n (next + 1) b named texts) _ (some_place n (next + 1) b named texts) (first_place n (next + 1) b named texts)
+    ∙ first_string u pre _
+    ∙ ap (found_of (u ∷ texts)) (sym (here (λ k. k == next + 0) m named is)))
 seen (suc n) next (suc i) (m ∷ named) (u ∷ texts) pre (inl h) =
-    let a = length pre in
-    let b = a + length (units_bytes u) in
+    let b = length pre + length (units_bytes u) in
     let rest = flat_map units_bytes (take (length named) texts) in
     let other : (m == next + suc i) ≡ false = (let e = h.0 in grind (arith, nat_tests, e)) in
     let on : next + 1 + i ≡ next + suc i = omega arith in
-    ap (λ t. picked (a ∷ (if t then places n (next + 1) b named texts else places n (next + 1) a (m ∷ named) (u ∷ texts))) (suc i) (pre ++ (units_bytes u ++ rest))) h.0
-    ∙ later a i (places n (next + 1) b named texts) _
-    ∙ ap (picked (places n (next + 1) b named texts) i) (sym (append_assoc pre (units_bytes u) rest))
-    ∙ ap (λ c. picked (places n (next + 1) c named texts) i (pre ++ units_bytes u ++ rest)) (sym (length-append pre (units_bytes u)))
-    ∙ seen n (next + 1) i named texts (pre ++ units_bytes u) h.1
-    ∙ ap (λ k. sought k named texts) on
+    rw h.0
+    (later (length pre) i (places n (next + 1) b named texts) _
+    ∙ rw (sym (append_assoc pre (units_bytes u) rest), sym (length-append pre (units_bytes u)), sym on) (seen n (next + 1) i named texts (pre ++ units_bytes u) h.1)
     ∙ ap (option_map units_bytes) (sym (moved u texts (position (λ k. k == next + suc i) named)))
-    ∙ ap (found_of (u ∷ texts)) (sym (there (λ k. k == next + suc i) m named other))
+    ∙ ap (found_of (u ∷ texts)) (sym (there (λ k. k == next + suc i) m named other)))
 seen (suc n) next zero (m ∷ named) (u ∷ texts) pre (inr h) =
-    let a = length pre in
-    let b = a + length (units_bytes u) in
-    ap (λ t. picked (a ∷ (if t then places n (next + 1) b named texts else places n (next + 1) a (m ∷ named) (u ∷ texts))) 0 (pre ++ flat_map units_bytes (take (length (m ∷ named)) (u ∷ texts)))) h.0
-    ∙ next_to a a (places n (next + 1) a (m ∷ named) (u ∷ texts)) _ (some_place n (next + 1) a (m ∷ named) (u ∷ texts)) (first_place n (next + 1) a (m ∷ named) (u ∷ texts))
-    ∙ no_bytes a _
-    ∙ ap (found_of (u ∷ texts)) (sym (absent n (next + 1) (next + 0) (m ∷ named) h.1 (omega arith)))
+    let ws = places n (next + 1) (length pre) (m ∷ named) (u ∷ texts) in
+    rw h.0
+    (next_to (length pre) (length pre) ws _ (some_place n (next + 1) (length pre) (m ∷ named) (u ∷ texts)) (first_place n (next + 1) (length pre) (m ∷ named) (u ∷ texts))
+    ∙ no_bytes (length pre) _
+    ∙ ap (found_of (u ∷ texts)) (sym (absent n (next + 1) (next + 0) (m ∷ named) h.1 (omega arith))))
 seen (suc n) next (suc i) (m ∷ named) (u ∷ texts) pre (inr h) =
-    let a = length pre in
-    let b = a + length (units_bytes u) in
     let on : next + 1 + i ≡ next + suc i = omega arith in
-    ap (λ t. picked (a ∷ (if t then places n (next + 1) b named texts else places n (next + 1) a (m ∷ named) (u ∷ texts))) (suc i) (pre ++ flat_map units_bytes (take (length (m ∷ named)) (u ∷ texts)))) h.0
-    ∙ later a i (places n (next + 1) a (m ∷ named) (u ∷ texts)) _
+    rw h.0
+    (later (length pre) i (places n (next + 1) (length pre) (m ∷ named) (u ∷ texts)) _
     ∙ seen n (next + 1) i (m ∷ named) (u ∷ texts) pre h.1
-    ∙ ap (λ k. sought k (m ∷ named) (u ∷ texts)) on
+    ∙ ap (λ k. sought k (m ∷ named) (u ∷ texts)) on)
 
 -- a table is read as it was written
-read_by : (ws s : List ℕ) (i : ℕ) (r : Bool) → nat_lt (suc i) (length ws) ≡ r → string_in (suc i) (strings_bytes ws s) ≡ picked ws i s
-read_by ws s i r is =
-    let t = length (table_bytes ws) in
-    let b = strings_bytes ws s in
-    let test : nat_lt (2 * suc i) t ≡ r = (let long = table_long ws in grind (arith, nat_tests, long, is)) in
-    ap (λ n. if nat_lt (2 * suc i) n then bytes_between (little_endian_at b (2 * suc i)) (little_endian_at b (2 * suc i + 2)) (drop n (table_bytes ws ++ s)) else None) (word_back t)
-    ∙ ap (λ q. if q then bytes_between (little_endian_at b (2 * suc i)) (little_endian_at b (2 * suc i + 2)) (drop t (table_bytes ws ++ s)) else None) test
-    ∙ by r is
-    ∙ ap (λ q. if q then bytes_between (get_or ws i 0) (get_or ws (suc i) 0) s else None) (sym is)
+abbrev size : List ℕ → ℕ
+size ws = length (table_bytes ws)
+
+read_table : (ws s : List ℕ) (i : ℕ) → string_in (suc i) (strings_bytes ws s) ≡ picked ws i s
+read_table ws s i = rw (word_back (size ws), test) (by (nat_lt (suc i) (length ws)) refl)
   where
+    test : nat_lt (2 * suc i) (size ws) ≡ nat_lt (suc i) (length ws)
+    test = let long = table_long ws in grind (arith, nat_tests, long)
+
     by : (r : Bool) → nat_lt (suc i) (length ws) ≡ r →
-        (if r then bytes_between (little_endian_at (strings_bytes ws s) (2 * suc i)) (little_endian_at (strings_bytes ws s) (2 * suc i + 2)) (drop (length (table_bytes ws)) (table_bytes ws ++ s)) else None)
+        (if r then bytes_between (little_endian_at (strings_bytes ws s) (2 * suc i)) (little_endian_at (strings_bytes ws s) (2 * suc i + 2)) (drop (size ws) (table_bytes ws ++ s)) else None)
         ≡ (if r then bytes_between (get_or ws i 0) (get_or ws (suc i) 0) s else None)
     by false is = refl
     by true is =
-        let t = length (table_bytes ws) in
         let in_table : suc i < length ws = grind (arith, nat_tests, is) in
         let two : 2 * suc i + 2 ≡ 2 * suc (suc i) = omega arith in
-        let start : little_endian_at (strings_bytes ws s) (2 * suc i) ≡ get_or ws i 0 = word_there (suc i) (t ∷ ws) s (omega (arith, in_table)) in
-        let end : little_endian_at (strings_bytes ws s) (2 * suc i + 2) ≡ get_or ws (suc i) 0 = ap (little_endian_at (strings_bytes ws s)) two ∙ word_there (suc (suc i)) (t ∷ ws) s (omega (arith, in_table)) in
-        rw (start, end, drop_all (table_bytes ws) s) refl
-
-read_table : (ws s : List ℕ) (i : ℕ) → string_in (suc i) (strings_bytes ws s) ≡ picked ws i s
-read_table ws s i = read_by ws s i (nat_lt (suc i) (length ws)) refl
+        rw (two, word_there (suc i) (size ws ∷ ws) s (omega (arith, in_table)), word_there (suc (suc i)) (size ws ∷ ws) s (omega (arith, in_table)), drop_all (table_bytes ws) s) refl
 
 -- a string is found by its index
 pub string_found : (named : List ℕ) (texts : List (List ℕ)) (i : ℕ) → Ascending 255 1 named →
@@ -206,8 +186,8 @@ string_found named texts i h =
 -- places, written one by one
 pub place_more : (n next at i : ℕ) (named : List ℕ) (texts : List (List ℕ)) (d : ℕ) (u : List ℕ) → i < length named → i < length texts →
     places (suc n) next at (drop i named) (drop i texts) ≡ at ∷ (if get_or named i d == next
-        then places n (next + 1) (at + length (units_bytes (get_or texts i u))) (drop (i + 1) named) (drop (i + 1) texts)
-        else places n (next + 1) at (drop i named) (drop i texts))
+    then places n (next + 1) (at + length (units_bytes (get_or texts i u))) (drop (i + 1) named) (drop (i + 1) texts)
+    else places n (next + 1) at (drop i named) (drop i texts))
 unfolding places
 place_more n next at i named texts d u a b = rw (drop-get i named d a, drop-get i texts u b) refl
 
@@ -225,28 +205,21 @@ last_place (suc n) next at (suc i) (m ∷ named) [] ends = no_place (drop i name
     no_place (k ∷ ns) = refl
 last_place (suc n) next at (suc i) (m ∷ named) (u ∷ texts) ends = last_place (suc n) next at i named texts (omega (arith, ends))
 
-pub take_most : {X : Type 0} (n : ℕ) (xs : List X) → take (min n (length xs)) xs ≡ take n xs
-take_most n xs = grind (arith, common_steps)
-
 pub no_more : (n next at : ℕ) (named : List ℕ) (texts : List (List ℕ)) → n ≡ 0 → places n next at named texts ≡ at ∷ []
 unfolding places
 no_more n next at named texts none = rw none refl
 
 module _ (n next at i : ℕ) (named : List ℕ) (texts : List (List ℕ)) (u old : List ℕ) (in_named : i < length named) (in_texts : i < length texts) where
-  further : (b : Bool) → (get_or named i 0 == next) ≡ b →
-      old ++ table_bytes (places (suc n) next at (drop i named) (drop i texts))
-      ≡ old ++ little_endian at ++ table_bytes (if b then places n (next + 1) (at + length (units_bytes (get_or texts i u))) (drop (i + 1) named) (drop (i + 1) texts) else places n (next + 1) at (drop i named) (drop i texts))
-  further b is =
-      ap (λ ws. old ++ table_bytes ws) (place_more n next at i named texts 0 u in_named in_texts)
-      ∙ ap (λ c. old ++ table_bytes (at ∷ (if c then places n (next + 1) (at + length (units_bytes (get_or texts i u))) (drop (i + 1) named) (drop (i + 1) texts) else places n (next + 1) at (drop i named) (drop i texts)))) is
-      ∙ sym (append_assoc old (little_endian at) (table_bytes (if b then places n (next + 1) (at + length (units_bytes (get_or texts i u))) (drop (i + 1) named) (drop (i + 1) texts) else places n (next + 1) at (drop i named) (drop i texts))))
-
   pub named_next : get_or named i 0 ≡ next →
       old ++ little_endian at ++ table_bytes (places n (next + 1) (at + length (units_bytes (get_or texts i u))) (drop (i + 1) named) (drop (i + 1) texts))
       ≡ old ++ table_bytes (places (suc n) next at (drop i named) (drop i texts))
-  named_next is = sym (further true (grind (arith, nat_tests, is)))
+  named_next is =
+      let same : (get_or named i 0 == next) ≡ true = grind (arith, nat_tests, is) in
+      append_assoc old (little_endian at) _ ∙ rw (place_more n next at i named texts 0 u in_named in_texts, same) refl
 
   pub other_next : (get_or named i 0 ≡ next → ⊥) →
       old ++ little_endian at ++ table_bytes (places n (next + 1) at (drop i named) (drop i texts))
       ≡ old ++ table_bytes (places (suc n) next at (drop i named) (drop i texts))
-  other_next other = sym (further false (grind (arith, nat_tests, other)))
+  other_next other =
+      let same : (get_or named i 0 == next) ≡ false = grind (arith, nat_tests, other) in
+      append_assoc old (little_endian at) _ ∙ rw (place_more n next at i named texts 0 u in_named in_texts, same) refl

@@ -80,7 +80,7 @@ pieces_of b = pieces_within (length b) b
 -- string begins among the strings, and at the end where the last string ends. A string ends where the next one begins, so an
 -- index whose place is that of the next one has no string. All are numbers of two bytes: in a language are at most 255 strings
 -- of at most 254 bytes (9.6.7), and so 64,770 bytes. Before the table is how many bytes it has. An index that is not named costs
--- two bytes where a higher one is: 474 in each language with strings 1 and 0xEE, which Microsoft's OS descriptors have.
+-- two bytes where a higher one is: 472 in each language with strings 1 and 0xEE, which Microsoft's OS descriptors have.
 
 -- a table
 abbrev pub table_bytes : List ℕ → List ℕ

@@ -1,5 +1,5 @@
 //! The image of a descriptor file, in which each descriptor is encoded once.
-ghost use Rattle.std.specs.Prelude.{◌≡◌, ◌++◌, ◌∷◌, drop, false, length, map, IfErr, IfOk, IfSome, OnOk, OnSome};
+ghost use Rattle.std.specs.Prelude.{◌≡◌, ◌++◌, ◌∷◌, drop, false, map, IfErr, IfOk, IfSome, OnOk, OnSome};
 ghost use Rattle.std.specs.List.{flat_map, list_any};
 ghost use Rattle.usb_fields.specs.declared.packet.Speed.{Speed};
 ghost use Rattle.usb_fields.specs.Device.{qualifier_bytes};
