@@ -170,7 +170,8 @@ in_strings : (named : List ℕ) (s : Option Strings) (index language : ℕ) → 
     (if index == 0 then find_in (string_pieces named s) 3 0 0 else option_and_then (string_in index) (find_in (string_pieces named s) 128 0 language)) ≡ string_at s named index language
 in_strings named None index language in_order = either (index == 0) None
 in_strings named (Some s) zero language in_order = refl
-in_strings named (Some s) (suc i) language in_order = language_found named s.languages s.texts i language in_order
+in_strings named (Some s) (suc i) language in_order =
+    let other : (suc i == 0) ≡ false = grind (arith, nat_tests) in rw other (language_found named s.languages s.texts i language in_order)
 
 module _ (f : DescriptorFile) where
   sets : List Piece

@@ -71,7 +71,9 @@ fn has_key(pieces: &[u8], kind: u8, index: u8, number: u16) -> bool
     let [k, i, n0, n1, ..] = pieces else {
         unreachable!();
     };
-    kind == *k && index == *i && number == u16::from_le_bytes([*n0, *n1])
+    // One comparison, since most pieces are passed over.
+    let [m0, m1] = word_bytes(number);
+    u32::from_le_bytes([*k, *i, *n0, *n1]) == u32::from_le_bytes([kind, index, m0, m1])
 }
 
 /// The first piece, where there is one, and the pieces after it.
