@@ -127,14 +127,13 @@ fn seek(pieces: &[u8], kind: u8, index: u8, number: u16) -> usize
     ensures whole { result < length pieces.now → result + 8 ≤ length pieces.now }
     ensures here { result < length pieces.now → has_key kind index number (piece_in (drop result pieces.now)) ≡ true }
 {
-    let end = pieces.len().saturating_sub(HEADER - 1);
-    let mut at = 0;
-    while at < end {
-        let left = &pieces[at..];
+    let mut start = HEADER;
+    while start <= pieces.len() {
+        let left = &pieces[start - HEADER..];
         if has_key(left, kind, index, number) {
-            return at;
+            return start - HEADER;
         }
-        at += HEADER + count(left);
+        start += count(left) + HEADER;
     }
     pieces.len()
 }

@@ -11,7 +11,7 @@ ghost use Rattle.usb_device.specs.inside.Places.{bytes_at, IsPlace};
 
 use crate::piece::Place;
 use std::alloc::{AllocError, Global};
-use usb_fields::{Sequence, UnitFault, byte_at, word_bytes, write_units_onto};
+use usb_fields::{Sequence, UnitFault, after, word_bytes, write_units_onto};
 
 /// The most bytes of a table: two for each index from 1 to 255, and for where the last string ends.
 const TABLE: usize = 512;
@@ -44,7 +44,11 @@ fn number_at(b: &[u8], at: usize) -> usize
     ensures value { result ≡ little_endian_at b.now at }
     ensures fits { result < 65536 }
 {
-    usize::from(u16::from_le_bytes([byte_at(b, at), byte_at(b, at + 1)]))
+    match after(b, at) {
+        [low, high, ..] => usize::from(u16::from_le_bytes([*low, *high])),
+        [low] => usize::from(*low),
+        [] => 0,
+    }
 }
 
 /// The strings of one language with their table: the first of these texts are its.
