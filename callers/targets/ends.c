@@ -86,8 +86,8 @@ static void answer_refused(struct nzg_device *device) {
     if (!is_refused && !one_in(20)) return;
     uint32_t length = any(one_in(10) ? 800 : 90), which = any(4);
     fill(room, length);
-    if (which == 0) say_answer(" with", nzg_device_answer_with(device, image, image_len, kept, KEPT, room, length));
-    if (which == 1) say_answer(" accept", nzg_device_accept(device, image, image_len, KEPT));
+    if (which == 0) say_answer(" with", nzg_device_answer_with(device, kept, KEPT, room, length));
+    if (which == 1) say_answer(" accept", nzg_device_accept(device, KEPT));
     if (which == 2) say_list(" refuse ", nzg_device_refuse(device, image, image_len));
 }
 
@@ -99,7 +99,7 @@ static void take_written(struct nzg_device *device) {
     say_setup(setup.bytes);
     if (answer.status == NZG_DONE) {
         say_hash(kept, answer.length);
-        if (one_in(2)) say_answer(" accept", nzg_device_accept(device, image, image_len, KEPT));
+        if (one_in(2)) say_answer(" accept", nzg_device_accept(device, KEPT));
         else say_list(" refuse ", nzg_device_refuse(device, image, image_len));
     }
     say_list(" carried ", nzg_device_carried_out(device, &setup));
