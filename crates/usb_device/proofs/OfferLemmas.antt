@@ -79,10 +79,10 @@ same_either f = λ i s q. is_either_to (same_offer f i) s q
 
 -- A device over an image of a file, as the file has it.
 
-pub by_file : (f : DescriptorFile) (image : List ℕ) (e : EndpointZero) (sent : Sent) (ready : Bool) (reply : Reply) → image ≡ image_of f →
-    reply ≡ (served_over image (device_of image e) sent ready).reply → reply ≡ (served_by f (device_of (image_of f) e) sent ready).reply
-by_file f image e sent ready reply is h =
-    subst (λ (i : List ℕ). reply ≡ (served_over i (device_of i e) sent ready).reply) is h ∙ (λ i. (same_served f i (device_of (image_of f) e) sent ready).reply)
+pub by_file : (f : DescriptorFile) (image room : List ℕ) (e : EndpointZero) (sent : Sent) (ready : Bool) (reply : Reply) → image ≡ image_of f →
+    reply ≡ (served_over image (device_of image room e) sent ready).reply → reply ≡ (served_by f (device_of (image_of f) room e) sent ready).reply
+by_file f image room e sent ready reply is h =
+    subst (λ (i : List ℕ). reply ≡ (served_over i (device_of i room e) sent ready).reply) is h ∙ (λ i. (same_served f i (device_of (image_of f) room e) sent ready).reply)
 
 pub either_by_file : (f : DescriptorFile) (image : List ℕ) (s : State) (q : Setup) → image ≡ image_of f → is_either_to (offer_in image) s q ≡ is_either f s q
 either_by_file f image s q is = ap (λ i. is_either_to (offer_in i) s q) is ∙ (λ i. same_either f i s q)

@@ -61,6 +61,8 @@ pub use image::Image;
 pub use open_transfer::{OpenStage, OpenTransfer};
 pub use owned_device::OwnedDevice;
 pub use request::is_set_address;
-pub use stage::Stage as DeviceStage;
+pub use stage::{Reaction, Stage as DeviceStage};
 pub use state::{DeviceState, State};
-pub use transaction::{NzgPacket, NzgTransaction, answer_in, answer_of, sent, speed_of, told};
+pub use transaction::{
+    NzgPacket, NzgTransaction, answer_in, answer_of, sent, speed_of, tell, told,
+};

@@ -6,7 +6,7 @@ ghost use Rattle.usb_device.specs.Freedoms.{is_either};
 ghost use Rattle.usb_device.specs.View.{served_by, after};
 ghost use Rattle.usb_device.specs.Transactions.{packet_of};
 
-use crate::beside::is_open;
+use crate::beside::{ROOM, is_open};
 use crate::conformance::{Difference, is_ready, judge};
 use crate::encoded::Encoded;
 use crate::endpoint_zero::EndpointZero;
@@ -25,6 +25,8 @@ pub struct OwnedDevice {
     pub description: Encoded,
     /// What changes.
     pub endpoint_zero: EndpointZero,
+    /// What it is lent to keep bytes in.
+    pub room: [u8; ROOM],
 }
 
 impl Model for OwnedDevice {
@@ -46,10 +48,10 @@ impl OwnedDevice {
     {
         // For the proof alone: the descriptors are accepted.
         self.description.known();
-        tell(
-            self.endpoint_zero.serve(self.description.image(), t, ready),
-            packet,
-        );
+        let image = self.description.image();
+        let reaction = self.endpoint_zero.serve(image, &mut self.room, t, ready);
+        let bytes = self.endpoint_zero.packet(image, &self.room);
+        tell(reaction.answer(bytes), packet);
     }
 
     /// One transaction, to which a device under test has answered so in the transfer of this request. This one's answer goes
@@ -71,9 +73,11 @@ impl OwnedDevice {
         self.description.known();
         let free = self.is_free(request);
         let size = self.description.packet();
-        let has = self
+        let image = self.description.image();
+        let reaction = self
             .endpoint_zero
-            .serve(self.description.image(), t, is_ready(came));
+            .serve(image, &mut self.room, t, is_ready(came));
+        let has = reaction.answer(self.endpoint_zero.packet(image, &self.room));
         tell(has, packet);
         judge(transfer, free, request, size, t.stage, came, has)
     }
@@ -89,16 +93,15 @@ impl OwnedDevice {
     fn refuses(&self) -> bool
         ensures { result ≡ is_refusing self.now.device.stage }
     {
-        matches!(self.endpoint_zero.stage(), Stage::Halted)
+        matches!(Stage::of(self.endpoint_zero.stage), Stage::Halted)
     }
 
     fn is_either(&self, setup: Setup) -> bool
         ensures { result ≡ is_either self.now.description.file self.now.device.state setup }
     {
-        let state = self.endpoint_zero.state();
         let request = Request {
             image: self.description.image(),
-            state: &state,
+            state: &self.endpoint_zero.state,
             setup,
         };
         request.is_either()
