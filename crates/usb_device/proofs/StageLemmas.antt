@@ -6,9 +6,11 @@ use Rattle.usb_fields.specs.declared.setup.Setup.{Setup}
 use Rattle.usb_fields.specs.Packets.{packets, flipped}
 use Rattle.usb_fields.proofs.PacketLemmas.{packets-at, packets-past}
 use Rattle.usb_device.specs.Offers.{packet_in}
+use Rattle.usb_device.specs.declared.stage.Stage.{Stage}
+use Rattle.usb_device.specs.declared.stage.Stage.TheVariants as stages
 use Rattle.usb_device.specs.declared.endpoint_zero.EndpointZero.{EndpointZero}
 use Rattle.usb_device.specs.Step.{Sending, StatusOut, next_stage}
-use Rattle.usb_device.specs.Stages.{data_bytes, request_of, source_at, source_bytes, toggle_at, IsData}
+use Rattle.usb_device.specs.Stages.{data_bytes, request_of, source_at, source_bytes, stage_kind, stage_of, toggle_at, IsData}
 
 -- what is left of a list from one of its elements on
 drop_there : {X : Type 0} (xs : List X) (k : ℕ) (x : X) → slice_get xs k ≡ Some x → drop k xs ≡ x ∷ drop (suc k) xs
@@ -48,6 +50,17 @@ stage_ends q b n o pos whole fits past =
     let on : suc (o / n) * n ≡ o + n = grind arith in
     let at = packets-past b n q.length (suc (o / n)) pos fits (rw on past) in
     rw (drop_past (packets b n q.length) (suc (o / n)) at) refl
+
+-- which stage a device is in, whatever it holds there
+pub kind_back : (image room : List ℕ) (e : EndpointZero) (stage : Stage) → stage_kind (stage_of image room e stage) ≡ stage
+kind_back image room e stages.Idle = refl
+kind_back image room e stages.Sending = refl
+kind_back image room e stages.StatusOut = refl
+kind_back image room e stages.Over = refl
+kind_back image room e stages.Halted = refl
+kind_back image room e stages.StatusIn = refl
+kind_back image room e stages.Receiving = refl
+kind_back image room e stages.Written = refl
 
 module _ (image room : List ℕ) (e : EndpointZero) (pos : 0 < packet_in image) (h : IsData image room e) where
   -- the bytes of a data stage are as many as the code counts

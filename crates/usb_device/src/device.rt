@@ -242,6 +242,7 @@ impl<'d> Device<'d> {
     }
 
     /// Its stage in a transfer.
+    #[tactic(auto, using(crate::proofs::StageLemmas::kind_back))]
     pub fn stage(&self) -> Stage
         ensures { result ≡ stage_kind self.now.device.stage }
     {
