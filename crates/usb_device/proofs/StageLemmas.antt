@@ -71,10 +71,11 @@ kind_back image room d settled kinds.Written = refl
 pub data_begins : (image room : List ℕ) (d : DataStage) → d.count ≤ length (source_bytes image room d d.source) → d.count ≤ d.request.length → 0 < d.request.length → d.offset ≡ 0 → d.toggle ≡ Data1 → IsData image room d
 data_begins image room d count fits asked first toggle =
     let none : 0 / packet_in image ≡ 0 = grind (arith) in
+    let nothing : 0 * packet_in image ≡ 0 = omega arith in
     record {
       count = count;
       fits = fits;
-      whole = rw (first, none) refl;
+      whole = rw (first, none, nothing) refl;
       inside = omega (arith, first);
       asked = omega (arith, first, asked);
       toggle = rw (first, none, toggle) refl;

@@ -146,11 +146,13 @@ awaited_flips packet count n whole some few =
 pub write_begins : (image room : List ℕ) (d : DataStage) → 0 < packet_in image → brings_bytes d.request ≡ true → d.request.length ≤ length room → d.offset ≡ 0 → d.toggle ≡ Data1 → IsReceiving image room d
 write_begins image room d pos write fits first toggle =
     let none : 0 / packet_in image ≡ 0 = grind (arith) in
-    let due : (0 + (packet_in image - 1)) / packet_in image ≡ 0 = div-mul-add 0 (packet_in image) (packet_in image - 1) (omega (arith, pos)) in
+    let nothing : 0 * packet_in image ≡ 0 = omega arith in
+    let split : 0 + (packet_in image - 1) ≡ 0 * packet_in image + (packet_in image - 1) = omega arith in
+    let due : (0 + (packet_in image - 1)) / packet_in image ≡ 0 = rw split (div-mul-add 0 (packet_in image) (packet_in image - 1) (omega (arith, pos))) in
     let some = long_by (d.request.length == 0) (is_in (direction_of d.request.request_type)) write in
     record {
       is_write = record { write = write; fits = fits; toggle = rw (first, due, toggle) refl };
-      whole = rw (first, none) refl;
+      whole = rw (first, none, nothing) refl;
       more = rw first (grind (arith, nat_tests, some));
     }
 

@@ -6,13 +6,11 @@ use Rattle.usb_file_data.specs.declared.file.DescriptorFile.{DescriptorFile}
 use Rattle.usb_device.specs.Descriptors.{Described}
 use Rattle.usb_device.specs.Requests.{answer, answer_to}
 use Rattle.usb_device.specs.Offers.{offer_in, packet_in}
-use Rattle.usb_device.specs.FileImages.{image_of}
 use Rattle.usb_device.specs.Step.{DeviceStage, Sending, DeviceView, Served, served, acked}
 use Rattle.usb_device.specs.declared.endpoint_zero.EndpointZero.{EndpointZero}
 use Rattle.usb_device.specs.declared.stage.Reaction.{Reaction}
 use Rattle.usb_device.specs.declared.stage.Reaction.TheVariants.{Ack, Nak, Stall, Packet, Empty, Silence}
 use Rattle.usb_device.specs.Stages.{data_of, stage_at, stage_of, IsStage}
-use Rattle.usb_device.specs.declared.owned_device.OwnedDevice.TheInside.{Inside}
 
 -- What callers see of a device.
 
@@ -79,16 +77,6 @@ reply_with bytes Silence = NoReply
 -- the reply, where its bytes are those of the packet that is due
 abbrev pub replied : List ℕ → List ℕ → EndpointZero → Reaction → Reply
 replied image room e reaction = reply_with (packet_due (packet_in image) (stage_in image room e)) reaction
-
--- A device that owns its description, as callers see it.
-
--- the description, and what the part that changes is with it
-abbrev pub view_of : Inside → View
-view_of d = record { description = d.description; device = device_of (image_of d.description.file) d.room d.endpoint_zero }
-
--- the part is one of this description
-abbrev pub IsEnd : Inside → Type 0
-IsEnd d = IsOf (image_of d.description.file) d.room d.endpoint_zero
 
 -- the device with what has changed
 abbrev pub after : View → DeviceView → View

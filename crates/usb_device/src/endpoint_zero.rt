@@ -9,6 +9,7 @@ ghost use Rattle.usb_device.specs.Step.{begun, carried_out, Sending};
 ghost use Rattle.usb_device.specs.Stages.{request_of, stage_at};
 
 mod data_stage;
+mod freedom;
 mod owner;
 
 use crate::image::Image;

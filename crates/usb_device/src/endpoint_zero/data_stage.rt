@@ -1,5 +1,5 @@
 //! The data stage of a transfer: the bytes that are sent, and the packet that is due.
-ghost use Rattle.std.specs.Prelude.{◌≡◌, ◌/◌, ℕ, List, suc, take, drop};
+ghost use Rattle.std.specs.Prelude.{◌≡◌, ◌≤◌, ◌/◌, ℕ, List, suc, length, take, drop};
 ghost use Rattle.usb_fields.specs.Packets.{packets};
 ghost use Rattle.usb_fields.specs.declared.packet.Toggle.TheVariants.{Data1};
 ghost use Rattle.usb_device.specs.Offers.{packet_in};
@@ -59,7 +59,8 @@ impl EndpointZero {
     /// The bytes of the packet that is due, or none.
     #[inline(always)]
     pub fn packet<'a>(&'a self, image: Image<'a>, room: &'a [u8]) -> &'a [u8]
-        ensures { IsOf image.entry.bytes.now room.entry.now self.now → result.now ≡ packet_due (packet_in image.entry.bytes.now) (device_of image.entry.bytes.now room.entry.now self.now).stage }
+        ensures short { length result.now ≤ packet_in image.entry.bytes.now }
+        ensures due { IsOf image.entry.bytes.now room.entry.now self.now → result.now ≡ packet_due (packet_in image.entry.bytes.now) (device_of image.entry.bytes.now room.entry.now self.now).stage }
     {
         match Stage::of(self.stage) {
             Stage::Sending => prefix(

@@ -1,12 +1,47 @@
-use Rattle.std.proofs.Common.{rules, ◌≡◌, ◌∙◌, ℕ, List, length, take, drop, min, ◌+◌, ◌-◌, ◌<◌, ◌≤◌, ◌⊎◌, ◌++◌, ◌/◌, Bool, true, false, refl, sym, subst, ap, arith}
-use Rattle.usb_device.proofs.StageLemmas.{device_ends, device_goes_on, is_of_goes_on}
+use Rattle.std.proofs.Common.{rules, ◌≡◌, ◌∙◌, ℕ, List, length, take, drop, min, ◌+◌, ◌-◌, ◌<◌, ◌≤◌, ◌⊎◌, inl, inr, ◌++◌, ◌/◌, Bool, true, false, refl, sym, subst, ap, arith}
+use Rattle.usb_fields.specs.Packets.{flipped}
+use Rattle.usb_device.specs.Offers.{packet_in}
+use Rattle.usb_device.specs.Stages.{request_of}
+use Rattle.usb_device.specs.View.{IsOf}
+use Rattle.usb_device.proofs.StageLemmas.{device_ends, device_goes_on, is_of_goes_on, sending}
+use Rattle.usb_device.proofs.endpoint_zero.EndpointZero.go_on.Goals.{then-left-packet, else-left-packet}
 use Rattle.usb_device.proofs.endpoint_zero.EndpointZero.go_on.Goals as goal
 
 pub returns-then-saturating_sub-packet-clause-device : goal.returns-then-saturating_sub-packet-clause-device
-returns-then-saturating_sub-packet-clause-device c = ?
+returns-then-saturating_sub-packet-clause-device c =
+    λ room h.
+    let e = c.args.self.now in
+    let image = c.args.image.bytes.now in
+    let here = sending image room e c.requires.sending h in
+    let past : (e.count < e.offset + packet_in image) ⊎ ((request_of e).length ≤ e.offset + packet_in image) =
+    elim c.if-left-packet.branch [
+      | then-left-packet w ↦ inl (omega (arith, w.if-left-packet.true, c.packet-packet.ensures, c.saturating_sub-left.ensures, here.inside))
+      | else-left-packet w ↦ inr (search rules)
+    ] in
+    device_ends image room e c.requires.sending h c.number-self.result c.number-self.ensures past
 
 pub returns-else-saturating_sub-packet-clause-device : goal.returns-else-saturating_sub-packet-clause-device
-returns-else-saturating_sub-packet-clause-device c = ?
+returns-else-saturating_sub-packet-clause-device c =
+    λ room h.
+    let e = c.args.self.now in
+    let image = c.args.image.bytes.now in
+    let here = sending image room e c.requires.sending h in
+    let inside : e.offset + packet_in image ≤ e.count =
+    elim c.if-left-packet.branch [
+      | then-left-packet w ↦ ?
+      | else-left-packet w ↦ omega (arith, w.if-left-packet.false, c.packet-packet.ensures, c.saturating_sub-left.ensures, here.inside)
+    ] in
+    let asked : e.offset + packet_in image < (request_of e).length =
+    elim c.if-left-packet.branch [
+      | then-left-packet w ↦ ?
+      | else-left-packet w ↦ ?
+    ] in
+    rw c.packet-packet.ensures (device_goes_on image room e c.requires.sending h c.number_of-self.result inside asked)
 
 pub returns-else-saturating_sub-packet-clause-of : goal.returns-else-saturating_sub-packet-clause-of
-returns-else-saturating_sub-packet-clause-of c = ?
+returns-else-saturating_sub-packet-clause-of c =
+    λ room h.
+    let e = c.args.self.now in
+    let image = c.args.image.bytes.now in
+    let flips = c.number_of-self.ensures ∙ c.flip.ensures ∙ ap flipped c.toggle_at.ensures in
+    rw c.packet-packet.ensures (is_of_goes_on image room e c.requires.sending h c.number_of-self.result flips ? ?)
