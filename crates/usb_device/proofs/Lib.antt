@@ -8,7 +8,6 @@ pub mod Replies
 pub mod OpenLemmas
 pub mod PieceLemmas
 pub mod FoundLemmas
-pub mod LentLemmas
 pub mod OfferLemmas
 pub mod LongLemmas
 pub mod WrittenLemmas

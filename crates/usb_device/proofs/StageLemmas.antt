@@ -143,3 +143,8 @@ module _ (image room : List ℕ) (e : EndpointZero) (at : stage_at e.stage ≡ k
   is_of_goes_on toggle flips inside asked =
       (is.0, subst (λ stage. IsStage image room (data_of (record e { offset = e.offset + packet_in image; toggle = toggle })) stage) (sym at)
       (data_goes_on image room (data_of e) is.0 sending (toggle_at toggle) flips inside asked))
+
+-- what a call makes of a device, whose image is that which it is lent
+pub still_of : (lent image room : List ℕ) (before after : EndpointZero) → lent ≡ image → ((r : List ℕ) → IsOf lent r before → IsOf lent r after) → IsOf image room before → IsOf image room after
+still_of lent image room before after same step h =
+    subst (λ (i : List ℕ). IsOf i room after) same (step room (subst (λ (i : List ℕ). IsOf i room before) (sym same) h))

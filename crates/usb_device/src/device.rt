@@ -64,7 +64,6 @@ impl<'d> Device<'d> {
     }
 
     /// The same of a description without its tree.
-    #[tactic(auto, using(crate::proofs::LentLemmas::new_of))]
     pub fn of(d: &'d Encoded) -> Device<'d>
         ensures { result ≡ record { description = d.now; device = new_device } }
     {
@@ -78,7 +77,6 @@ impl<'d> Device<'d> {
     }
 
     /// A bus reset: the device is as a new one (USB 2.0, 9.1.1.3).
-    #[tactic(auto, using(crate::proofs::LentLemmas::reset_of))]
     pub fn reset(&mut self)
         ensures { self.new ≡ record self.old { device = new_device } }
     {
@@ -126,7 +124,6 @@ impl<'d> Device<'d> {
     /// Call it when the host has acknowledged the packet, never right after `serve`. If the last answer of
     /// [`Device::serve`] was a data packet, the next packet is then due, or the transfer is over. Anywhere else, and a
     /// second time, it changes nothing.
-    #[tactic(auto, using(crate::proofs::LentLemmas::still_of))]
     #[inline(always)]
     pub fn acked(&mut self)
         ensures { self.new ≡ record self.old { device = acked_by self.old.description.file self.old.device } }
@@ -223,7 +220,6 @@ impl<'d> Device<'d> {
     /// Refuses the request that the owner was to answer, or has answered or accepted: each IN and OUT is answered by STALL
     /// until the next SETUP. It changes nothing once the status stage was answered, nor where the device itself has
     /// answered the request.
-    #[tactic(auto, using(crate::proofs::LentLemmas::still_of))]
     pub fn refuse(&mut self)
         ensures { self.new ≡ record self.old { device = rejected (answer self.old.description.file) self.old.device } }
     {
