@@ -41,26 +41,30 @@ void say_due(const struct nzg_transaction *due) {
 /* --- a device ---------------------------------------------------------------------------------------------------------- */
 
 static uint8_t stage, toggle;
+uint8_t image[1 << 18], kept[KEPT];
+uint32_t image_len;
 
-void say_state(struct nzg_device *device) {
-    struct nzg_state state = {0};
-    say_list("state ", nzg_device_state(device, &state));
-    say_list(" ", state.halts);
-    say_list(" ", state.address);
-    say_list(" ", state.selected);
-    say_list(" ", state.wakeup);
-    say_hash(state.alternates, sizeof state.alternates);
+struct nzg_answer make_image(const uint8_t *bytes, uint32_t length, uint8_t speed) {
+    struct nzg_answer answer = nzg_device_image(bytes, length, speed, image, sizeof image);
+    image_len = answer.status == NZG_DONE ? (uint32_t)answer.length : 0;
+    return answer;
+}
+
+void say_state(const struct nzg_device *device) {
+    say_list("state ", device->state.halts);
+    say_list(" ", device->state.address);
+    say_list(" ", device->state.selected);
+    say_list(" ", device->state.wakeup);
+    say_hash(device->state.alternates, sizeof device->state.alternates);
     say("\n");
 }
 
 /* The next transaction of a host that mostly keeps the order of a transfer. */
 static uint32_t any_transaction(struct nzg_device *device, struct nzg_transaction *next, uint8_t *data) {
-    struct nzg_state state = {0};
-    nzg_device_state(device, &state);
     if (one_in(3)) stage = NZG_SETUP;
     else if (stage == NZG_SETUP || one_in(6)) stage = (uint8_t)(1 + any(2));
     if (one_in(200)) stage = (uint8_t)any(256);
-    next->address = one_in(40) ? (uint8_t)any(256) : state.address;
+    next->address = one_in(40) ? (uint8_t)any(256) : device->state.address;
     next->stage = stage;
     next->toggle = stage != NZG_OUT ? 0 : one_in(8) ? (uint8_t)any(3) : toggle;
     toggle ^= 1;
@@ -82,21 +86,21 @@ static void answer_refused(struct nzg_device *device) {
     if (!is_refused && !one_in(20)) return;
     uint32_t length = any(one_in(10) ? 800 : 90), which = any(4);
     fill(room, length);
-    if (which == 0) say_answer(" with", nzg_device_answer_with(device, room, length));
-    if (which == 1) say_answer(" accept", nzg_device_accept(device));
-    if (which == 2) say_list(" refuse ", nzg_device_refuse(device));
+    if (which == 0) say_answer(" with", nzg_device_answer_with(device, kept, KEPT, room, length));
+    if (which == 1) say_answer(" accept", nzg_device_accept(device, KEPT));
+    if (which == 2) say_list(" refuse ", nzg_device_refuse(device, image, image_len));
 }
 
 /* And with a write that has come. */
 static void take_written(struct nzg_device *device) {
     struct nzg_setup setup = {0};
-    struct nzg_answer answer = nzg_device_written(device, &setup, room, one_in(4) ? 3 : 512);
+    struct nzg_answer answer = nzg_device_written(device, kept, one_in(4) ? 3 : KEPT, &setup);
     say_answer(" written", answer);
     say_setup(setup.bytes);
     if (answer.status == NZG_DONE) {
-        say_hash(room, answer.length);
-        if (one_in(2)) say_answer(" accept", nzg_device_accept(device));
-        else say_list(" refuse ", nzg_device_refuse(device));
+        say_hash(kept, answer.length);
+        if (one_in(2)) say_answer(" accept", nzg_device_accept(device, KEPT));
+        else say_list(" refuse ", nzg_device_refuse(device, image, image_len));
     }
     say_list(" carried ", nzg_device_carried_out(device, &setup));
     say_setup(setup.bytes);
@@ -110,7 +114,7 @@ static void say_judged(struct nzg_device *device, const struct nzg_transaction *
     came.toggle = (uint8_t)any(2);
     came.length = (uint8_t)any(65);
     any_setup(request.bytes);
-    say_list("judged ", nzg_judge_device(device, &open, &request, next, data, length, &came, &has));
+    say_list("judged ", nzg_judge_device(device, image, image_len, kept, KEPT, &open, &request, next, data, length, &came, &has));
     say_packet(&has);
     if (one_in(2)) nzg_judge_acked(&open);
     say_list(" open ", open.acknowledged);
@@ -126,9 +130,9 @@ static void device_step(struct nzg_device *device) {
     uint8_t data[81];
     uint32_t length = any_transaction(device, &next, data);
     if (one_in(30)) say_judged(device, &next, data, length);
-    say_list("serve ", nzg_device_serve(device, &next, data, length, !one_in(10), &packet));
+    say_list("serve ", nzg_device_serve(device, image, image_len, kept, KEPT, &next, data, length, !one_in(10), &packet));
     say_packet(&packet);
-    if (packet.reply == NZG_DATA && !one_in(6)) say_list(" acked ", nzg_device_acked(device));
+    if (packet.reply == NZG_DATA && !one_in(6)) say_list(" acked ", nzg_device_acked(device, image, image_len));
     if (one_in(3)) {
         answer_refused(device);
         take_written(device);
@@ -138,19 +142,19 @@ static void device_step(struct nzg_device *device) {
 
 void device_steps(uint32_t length, uint8_t speed, uint32_t steps) {
     struct nzg_device device = {0};
-    struct nzg_answer opened = nzg_device_open(&device, file, length, speed);
-    say_answer("device", opened);
+    struct nzg_answer made = make_image(file, length, speed);
+    say_answer("device", made);
+    say_hash(image, image_len);
     say_list(" speed ", speed);
     say("\n");
     stage = NZG_SETUP;
     toggle = 1;
-    if (opened.status != NZG_DONE) steps = 5;
+    if (made.status != NZG_DONE) steps = 5;
     for (uint32_t i = 0; i < steps; i++) {
-        if (one_in(60)) say_list("reset ", nzg_device_reset(&device)), say("\n");
+        if (one_in(60)) nzg_device_reset(&device);
         if (one_in(20)) say_state(&device);
         device_step(&device);
     }
-    nzg_device_close(&device);
 }
 
 /* --- a host -------------------------------------------------------------------------------------------------------------- */
@@ -181,8 +185,8 @@ static void exchange(struct nzg_host *host, struct nzg_device *device, const str
     struct nzg_packet packet = {0};
     say("send");
     say_due(next);
-    nzg_device_serve(device, next, file, 0, !one_in(9), &packet);
-    if (packet.reply == NZG_DATA && !one_in(30)) nzg_device_acked(device);
+    nzg_device_serve(device, image, image_len, kept, KEPT, next, file, 0, !one_in(9), &packet);
+    if (packet.reply == NZG_DATA && !one_in(30)) nzg_device_acked(device, image, image_len);
     spoil(&packet, trouble_in);
     say_list(" took ", nzg_host_take(host, packet.reply, packet.toggle, packet.data, packet.length));
     say_step(host);
@@ -221,7 +225,7 @@ static void open_with(struct nzg_host *host, uint8_t address, uint16_t naks, uin
 void host_steps(uint32_t length, uint8_t speed, uint32_t trouble_in) {
     struct nzg_device device = {0};
     struct nzg_host host = {0};
-    nzg_device_open(&device, file, length, speed);
+    make_image(file, length, speed);
     uint8_t address = (uint8_t)any(129), attempts = (uint8_t)any(5);
     uint16_t naks = (uint16_t)any(5);
     if (one_in(2)) say_answer("host", nzg_host_open(&host, address, naks, attempts, speed));
@@ -232,11 +236,10 @@ void host_steps(uint32_t length, uint8_t speed, uint32_t trouble_in) {
         uint8_t action = nzg_host_next(&host, &next);
         if (action != NZG_SEND && action != NZG_RESET) break;
         if (action == NZG_SEND) exchange(&host, &device, &next, trouble_in);
-        else say_list("reset ", nzg_device_reset(&device)), say_list(" ", nzg_host_reset_done(&host)), say("\n");
+        else nzg_device_reset(&device), say_list("reset ", nzg_host_reset_done(&host)), say("\n");
     }
     say_outcome(&host);
     nzg_host_close(&host);
-    nzg_device_close(&device);
 }
 
 /* --- one transfer, one write ------------------------------------------------------------------------------------------------ */

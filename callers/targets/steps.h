@@ -20,8 +20,14 @@ void say_list(const char *what, uint64_t number);
 void say_packet(const struct nzg_packet *packet);
 void say_due(const struct nzg_transaction *due);
 /* What a device keeps, and what came of a host: a line each. */
-void say_state(struct nzg_device *device);
+void say_state(const struct nzg_device *device);
 void say_outcome(struct nzg_host *host);
+
+/* What devices are lent: the image of a file, or none, and room. */
+#define KEPT 512
+extern uint8_t image[1 << 18], kept[KEPT];
+extern uint32_t image_len;
+struct nzg_answer make_image(const uint8_t *bytes, uint32_t length, uint8_t speed);
 
 void device_steps(uint32_t length, uint8_t speed, uint32_t steps);
 void host_steps(uint32_t length, uint8_t speed, uint32_t trouble_in);

@@ -17,6 +17,9 @@ static const uint8_t FILE[] = {
     4, 3, 9, 4, 12, 3, 'm', 0, 'o', 0, 'u', 0, 's', 0, 'e', 0};
 
 static struct nzg_device device;
+/* What its calls are lent: an image of FILE, and room for a report descriptor. */
+static uint8_t image[256], kept[64];
+static nzg_size image_len;
 
 /* A request that chapter 9 leaves to the class. The library has refused it, and takes this answer in place of that. False where it
  * stays refused. */
@@ -26,13 +29,14 @@ static bool answer_class(void) {
     const uint8_t *setup = refused.bytes;
     bool is_report = setup[0] == OF_INTERFACE_IN && setup[1] == GET_DESCRIPTOR && setup[3] == REPORT && !setup[4];
     bool is_set = setup[0] == OF_CLASS_OUT && (setup[1] == SET_IDLE || setup[1] == SET_PROTOCOL) && !setup[4] && !setup[6] && !setup[7];
-    if (is_report) return nzg_device_answer_with(&device, REPORT_DESCRIPTOR, sizeof REPORT_DESCRIPTOR).status == NZG_DONE;
-    return is_set && nzg_device_accept(&device).status == NZG_DONE;
+    if (is_report) return nzg_device_answer_with(&device, kept, sizeof kept, REPORT_DESCRIPTOR, sizeof REPORT_DESCRIPTOR).status == NZG_DONE;
+    return is_set && nzg_device_accept(&device, sizeof kept).status == NZG_DONE;
 }
 
 static void serve(const struct hardware_event *event) {
     struct nzg_packet packet;
-    if (!nzg_device_serve(&device, &event->transaction, event->data, event->length, true, &packet)) packet.reply = NZG_SILENCE;
+    if (!nzg_device_serve(&device, image, image_len, kept, sizeof kept, &event->transaction, event->data, event->length, true, &packet))
+        packet.reply = NZG_SILENCE;
     if (event->transaction.stage == NZG_SETUP && !answer_class()) packet.reply = NZG_STALL;
     hardware_answer(&packet);
 }
@@ -47,16 +51,16 @@ static void move(void) {
 
 int main(void) {
     struct hardware_event event;
-    if (nzg_device_open(&device, FILE, sizeof FILE, NZG_FULL).status != NZG_DONE) return 1;
+    struct nzg_answer made = nzg_device_image(FILE, sizeof FILE, NZG_FULL, image, sizeof image);
+    if (made.status != NZG_DONE) return 1;
+    image_len = made.length;
     hardware_start();
     for (;;) {
-        struct nzg_state state;
         hardware_wait(&event);
         if (event.kind == HARDWARE_RESET) nzg_device_reset(&device);
-        if (event.kind == HARDWARE_ACKED) nzg_device_acked(&device);
+        if (event.kind == HARDWARE_ACKED) nzg_device_acked(&device, image, image_len);
         if (event.kind == HARDWARE_TRANSACTION) serve(&event);
-        nzg_device_state(&device, &state);
-        hardware_address(state.address);
-        if (state.selected) move();
+        hardware_address(device.state.address);
+        if (device.state.selected) move();
     }
 }

@@ -1,5 +1,5 @@
 -- Answers to transactions, as the code holds them: without the bytes.
-use Rattle.std.specs.Prelude.{◌≡◌, ◌<◌, Bool, true, false, [], ◌∷◌, take, slice_set, ℕ, List, drop}
+use Rattle.std.specs.Prelude.{◌≡◌, ◌<◌, Bool, true, false, [], ◌∷◌, take, slice_set, ℕ, List}
 use Rattle.usb_fields.specs.declared.setup.Setup.{Setup}
 use Rattle.usb_device.specs.FileImages.{image_of}
 use Rattle.usb_device.specs.Offers.{offer_in, packet_in}
@@ -14,12 +14,8 @@ use Rattle.usb_device.specs.declared.stage.Decision.{Decision}
 use Rattle.usb_device.specs.declared.stage.Decision.TheVariants as decisions
 use Rattle.usb_device.specs.States.{first_alternates}
 use Rattle.usb_device.specs.Requests.{Outcome, Bytes, Done, Refused, answer_to}
-use Rattle.usb_fields.specs.Packets.{Reply, AckReply, NakReply, StallReply, DataReply, NoReply, packets}
-use Rattle.usb_device.specs.declared.stage.Reaction.{Reaction}
-use Rattle.usb_device.specs.declared.stage.Reaction.TheVariants.{Ack, Nak, Stall, Packet, Empty, Silence}
-use Rattle.usb_device.specs.Step.{DeviceStage, Sending, Served, served_in, served_out}
+use Rattle.usb_device.specs.Step.{Served, served_in, served_out}
 use Rattle.usb_fields.specs.declared.packet.Toggle.{Toggle}
-use Rattle.usb_fields.specs.declared.packet.Toggle.TheVariants.{Data1}
 use Rattle.usb_device.specs.declared.device.Device.TheInside.{Inside}
 use Rattle.usb_device.specs.declared.endpoint_zero.EndpointZero.{EndpointZero}
 use Rattle.usb_device.specs.View.{stage_in, device_of, IsOf, View}
@@ -60,25 +56,6 @@ says r response = outcome_of r.image.bytes.now r.state.now r.setup response
 abbrev pub AsksFor : Request → Decision → Type 0
 AsksFor r response = IsAsked r.image.bytes.now r.setup response
 
--- the first of these packets, if there is one
-abbrev pub first_packet : List (List ℕ) → List ℕ
-first_packet [] = []
-first_packet (p ∷ rest) = p
-
--- the bytes of the packet that is due, which in the status stage are none
-abbrev pub packet_due : ℕ → DeviceStage → List ℕ
-packet_due size (Sending q b k) = first_packet (drop k (packets b size q.length))
-packet_due size stage = []
-
--- the reply, where these are the bytes of the packet that is due
-abbrev pub reply_with : List ℕ → Reaction → Reply
-reply_with bytes Ack = AckReply
-reply_with bytes Nak = NakReply
-reply_with bytes Stall = StallReply
-reply_with bytes (Packet toggle) = DataReply toggle bytes
-reply_with bytes Empty = DataReply Data1 []
-reply_with bytes Silence = NoReply
-
 -- Endpoint zero and a device, as callers see them.
 
 -- whether an IN at this stage is one of a data stage
@@ -93,22 +70,18 @@ has_status_out stages.StatusOut = true
 has_status_out stages.Over = true
 has_status_out stage = false
 
--- IN to a device with this image, and OUT
-abbrev pub sent_by : List ℕ → EndpointZero → Served
-sent_by image e = served_in (answer_to (offer_in image)) (packet_in image) e.state (stage_in image e)
+-- IN to a device with this image and this room, and OUT
+abbrev pub sent_by : List ℕ → List ℕ → EndpointZero → Served
+sent_by image room e = served_in (answer_to (offer_in image)) (packet_in image) e.state (stage_in image room e)
 
-abbrev pub received_by : List ℕ → EndpointZero → Toggle → List ℕ → Served
-received_by image e toggle bytes =
-    served_out (answer_to (offer_in image)) (packet_in image) e.state (stage_in image e) toggle bytes
-
--- the reply, where its bytes are those of the packet that is due
-abbrev pub replied : List ℕ → EndpointZero → Reaction → Reply
-replied image e reaction = reply_with (packet_due (packet_in image) (stage_in image e)) reaction
+abbrev pub received_by : List ℕ → List ℕ → EndpointZero → Toggle → List ℕ → Served
+received_by image room e toggle bytes =
+    served_out (answer_to (offer_in image)) (packet_in image) e.state (stage_in image room e) toggle bytes
 
 -- a device as callers see it
 abbrev pub view_of : Inside → View
 view_of d =
-    record { description = d.description.now; device = device_of (image_of d.description.now.file) d.endpoint_zero }
+    record { description = d.description.now; device = device_of (image_of d.description.now.file) d.room d.endpoint_zero }
 
 abbrev pub IsDevice : Inside → Type 0
-IsDevice d = IsOf (image_of d.description.now.file) d.endpoint_zero
+IsDevice d = IsOf (image_of d.description.now.file) d.room d.endpoint_zero
