@@ -67,6 +67,8 @@ impl<'d> Device<'d> {
     pub fn of(d: &'d Encoded) -> Device<'d>
         ensures { result ≡ record { description = d.now; device = new_device } }
     {
+        // For the proof alone: packets of its image have bytes.
+        let _image = d.image();
         Device {
             endpoint_zero: EndpointZero::new(),
             room: [0; ROOM],
