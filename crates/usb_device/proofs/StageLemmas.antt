@@ -140,9 +140,11 @@ module _ (image room : List ℕ) (e : EndpointZero) (at : stage_at e.stage ≡ k
   device_goes_on toggle inside asked = rw (at, stage_data_goes_on image room (data_of e) is.0 sending inside asked) refl
 
   pub is_of_goes_on : (toggle : ℕ) → toggle_at toggle ≡ flipped (toggle_at e.toggle) → e.offset + packet_in image ≤ e.count → e.offset + packet_in image < (request_of e).length → IsOf image room (record e { offset = e.offset + packet_in image; toggle = toggle })
-  is_of_goes_on toggle flips inside asked =
-      (is.0, subst (λ stage. IsStage image room (data_of (record e { offset = e.offset + packet_in image; toggle = toggle })) stage) (sym at)
-      (data_goes_on image room (data_of e) is.0 sending (toggle_at toggle) flips inside asked))
+  is_of_goes_on toggle flips inside asked = (
+    is.0,
+    subst (λ stage. IsStage image room (data_of (record e { offset = e.offset + packet_in image; toggle = toggle })) stage) (sym at)
+        (data_goes_on image room (data_of e) is.0 sending (toggle_at toggle) flips inside asked),
+  )
 
 -- what a call makes of a device, whose image is that which it is lent
 pub still_of : (lent image room : List ℕ) (before after : EndpointZero) → lent ≡ image → ((r : List ℕ) → IsOf lent r before → IsOf lent r after) → IsOf image room before → IsOf image room after

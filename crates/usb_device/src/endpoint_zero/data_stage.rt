@@ -8,7 +8,8 @@ ghost use Rattle.usb_device.specs.Stages.{data_bytes, data_of, request_of, sourc
 
 use super::EndpointZero;
 use crate::image::Image;
-use crate::stage::{Source, Stage, number_of, toggle_at};
+use crate::stage::{Source, Stage, toggle_at};
+use crate::transaction::toggle_number;
 use usb_fields::{Toggle, after, prefix};
 
 impl EndpointZero {
@@ -25,7 +26,7 @@ impl EndpointZero {
         self.source = source.number();
         self.count = count;
         self.offset = 0;
-        self.toggle = number_of(Toggle::Data1);
+        self.toggle = toggle_number(Toggle::Data1);
     }
 
     /// The packet that was due was acknowledged: another is due then, or the status stage.
@@ -42,7 +43,7 @@ impl EndpointZero {
             self.stage = Stage::StatusOut.number();
         } else {
             self.offset += packet;
-            self.toggle = number_of(toggle_at(self.toggle).flip());
+            self.toggle = toggle_number(toggle_at(self.toggle).flip());
         }
     }
 

@@ -9,7 +9,8 @@ ghost use Rattle.usb_device.specs.Stages.{data_of, request_of, stage_at, toggle_
 use super::EndpointZero;
 use crate::beside::{Unanswered, is_open};
 use crate::image::Image;
-use crate::stage::{Decision, Source, Stage, number_of, toggle_at};
+use crate::stage::{Decision, Source, Stage, toggle_at};
+use crate::transaction::toggle_number;
 use usb_fields::{Direction, Setup, Toggle, prefix};
 
 impl EndpointZero {
@@ -180,13 +181,7 @@ impl EndpointZero {
     /// A packet of a write, whether it is acknowledged: kept, or discarded where it came again. A STALL answers one that is
     /// no whole packet and not all that is left, and one for which the room that is lent has no place.
     #[tactic(auto, using(crate::proofs::WriteLemmas::writes))]
-    fn gathers(
-        &mut self,
-        image: Image<'_>,
-        room: &mut [u8],
-        toggle: Toggle,
-        bytes: &[u8],
-    ) -> bool
+    fn gathers(&mut self, image: Image<'_>, room: &mut [u8], toggle: Toggle, bytes: &[u8]) -> bool
         requires at { stage_at self.old.stage ≡ Stage.Receiving }
         requires heard { self.old.pending ≡ false }
         ensures reply { IsOf image.entry.bytes.now room.old self.old → (if result then AckReply else StallReply) ≡ (received_by image.entry.bytes.now room.old self.old toggle bytes.now).reply }
@@ -233,7 +228,7 @@ impl EndpointZero {
     {
         self.wait(Stage::Receiving);
         self.offset = 0;
-        self.toggle = number_of(Toggle::Data1);
+        self.toggle = toggle_number(Toggle::Data1);
     }
 
     /// Keeps the bytes of a packet after those that have come.
@@ -248,6 +243,6 @@ impl EndpointZero {
         let end = self.offset + bytes.len();
         room[self.offset..end].copy_from_slice(bytes);
         self.offset = end;
-        self.toggle = number_of(toggle_at(self.toggle).flip());
+        self.toggle = toggle_number(toggle_at(self.toggle).flip());
     }
 }

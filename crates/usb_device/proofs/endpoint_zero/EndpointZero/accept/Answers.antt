@@ -1,4 +1,4 @@
-use Rattle.std.proofs.Common.{rules, ◌≡◌, ◌∙◌, ℕ, List, length, take, drop, min, ◌+◌, ◌-◌, ◌<◌, ◌≤◌, ◌⊎◌, inl, inr, ◌++◌, ◌/◌, Bool, true, false, refl, sym, subst, ap, arith}
+use Rattle.std.proofs.Common.{rules, length, ◌≤◌}
 use Rattle.usb_device.specs.Stages.{request_of}
 use Rattle.usb_device.proofs.endpoint_zero.EndpointZero.accept.Goals as goal
 

@@ -1,4 +1,3 @@
-use Rattle.std.proofs.Common.{rules, ◌≡◌, ◌∙◌, ℕ, List, length, take, drop, min, ◌+◌, ◌-◌, ◌<◌, ◌≤◌, ◌⊎◌, inl, inr, ◌++◌, ◌/◌, Bool, true, false, refl, sym, subst, ap, arith}
 use Rattle.usb_device.proofs.endpoint_zero.EndpointZero.answer_with.Goals as goal
 
 pub returns-clause-of : goal.returns-clause-of

@@ -1,4 +1,4 @@
-use Rattle.std.proofs.Common.{rules, ◌≡◌, ◌∙◌, ℕ, List, length, take, drop, min, ◌+◌, ◌-◌, ◌<◌, ◌≤◌, ◌⊎◌, inl, inr, ◌++◌, ◌/◌, Bool, true, false, refl, sym, subst, ap, arith}
+use Rattle.std.proofs.Common.{rules, ◌≡◌, ◌∙◌, length, take, min, ◌+◌, ◌-◌, sym, subst, ap}
 use Rattle.usb_device.specs.declared.endpoint_zero.EndpointZero.{EndpointZero}
 use Rattle.usb_device.specs.Offers.{packet_in}
 use Rattle.usb_device.specs.Stages.{data_of, request_of, toggle_at, IsReceiving, IsStage}
@@ -35,9 +35,11 @@ returns-then-bytes-left-clause-of c =
     let all : n ≡ (request_of e).length - e.offset = search rules in
     let due : n ≡ min (packet_in image) ((request_of e).length - e.offset) = search rules in
     let next : EndpointZero = record e { stage = c.number-self.result; toggle = c.keep.new.self.toggle; offset = e.offset + n } in
-    subst (λ (x : EndpointZero). IsOf image after (record x { stage = c.number-self.result })) (sym c.keep.ensures.rest)
-    (is.0, subst (λ stage. IsStage image after (data_of next) stage) (sym c.number-self.ensures)
-    (write_ends image room after (data_of e) (toggle_at c.keep.new.self.toggle) n is.0 h c.keep.ensures.room c.keep.ensures.toggle due all))
+    subst (λ (x : EndpointZero). IsOf image after (record x { stage = c.number-self.result })) (sym c.keep.ensures.rest) (
+      is.0,
+      subst (λ stage. IsStage image after (data_of next) stage) (sym c.number-self.ensures)
+          (write_ends image room after (data_of e) (toggle_at c.keep.new.self.toggle) n is.0 h c.keep.ensures.room c.keep.ensures.toggle due all),
+    )
 
 pub returns-else-bytes-left-clause-of : goal.returns-else-bytes-left-clause-of
 returns-else-bytes-left-clause-of c =
@@ -51,6 +53,8 @@ returns-else-bytes-left-clause-of c =
     let left : c.saturating_sub-left.result ≡ (request_of e).length - e.offset = search rules in
     let due : n ≡ min (packet_in image) ((request_of e).length - e.offset) = search rules in
     let next : EndpointZero = record e { toggle = c.keep.new.self.toggle; offset = e.offset + n } in
-    subst (λ (x : EndpointZero). IsOf image after x) (sym c.keep.ensures.rest)
-    (is.0, subst (λ stage. IsStage image after (data_of next) stage) (sym c.requires.at)
-    (write_goes_on image room after (data_of e) (toggle_at c.keep.new.self.toggle) n is.0 h c.keep.ensures.room c.keep.ensures.toggle due (λ same. c.if-bytes-left.false (same ∙ sym left))))
+    subst (λ (x : EndpointZero). IsOf image after x) (sym c.keep.ensures.rest) (
+      is.0,
+      subst (λ stage. IsStage image after (data_of next) stage) (sym c.requires.at)
+          (write_goes_on image room after (data_of e) (toggle_at c.keep.new.self.toggle) n is.0 h c.keep.ensures.room c.keep.ensures.toggle due (λ same. c.if-bytes-left.false (same ∙ sym left))),
+    )

@@ -1,4 +1,4 @@
-use Rattle.std.proofs.Common.{rules, ◌≡◌, ◌∙◌, ℕ, List, length, take, drop, min, ◌+◌, ◌-◌, ◌<◌, ◌≤◌, ◌⊎◌, inl, inr, ◌++◌, ◌/◌, Bool, true, false, refl, sym, subst, ap, arith}
+use Rattle.std.proofs.Common.{rules, ◌≡◌, ◌∙◌, ℕ, List, ◌+◌, ◌<◌, ◌≤◌, ◌⊎◌, inl, inr, sym, ap, arith}
 use Rattle.std.proofs.lemmas.Bool.Decides.{nat_tests}
 use Rattle.usb_fields.specs.declared.setup.Setup.{Setup}
 use Rattle.usb_fields.specs.Packets.{flipped}
@@ -41,12 +41,12 @@ returns-else-saturating_sub-packet-clause-device c =
     λ room h.
     let e = c.args.self.now in
     let on = goes_on c room h in
-    rw c.packet-packet.ensures (device_goes_on c.args.image.bytes.now room e c.requires.sending h c.number_of-self.result on.0 on.1)
+    rw c.packet-packet.ensures (device_goes_on c.args.image.bytes.now room e c.requires.sending h c.toggle_number-self.result on.0 on.1)
 
 pub returns-else-saturating_sub-packet-clause-of : goal.returns-else-saturating_sub-packet-clause-of
 returns-else-saturating_sub-packet-clause-of c =
     λ room h.
     let e = c.args.self.now in
     let on = goes_on c room h in
-    let flips = c.number_of-self.ensures ∙ c.flip.ensures ∙ ap flipped c.toggle_at.ensures in
-    rw c.packet-packet.ensures (is_of_goes_on c.args.image.bytes.now room e c.requires.sending h c.number_of-self.result flips on.0 on.1)
+    let flips = c.toggle_number-self.ensures.back ∙ c.flip.ensures ∙ ap flipped c.toggle_at.ensures in
+    rw c.packet-packet.ensures (is_of_goes_on c.args.image.bytes.now room e c.requires.sending h c.toggle_number-self.result flips on.0 on.1)

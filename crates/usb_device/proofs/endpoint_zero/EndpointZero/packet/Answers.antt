@@ -1,4 +1,4 @@
-use Rattle.std.proofs.Common.{rules, ◌≡◌, ◌∙◌, ℕ, List, length, take, drop, min, ◌+◌, ◌-◌, ◌<◌, ◌≤◌, ◌⊎◌, inl, inr, ◌++◌, ◌/◌, Bool, true, false, refl, sym, subst, ap, arith}
+use Rattle.std.proofs.Common.{◌∙◌, sym}
 use Rattle.usb_device.proofs.StageLemmas.{packet_there}
 use Rattle.usb_device.proofs.endpoint_zero.EndpointZero.packet.Goals as goal
 

@@ -1,5 +1,5 @@
-use Rattle.std.proofs.Common.{rules, ◌≡◌, ◌∙◌, ℕ, List, length, take, drop, min, ◌+◌, ◌-◌, ◌<◌, ◌≤◌, ◌⊎◌, inl, inr, ◌++◌, ◌/◌, Bool, true, false, refl, sym, subst, ap, arith}
-use Rattle.usb_fields.specs.Packets.{Reply, DataReply}
+use Rattle.std.proofs.Common.{◌∙◌, sym, ap}
+use Rattle.usb_fields.specs.Packets.{DataReply}
 use Rattle.usb_device.specs.View.{packet_due, stage_in}
 use Rattle.usb_device.specs.Offers.{packet_in}
 use Rattle.usb_device.proofs.StageLemmas.{sent_device, sent_reply}
