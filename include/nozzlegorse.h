@@ -52,7 +52,7 @@ enum nzg_status {
     NZG_CLOSED = 9,            /* the handle holds nothing */
     NZG_BAD_ARGUMENT = 10,     /* number: 1 address, 2 attempts, 3 speed, 4 a fate, 5 a rule, 6 no string, 7 a packet size, 8 a reply,
                                 * 9 a request without data to the device, 10 data that are not wLength bytes, 11 numbers of no transfer,
-                                * 12 no packet, 13 no such finding, remark, fault or trouble, 14 what becomes of strings */
+                                * 12 no packet, 13 no such finding, remark, fault or trouble, 14 what becomes of strings, 15 an image */
     NZG_TROUBLE = 11,          /* number 1..7: why a transfer or an enumeration failed */
     NZG_UNANSWERED = 12,       /* number 1..4: why the device doesn't take the answer to a request */
     NZG_NO_BYTES = 13,         /* number: why the file of a host has no bytes; a law of the library says it doesn't come */
@@ -262,29 +262,52 @@ struct nzg_packet { uint8_t reply, toggle, length, data[64]; };
 
 struct nzg_setup { uint8_t bytes[8]; };
 
-/* --- the device end: only _open asks for memory -------------------------------------------------------------------- */
+/* --- the device end: nzg_device_image alone asks for memory -------------------------------------------------------- */
 
-struct nzg_device { NZG_HELD; };
-struct nzg_state { uint32_t halts; uint8_t address, selected; bool wakeup; uint8_t alternates[256]; };
+/* What a device keeps from one request to the next (9.1.1). */
+struct nzg_state {
+    uint8_t address, selected; /* 0 to 127; bConfigurationValue, or 0 */
+    uint8_t alternates[256];   /* the alternate setting of each interface, by its number */
+    uint32_t halts;            /* bit n: endpoint n OUT, bit 16 + n: endpoint n IN */
+    bool wakeup;               /* remote wakeup is enabled */
+};
 
-struct nzg_answer nzg_device_open(struct nzg_device *device, const uint8_t *file, nzg_size len, uint8_t speed);
-bool nzg_device_reset(struct nzg_device *device);
-/* False where nothing is held, or where the stage or the toggle of OUT has no meaning: the packet is then as it was. */
-bool nzg_device_serve(struct nzg_device *device, const struct nzg_transaction *transaction, const uint8_t *data, nzg_size len, bool ready, struct nzg_packet *packet);
-bool nzg_device_acked(struct nzg_device *device);
+/* A device is these numbers, beside an image and a room that each call is lent: always the same image, and the room with the bytes
+ * that the call before left there. {0} is a new device; a copy, with one of the room, is a place to come back to. Any numbers, any
+ * image and any room are safe. */
+struct nzg_device {
+    struct nzg_state state;
+    uint32_t start;           /* where the bytes of a data stage to the host begin in the image, or 0: they are in the room */
+    uint16_t count, offset;   /* of a data stage: how many bytes are to be sent; how many were acknowledged, or have come */
+    struct nzg_setup request; /* of the transfer */
+    uint8_t stage;            /* of the transfer: 0 none */
+    uint8_t toggle;           /* of the packet that is due, or awaited */
+    bool settled;             /* the host knows of a rejection; or the request was carried out */
+    bool pending;             /* the last answer waits for an ACK */
+};
+
+/* The image of a descriptor file, from which a device answers: the same at each speed at which there is such a device. It may lie
+ * anywhere, as in flash. */
+struct nzg_answer nzg_device_image(const uint8_t *file, nzg_size len, uint8_t speed, uint8_t *image, nzg_size room);
+/* A bus reset. */
+void nzg_device_reset(struct nzg_device *device);
+/* Each call with an image wants one of version 1 whose bMaxPacketSize0 is 1 to 64. Of other bytes it answers false, or a bad argument,
+ * and nothing changes. The room is for what an owner answers and for writes: at most as many bytes, and 2 for chapter 9 alone.
+ *
+ * False, too, where the stage or the toggle of OUT has no meaning: the packet is then as it was. */
+bool nzg_device_serve(struct nzg_device *device, const uint8_t *image, nzg_size image_len, uint8_t *kept, nzg_size kept_len, const struct nzg_transaction *transaction, const uint8_t *data, nzg_size len, bool ready, struct nzg_packet *packet);
+bool nzg_device_acked(struct nzg_device *device, const uint8_t *image, nzg_size image_len);
 /* The request that is refused, before the host is answered; an answer to it; and the request that was carried out. Accepted is a
- * request without data, one whose data go to the device, at most 512 bytes, and then the write once all of them have come. */
-bool nzg_device_refused(struct nzg_device *device, struct nzg_setup *setup);
-struct nzg_answer nzg_device_answer_with(struct nzg_device *device, const uint8_t *bytes, nzg_size len);
-struct nzg_answer nzg_device_accept(struct nzg_device *device);
-/* The write whose data have all come and that wasn't answered yet, and those data; open where there is none. With no room for the
- * data the setup is written all the same. */
-struct nzg_answer nzg_device_written(struct nzg_device *device, struct nzg_setup *setup, uint8_t *data, nzg_size room);
+ * request without data, one whose data go to the device, for which there is room, and then the write once all of them have come. */
+bool nzg_device_refused(const struct nzg_device *device, struct nzg_setup *setup);
+struct nzg_answer nzg_device_answer_with(struct nzg_device *device, const uint8_t *image, nzg_size image_len, uint8_t *kept, nzg_size kept_len, const uint8_t *bytes, nzg_size len);
+struct nzg_answer nzg_device_accept(struct nzg_device *device, const uint8_t *image, nzg_size image_len, nzg_size kept_len);
+/* The write whose data have all come and that wasn't answered yet: done, and its data are the first `length` bytes of the room; open
+ * where there is none. */
+struct nzg_answer nzg_device_written(const struct nzg_device *device, const uint8_t *kept, nzg_size kept_len, struct nzg_setup *setup);
 /* STALL until the next SETUP, where the device itself rejects the request, and its status stage wasn't answered yet. */
-bool nzg_device_refuse(struct nzg_device *device);
-bool nzg_device_carried_out(struct nzg_device *device, struct nzg_setup *setup);
-bool nzg_device_state(struct nzg_device *device, struct nzg_state *state);
-void nzg_device_close(struct nzg_device *device);
+bool nzg_device_refuse(struct nzg_device *device, const uint8_t *image, nzg_size image_len);
+bool nzg_device_carried_out(const struct nzg_device *device, struct nzg_setup *setup);
 
 /* Why a device under test may not answer so: what is due is another answer. */
 enum nzg_difference {
@@ -297,7 +320,7 @@ enum nzg_difference {
     NZG_STALLED = 6,    /* STALL of a request that the device has, or has carried out (9.4) */
     NZG_NOT_STALLED = 7, /* no STALL of a request that it does not have, or before the SETUP after one (9.2.7, 8.5.3.4) */
     NZG_OTHER_PACKET = 8, /* data for OUT, or an ACK for IN (8.4.6.1, 8.4.6.3) */
-    NZG_NOT_JUDGED = 9  /* nothing is held, or a stage, a toggle, a reply or a length above 64 has no meaning: nothing changes */
+    NZG_NOT_JUDGED = 9  /* the image, a stage, a toggle, a reply or a length above 64 has no meaning: nothing changes */
 };
 /* What such a device has answered in the transfer of a request that is open to it: zeroed at first. A SETUP begins it anew. */
 struct nzg_open_transfer { uint16_t acknowledged, sent; uint8_t last, stage; };
@@ -305,7 +328,7 @@ struct nzg_open_transfer { uint16_t acknowledged, sent; uint8_t last, stage; };
  * where the other one was: its answer goes into `has`. Of what came is allowed: the same; a status of a device that differs in
  * bit 0 (9.4.5); and what keeps chapter 8 where this one refuses the request and its owner may answer it, or a device may do either
  * (SET_INTERFACE of the only setting, 9.4.10; halts of endpoint zero and of isochronous ones, 9.4.5): `open` follows that. */
-uint8_t nzg_judge_device(struct nzg_device *device, struct nzg_open_transfer *open, const struct nzg_setup *request, const struct nzg_transaction *transaction, const uint8_t *data, nzg_size len, const struct nzg_packet *came, struct nzg_packet *has);
+uint8_t nzg_judge_device(struct nzg_device *device, const uint8_t *image, nzg_size image_len, uint8_t *kept, nzg_size kept_len, struct nzg_open_transfer *open, const struct nzg_setup *request, const struct nzg_transaction *transaction, const uint8_t *data, nzg_size len, const struct nzg_packet *came, struct nzg_packet *has);
 /* The host's ACK of the packet that was judged right before has reached the device: with nzg_device_acked. */
 void nzg_judge_acked(struct nzg_open_transfer *open);
 
@@ -412,13 +435,13 @@ NZG_SIZE(nzg_packet_fields, 16);
 NZG_SIZE(nzg_transaction, 11);
 NZG_SIZE(nzg_packet, 67);
 NZG_SIZE(nzg_open_transfer, 6);
-NZG_SIZE(nzg_state, 264);
+NZG_SIZE(nzg_state, 268);
 NZG_SIZE(nzg_transfer, 20);
 NZG_SIZE(nzg_write, 20);
 NZG_SIZE(nzg_trouble, 6);
 NZG_SIZE(nzg_step, 18);
 NZG_SIZE(nzg_setup, 8);
-NZG_SIZE(nzg_device, 8);
+NZG_SIZE(nzg_device, 288);
 NZG_SIZE(nzg_host, 8);
 NZG_SIZE(nzg_decoder, 8);
 #undef NZG_SIZE
