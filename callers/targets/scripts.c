@@ -24,7 +24,7 @@ static void serve(const uint8_t *at, uint32_t length) {
     struct nzg_packet packet = {0};
     bool is_setup = next.stage == NZG_SETUP;
     for (int i = 0; is_setup && i < 8; i++) next.setup[i] = at[4 + i];
-    say_list("serve ", nzg_device_serve(&device, &next, at + 4, is_setup ? 0 : length - 4, at[3], &packet));
+    say_list("serve ", nzg_device_serve(&device, LENT, &next, at + 4, is_setup ? 0 : length - 4, at[3], &packet));
     say_packet(&packet);
 }
 
@@ -36,21 +36,21 @@ static void say_request(const char *what, uint64_t is_there, const struct nzg_se
 
 static void say_written(void) {
     struct nzg_setup setup = {0};
-    struct nzg_answer answer = nzg_device_written(&device, &setup, room, 512);
+    struct nzg_answer answer = nzg_device_written(&device, kept, kept_length, &setup);
     say_answer("written", answer);
     say_request(" ", answer.status == NZG_DONE, &setup);
-    if (answer.status == NZG_DONE) say_hash(room, answer.length);
+    if (answer.status == NZG_DONE) say_hash(kept, answer.length);
 }
 
 static void device_step(uint8_t kind, const uint8_t *at, uint32_t length) {
     struct nzg_setup setup = {0};
-    if (kind == 'O') say_answer("open", nzg_device_open(&device, at + 1, length - 1, at[0]));
+    if (kind == 'O') say_answer("open", new_device(&device, at + 1, length - 1, at[0]));
     if (kind == 'T') serve(at, length);
-    if (kind == 'K') say_list("acked ", nzg_device_acked(&device));
-    if (kind == 'R') say_list("reset ", nzg_device_reset(&device));
-    if (kind == 'A') say_answer("with", nzg_device_answer_with(&device, at, length));
-    if (kind == 'C') say_answer("accept", nzg_device_accept(&device));
-    if (kind == 'N') say_list("refuse ", nzg_device_refuse(&device));
+    if (kind == 'K') say_list("acked ", nzg_device_acked(&device, IMAGE));
+    if (kind == 'R') nzg_device_reset(&device);
+    if (kind == 'A') say_answer("with", nzg_device_answer_with(&device, LENT, at, length));
+    if (kind == 'C') say_answer("accept", nzg_device_accept(&device, IMAGE, kept_length));
+    if (kind == 'N') say_list("refuse ", nzg_device_refuse(&device, IMAGE));
     if (kind == 'F') say_request("refused ", nzg_device_refused(&device, &setup), &setup);
     if (kind == 'D') say_request("carried ", nzg_device_carried_out(&device, &setup), &setup);
     if (kind == 'W') say_written();
@@ -108,6 +108,5 @@ void scripts(void) {
         else transfer_step(kind, at, follow);
         at += follow;
     }
-    nzg_device_close(&device);
     nzg_host_close(&host);
 }

@@ -1,6 +1,7 @@
 /* A mouse. The library is its end of endpoint zero; what belongs to HID 1.11 is here: a report descriptor, SET_IDLE, SET_PROTOCOL,
  * and reports that move the pointer. */
 #include "hardware.h"
+#include "mouse.h" /* python3 -m nozzlegorse.image makes it of mouse.file */
 
 enum { GET_DESCRIPTOR = 6, SET_IDLE = 10, SET_PROTOCOL = 11, REPORT = 0x22 };
 enum { OF_INTERFACE_IN = 0x81, OF_CLASS_OUT = 0x21 };
@@ -10,13 +11,11 @@ static const uint8_t REPORT_DESCRIPTOR[] = {
     0x05, 1, 0x09, 2, 0xa1, 1, 0x09, 1, 0xa1, 0, 0x05, 9, 0x19, 1, 0x29, 3, 0x15, 0, 0x25, 1, 0x95, 3, 0x75, 1, 0x81, 2, 0x95, 1, 0x75, 5,
     0x81, 1, 0x05, 1, 0x09, 0x30, 0x09, 0x31, 0x15, 0x81, 0x25, 0x7f, 0x75, 8, 0x95, 2, 0x81, 6, 0xc0, 0xc0};
 
-/* The device, its configuration set, the list of languages and a string. */
-static const uint8_t FILE[] = {
-    18, 1, 0x10, 1, 0, 0, 0, 64, 0x34, 0x12, 0x78, 0x56, 0, 1, 0, 1, 0, 1,
-    9, 2, 34, 0, 1, 1, 0, 0xa0, 50, 9, 4, 0, 0, 1, 3, 1, 2, 0, 9, 0x21, 0x11, 1, 0, 1, REPORT, sizeof REPORT_DESCRIPTOR, 0, 7, 5, 0x81, 3, 4, 0, 10,
-    4, 3, 9, 4, 12, 3, 'm', 0, 'o', 0, 'u', 0, 's', 0, 'e', 0};
+_Static_assert(sizeof REPORT_DESCRIPTOR == 50, "as the HID descriptor in mouse.file says");
 
+/* What the library keeps, and the room that it is lent for answers. */
 static struct nzg_device device;
+static uint8_t kept[sizeof REPORT_DESCRIPTOR];
 
 /* A request that chapter 9 leaves to the class. The library has refused it, and takes this answer in place of that. False where it
  * stays refused. */
@@ -26,13 +25,13 @@ static bool answer_class(void) {
     const uint8_t *setup = refused.bytes;
     bool is_report = setup[0] == OF_INTERFACE_IN && setup[1] == GET_DESCRIPTOR && setup[3] == REPORT && !setup[4];
     bool is_set = setup[0] == OF_CLASS_OUT && (setup[1] == SET_IDLE || setup[1] == SET_PROTOCOL) && !setup[4] && !setup[6] && !setup[7];
-    if (is_report) return nzg_device_answer_with(&device, REPORT_DESCRIPTOR, sizeof REPORT_DESCRIPTOR).status == NZG_DONE;
-    return is_set && nzg_device_accept(&device).status == NZG_DONE;
+    if (is_report) return nzg_device_answer_with(&device, mouse, MOUSE_LENGTH, kept, sizeof kept, REPORT_DESCRIPTOR, sizeof REPORT_DESCRIPTOR).status == NZG_DONE;
+    return is_set && nzg_device_accept(&device, mouse, MOUSE_LENGTH, sizeof kept).status == NZG_DONE;
 }
 
 static void serve(const struct hardware_event *event) {
     struct nzg_packet packet;
-    if (!nzg_device_serve(&device, &event->transaction, event->data, event->length, true, &packet)) packet.reply = NZG_SILENCE;
+    if (!nzg_device_serve(&device, mouse, MOUSE_LENGTH, kept, sizeof kept, &event->transaction, event->data, event->length, true, &packet)) packet.reply = NZG_SILENCE;
     if (event->transaction.stage == NZG_SETUP && !answer_class()) packet.reply = NZG_STALL;
     hardware_answer(&packet);
 }
@@ -47,16 +46,13 @@ static void move(void) {
 
 int main(void) {
     struct hardware_event event;
-    if (nzg_device_open(&device, FILE, sizeof FILE, NZG_FULL).status != NZG_DONE) return 1;
     hardware_start();
     for (;;) {
-        struct nzg_state state;
         hardware_wait(&event);
         if (event.kind == HARDWARE_RESET) nzg_device_reset(&device);
-        if (event.kind == HARDWARE_ACKED) nzg_device_acked(&device);
+        if (event.kind == HARDWARE_ACKED) nzg_device_acked(&device, mouse, MOUSE_LENGTH);
         if (event.kind == HARDWARE_TRANSACTION) serve(&event);
-        nzg_device_state(&device, &state);
-        hardware_address(state.address);
-        if (state.selected) move();
+        hardware_address(device.state.address);
+        if (device.state.selected) move();
     }
 }
