@@ -1,6 +1,6 @@
 // The exports of nozzlegorse.h over values, one function for each: bytes are lent as a Uint8Array, a struct is an object with its
-// fields, and what a call writes into room comes back in its answer. A struct that a call changes is changed in place. A handle is
-// such an object too: begun as {}, and freed by its _close alone.
+// fields, and what a call writes into room comes back in its answer. A struct that a call changes is changed in place, and so is what
+// a device keeps. A handle is such an object too: begun as {}, and freed by its _close alone.
 import { calls as declared, structs } from './declared.mjs';
 
 const NO_ROOM = 7, FIRST_ROOM = 4096, ALIGN = 8;
@@ -88,10 +88,13 @@ function putStruct(view, at, kind, value) {
         if (value[name] !== undefined) putField(view, at + place, type, count, value[name]);
 }
 
+// Of bytes: they have a length of their own. Those that are kept change in place.
+const isLent = role => role === 'bytes' || role === 'kept';
+
 // How many bytes a parameter takes in the library's memory.
 function lengthOf([role, , kind], value, room) {
     if (value instanceof Held) return 0;
-    if (role === 'bytes') return value.length;
+    if (isLent(role)) return value.length;
     if (role === 'room') return room * (structs[kind]?.size ?? 1);
     return role === 'number' ? 0 : structs[kind].size;
 }
@@ -120,21 +123,24 @@ function lent(exports, all, base, room) {
     const view = new DataView(exports.memory.buffer), bytes = new Uint8Array(exports.memory.buffer), words = [];
     for (const { it: [role, , kind], value, length, place } of all) {
         const at = value instanceof Held ? value.place : base + place;
-        if (role !== 'bytes') bytes.fill(0, at, at + length);
+        if (!isLent(role)) bytes.fill(0, at, at + length);
         else if (length) bytes.set(value, at);
         if (role === 'number') words.push(kind === 'size' || kind === 'uint64_t' ? BigInt(value) : Number(value));
         else words.push(at);
-        if (role === 'bytes' || role === 'room') words.push(BigInt(role === 'room' ? room : value.length));
+        if (isLent(role) || role === 'room') words.push(BigInt(role === 'room' ? room : value.length));
         if ((role === 'struct' || role === 'lent') && !(value instanceof Held)) putStruct(view, at, kind, value);
     }
     return words;
 }
 
-// What a call has changed: the structs, and its answer with what it wrote.
+// What a call has changed: the structs, what is kept, and its answer with what it wrote.
 function given_back(exports, result, all, base, room, came) {
     const view = new DataView(exports.memory.buffer);
-    for (const { it: [role, , kind], value, place } of all)
-        if (role === 'struct' && !(value instanceof Held)) Object.assign(value, structAt(view, base + place, kind));
+    for (const { it: [role, , kind], value, length, place } of all) {
+        if (value instanceof Held) continue;
+        if (role === 'struct') Object.assign(value, structAt(view, base + place, kind));
+        if (role === 'kept') value.set(new Uint8Array(exports.memory.buffer, base + place, length));
+    }
     if (!structs[result]) return result === 'bool' ? came !== 0 : result === 'uint8_t' ? came & 0xff : result === 'uint16_t' ? came & 0xffff : came;
     const answer = structAt(view, base, result);
     const length = answer.status === NO_ROOM ? 0 : Math.min(answer.length, room);

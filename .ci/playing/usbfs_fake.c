@@ -23,8 +23,8 @@ struct rule { char pattern[17], action[16], argument[600]; };
 static struct {
     int file;
     struct nzg_device device;
-    uint8_t bytes[ROOM], answer[ROOM];
-    size_t length;
+    uint8_t bytes[ROOM], answer[ROOM], image[4 * ROOM], kept[512];
+    size_t length, image_len;
     unsigned selected;
     struct rule rules[RULES];
     size_t rule_count;
@@ -50,16 +50,14 @@ static unsigned word(const uint8_t *at) { return at[0] | (unsigned)at[1] << 8; }
 static int transfer(const uint8_t q[8]) {
     struct nzg_transfer it;
     struct nzg_transaction next;
-    struct nzg_state state;
     struct nzg_setup setup;
     size_t length = 0;
     memcpy(setup.bytes, q, 8);
-    nzg_device_state(&fake.device, &state);
-    nzg_transfer_open(&it, state.address, fake.bytes[7], 16, &setup);
+    nzg_transfer_open(&it, fake.device.state.address, fake.bytes[7], 16, &setup);
     while (nzg_transfer_next(&it, &next)) {
         struct nzg_packet back;
-        nzg_device_serve(&fake.device, &next, q, 0, true, &back);
-        if (back.reply == NZG_DATA) nzg_device_acked(&fake.device);
+        nzg_device_serve(&fake.device, fake.image, fake.image_len, fake.kept, sizeof fake.kept, &next, q, 0, true, &back);
+        if (back.reply == NZG_DATA) nzg_device_acked(&fake.device, fake.image, fake.image_len);
         size_t new = nzg_transfer_take(&it, back.reply, back.toggle, back.data, back.length).length;
         memcpy(fake.answer + length, back.data, new);
         length += new;
@@ -205,7 +203,9 @@ static bool read_script(const char *folder) {
         else fake.rules[fake.rule_count++] = it;
     }
     if (in) fclose(in);
-    if (nzg_device_open(&fake.device, fake.bytes, fake.length, (uint8_t)speed).status) abort();
+    struct nzg_answer made = nzg_device_image(fake.bytes, fake.length, (uint8_t)speed, fake.image, sizeof fake.image);
+    if (made.status) abort();
+    fake.image_len = made.length;
     do_request(0, 5, ADDRESS, 0), do_request(0, 9, (uint8_t)fake.selected, 0);
     for (unsigned i = 0; i < INTERFACES; i++)
         if (settings[i]) do_request(1, 11, (uint8_t)settings[i], (uint8_t)i);
@@ -285,12 +285,12 @@ SEEN int poll(struct pollfd *all, nfds_t count, int limit) {
 
 /* What is left at the end. */
 __attribute__((destructor)) static void end(void) {
-    struct nzg_state state;
-    if (!fake.log || !nzg_device_state(&fake.device, &state)) return;
-    add_log("left selected %u wakeup %d halts %x", state.selected, state.wakeup, (unsigned)state.halts);
+    const struct nzg_state *state = &fake.device.state;
+    if (!fake.log || !fake.image_len) return;
+    add_log("left selected %u wakeup %d halts %x", state->selected, state->wakeup, (unsigned)state->halts);
     for (unsigned i = 0; i < INTERFACES; i++)
         if (fake.drivers[i][0]) add_log(" %u:%s", i, fake.drivers[i]);
     for (unsigned i = 0; i < 256; i++)
-        if (state.alternates[i]) add_log(" setting %u of %u", state.alternates[i], i);
+        if (state->alternates[i]) add_log(" setting %u of %u", state->alternates[i], i);
     add_log("\n");
 }

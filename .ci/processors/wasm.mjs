@@ -60,9 +60,10 @@ function walked(bytes) {
 
 // Both ends, transaction by transaction: the host has read the file.
 function enumerated(bytes) {
-    const { nzg_device_open, nzg_device_reset, nzg_device_serve, nzg_device_acked, nzg_device_close, ...calls } = usb.calls;
-    const device = {}, host = {}, { NZG_RESET, NZG_SEND } = enumerations.action;
-    if (nzg_device_open(device, bytes, 2).status || calls.nzg_host_open(host, 1, 16, 3, 2).status) return null;
+    const { nzg_device_image, nzg_device_reset, nzg_device_serve, nzg_device_acked, ...calls } = usb.calls;
+    const device = {}, kept = new Uint8Array(512), host = {}, { NZG_RESET, NZG_SEND } = enumerations.action;
+    const { status, image } = nzg_device_image(bytes, 2);
+    if (status || calls.nzg_host_open(host, 1, 16, 3, 2).status) return null;
     for (let next = {}, action; (action = calls.nzg_host_next(host, next)) === NZG_SEND || action === NZG_RESET;) {
         if (action === NZG_RESET) {
             nzg_device_reset(device);
@@ -70,12 +71,11 @@ function enumerated(bytes) {
             continue;
         }
         const packet = {};
-        nzg_device_serve(device, next, new Uint8Array(), true, packet);
-        if (packet.reply === enumerations.reply.NZG_DATA) nzg_device_acked(device);
+        nzg_device_serve(device, image, kept, next, new Uint8Array(), true, packet);
+        if (packet.reply === enumerations.reply.NZG_DATA) nzg_device_acked(device, image);
         calls.nzg_host_take(host, packet.reply, packet.toggle, packet.data.subarray(0, packet.length));
     }
     const outcome = calls.nzg_host_outcome(host, {});
-    nzg_device_close(device);
     calls.nzg_host_close(host);
     return outcome.file;
 }

@@ -6,10 +6,8 @@ static const uint8_t set[] = {9, 2, 9, 0, 0, 1, 0, 0x80, 50};
 
 int main(void) {
     struct usb_device theirs = {3};
-    struct nzg_device ours = {0};
     uint8_t text[64];
     struct nzg_answer shown = nzg_show(set, sizeof set, false, text, sizeof text);
-    struct nzg_answer opened = nzg_device_open(&ours, set, sizeof set, NZG_FULL);
-    nzg_device_close(&ours);
-    return !(usb_open(&theirs) == 3 && shown.status == NZG_DONE && shown.length > 0 && opened.status == NZG_FILE_FAULT);
+    struct nzg_answer made = nzg_device_image(set, sizeof set, NZG_FULL, text, sizeof text);
+    return !(usb_open(&theirs) == 3 && shown.status == NZG_DONE && shown.length > 0 && made.status == NZG_FILE_FAULT);
 }

@@ -52,6 +52,13 @@ void nzg_bench_note(struct run *run, bool is_whole, const char *why) {
     run->report->differs(run->report->context, number, &it);
 }
 
+bool nzg_bench_make_image(struct run *run) {
+    const struct nzg_bench *bench = run->bench;
+    struct nzg_answer answer = nzg_device_image(bench->file, bench->len, bench->speed, run->kept, 0);
+    run->image_len = answer.length, run->image = answer.status == NZG_NO_ROOM ? malloc(run->image_len) : NULL;
+    return run->image && nzg_device_image(bench->file, bench->len, bench->speed, run->image, run->image_len).status == NZG_DONE;
+}
+
 /* --- one transaction --------------------------------------------------------------------------------------------- */
 
 char nzg_bench_fate_of(const struct run *run) {
@@ -97,13 +104,13 @@ static uint8_t exchange(struct run *run, const struct nzg_setup *request, const 
     run->tested->transaction(run->tested->context, &it->head, it->data, it->len, line->fate != 'n', &line->came);
     if (run->bench->is_over) return NZG_NOT_JUDGED;
     if (run->wrong) return run->wrong;
-    uint8_t difference = nzg_judge_device(&run->proved, &run->open, request, &it->head, it->data, it->len, &line->came, &line->due);
+    uint8_t difference = nzg_judge_device(&run->proved, run->image, run->image_len, run->kept, sizeof run->kept, &run->open, request, &it->head, it->data, it->len, &line->came, &line->due);
     if (difference) return difference;
     if (line->fate != 'u') *back = line->came;
     if (line->came.reply != NZG_DATA || line->fate == 'u' || line->fate == 'a') return 0;
     if (line->fate == 'k') return run->damaged_ack(run);
     run->tested->acked(run->tested->context);
-    nzg_device_acked(&run->proved);
+    nzg_device_acked(&run->proved, run->image, run->image_len);
     nzg_judge_acked(&run->open);
     return run->wrong;
 }
@@ -112,8 +119,8 @@ static uint8_t send_to(struct run *run, enum whom whom, const struct nzg_setup *
     if (whom == BOTH) return exchange(run, request, it, back);
     back->reply = NZG_SILENCE;
     if (whom == PROVED) {
-        nzg_device_serve(&run->proved, &it->head, it->data, it->len, true, back);
-        if (back->reply == NZG_DATA) nzg_device_acked(&run->proved);
+        nzg_device_serve(&run->proved, run->image, run->image_len, run->kept, sizeof run->kept, &it->head, it->data, it->len, true, back);
+        if (back->reply == NZG_DATA) nzg_device_acked(&run->proved, run->image, run->image_len);
         return 0;
     }
     struct nzg_bench_line *line = begun_line(run, it);
@@ -241,14 +248,13 @@ static bool is_apart(const struct run *run, const uint8_t q[8]) {
 
 /* A transfer of both. After what leaves the two apart they are to be reset. */
 static void ask(struct run *run, const struct nzg_bench_request *request) {
-    struct nzg_state state;
-    uint8_t difference;
-    nzg_device_state(&run->proved, &state);
-    enum phase phase = phase_of(state.address, state.selected);
+    const struct nzg_state *state = &run->proved.state;
+    uint8_t difference, address = state->address;
+    enum phase phase = phase_of(address, state->selected);
     const uint8_t *q = request->setup.bytes;
     if (run->losses && nzg_bench_unspecified(phase, q)) return;
     begin_work(run, state_of(phase), &(struct nzg_bench_work){.request = *request});
-    struct making m = make(run, BOTH, request, state.address, &difference);
+    struct making m = make(run, BOTH, request, address, &difference);
     if (difference) {
         run->is_apart = q[0] < 0x80 || difference == NZG_NOT_TAKEN || difference == NZG_ADDRESS || difference > NZG_NOT_JUDGED;
         nzg_bench_note(run, false, REASONS[difference]);
@@ -310,8 +316,7 @@ static void make_plan(struct run *run, const struct nzg_bench_request *talk, siz
     uint8_t difference;
     nzg_device_reset(&run->proved);
     for (size_t i = 0; i < count; i++) {
-        struct nzg_state state;
-        nzg_device_state(&run->proved, &state);
+        const struct nzg_state state = run->proved.state;
         run->plan[i] = (struct planned){talk[i], state.address, state.selected, talk[i].is_reset ? NULL : nzg_bench_unspecified(phase_of(state.address, state.selected), talk[i].setup.bytes)};
         if (talk[i].is_reset) nzg_device_reset(&run->proved);
         else if (!run->plan[i].open) make(run, PROVED, &talk[i], state.address, &difference);
@@ -369,14 +374,13 @@ bool nzg_bench_try_by(struct nzg_bench *bench, const struct nzg_bench_device *de
     for (unsigned i = 0; i < MOST_BYTES; i++) run->sent[i] = (uint8_t)(i % 251 + 1);
     bench->runs = bench->transactions = bench->differences = 0, bench->is_over = false;
     size_t count = bench->talk ? bench->talk_len : made ? nzg_bench_talk(bench->file, bench->len, made) : 0;
-    bool can = made && run->plan && run->file && count <= NZG_BENCH_TALK && nzg_device_open(&run->proved, bench->file, bench->len, bench->speed).status == NZG_DONE;
+    bool can = made && run->plan && run->file && count <= NZG_BENCH_TALK && nzg_bench_make_image(run);
     if (can) make_plan(run, bench->talk ? bench->talk : made, count);
     for (unsigned losses = 0; can && losses <= bench->losses && losses <= NZG_BENCH_LOSSES && !bench->is_over; losses++) nzg_bench_with_losses(run, losses, once, NULL);
     run->letters = "tpk";
     for (unsigned damages = 1; can && run->packets && damages <= bench->damages && damages <= NZG_BENCH_LOSSES && !bench->is_over; damages++) nzg_bench_with_losses(run, damages, once, NULL);
     bench->differences = run->finding_count;
-    nzg_device_close(&run->proved);
-    free(made), free(run->plan), free(run->file);
+    free(made), free(run->plan), free(run->file), free(run->image);
     return can;
 }
 

@@ -106,8 +106,8 @@ static void send(struct nzg_bus *face, const struct nzg_transaction *sent, const
     b->run->transactions++;
     b->why = judged(b, sent);
     if (b->why) return;
-    if (line->fate != 'd') nzg_device_serve(&b->run->proved, sent, data, len, line->fate != 'n', reply);
-    if (reply->reply == NZG_DATA && line->fate != 'u' && line->fate != 'a') nzg_device_acked(&b->run->proved);
+    if (line->fate != 'd') nzg_device_serve(&b->run->proved, b->run->image, b->run->image_len, b->run->kept, sizeof b->run->kept, sent, data, len, line->fate != 'n', reply);
+    if (reply->reply == NZG_DATA && line->fate != 'u' && line->fate != 'a') nzg_device_acked(&b->run->proved, b->run->image, b->run->image_len);
     if (line->fate == 'u') memset(reply, 0, sizeof *reply), reply->reply = NZG_SILENCE;
     line->came = line->due = *reply;
     take(b, reply);
@@ -165,13 +165,12 @@ static void once(struct run *run, void *context) {
 static bool try_host(struct run *run, struct tried *tried) {
     struct nzg_bench *bench = run->bench;
     bench->runs = bench->transactions = bench->differences = 0, bench->is_over = false;
-    if (!tried->file || nzg_device_open(&run->proved, bench->file, bench->len, bench->speed).status != NZG_DONE) {
+    if (!tried->file || !nzg_bench_make_image(run)) {
         fprintf(((struct nzg_bench_text *)run->report->context)->out, "no device of this speed has these descriptors\n");
         return false;
     }
     for (unsigned losses = 0; losses <= bench->losses && losses <= NZG_BENCH_LOSSES && !bench->is_over; losses++) nzg_bench_with_losses(run, losses, once, tried);
     bench->differences = run->finding_count;
-    nzg_device_close(&run->proved);
     return true;
 }
 
@@ -188,6 +187,7 @@ bool nzg_bench_host(struct nzg_bench *bench, nzg_bench_host_of *host, void *cont
             is_same = nzg_bench_print_end(bench, "host", out);
         }
     }
+    if (run) free(run->image);
     free(tried.file), free(run);
     return is_same;
 }

@@ -21,6 +21,8 @@ struct run {
     const struct nzg_bench_device *tested;
     const struct nzg_bench_report *report;
     struct nzg_device proved;
+    uint8_t *image, kept[512]; /* what its calls are lent */
+    size_t image_len;
     struct nzg_open_transfer open;
     struct planned *plan;
     size_t plan_len;
@@ -39,6 +41,8 @@ struct run {
     uint8_t sent[MOST_BYTES], came[MOST_BYTES]; /* the data of writes, and the bytes of one read */
 };
 
+/* Makes the image of the descriptors, from which the proved device answers; the caller frees it. False where there is no such device. */
+bool nzg_bench_make_image(struct run *run);
 /* The fate of the next transaction, and its line. */
 char nzg_bench_fate_of(const struct run *run);
 struct nzg_bench_line *nzg_bench_new_line(struct run *run);

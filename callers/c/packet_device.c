@@ -7,7 +7,7 @@
 enum { ANY_DATA = 1, ANY_TOKEN, ANY_ACK, OTHER_CRC, ANSWERS_ACK, ANSWERS_TOKEN };
 static int wrong;
 
-struct end { struct nzg_device device; uint8_t token, address; bool is_sent; };
+struct end { struct nzg_device device; uint8_t token, address, image[1 << 18], kept[512]; nzg_size image_len; bool is_sent; };
 
 static void reset(void *context) {
     struct end *end = context;
@@ -31,7 +31,7 @@ static size_t serve(struct end *end, uint8_t stage, const struct nzg_packet_fiel
     struct nzg_packet reply;
     for (unsigned i = 0; stage == NZG_SETUP && i < 8; i++) sent.setup[i] = bytes[it->place + i];
     if (stage == NZG_SETUP) sent.toggle = 0;
-    nzg_device_serve(&end->device, &sent, bytes + it->place, it->length, true, &reply);
+    nzg_device_serve(&end->device, end->image, end->image_len, end->kept, sizeof end->kept, &sent, bytes + it->place, it->length, true, &reply);
     if (reply.reply == NZG_SILENCE) return 0;
     struct nzg_packet_fields head = {.pid = reply.reply != NZG_DATA ? pids[reply.reply] : reply.toggle ? NZG_PID_DATA1 : NZG_PID_DATA0};
     size_t len = nzg_packet_write(&head, reply.data, reply.reply == NZG_DATA ? reply.length : 0, answer, 1027).length;
@@ -49,7 +49,7 @@ static size_t packet(void *context, const uint8_t *bytes, size_t len, uint8_t *a
     answer[0] = NZG_PID_ACK;
     if (!is_read) return 0;
     if (it.pid == NZG_PID_ACK && was_sent) {
-        nzg_device_acked(&end->device);
+        nzg_device_acked(&end->device, end->image, end->image_len);
         return wrong == ANSWERS_ACK;
     }
     if (it.pid == NZG_PID_SETUP || it.pid == NZG_PID_OUT) {
@@ -69,7 +69,9 @@ int main(int argc, char **argv) {
     static uint8_t file[65536];
     static struct end end;
     long there = argc < 5 ? -1 : read_all(argv[1], file, sizeof file);
-    if (there < 27 || nzg_device_open(&end.device, file, (size_t)there, NZG_FULL).status != NZG_DONE) return 2;
+    struct nzg_answer made = nzg_device_image(file, there < 27 ? 0 : (size_t)there, NZG_FULL, end.image, sizeof end.image);
+    if (made.status != NZG_DONE) return 2;
+    end.image_len = made.length;
     wrong = argc > 5 ? atoi(argv[5]) : 0;
     struct nzg_bench_packets device = {&end, reset, packet};
     struct nzg_bench bench = {.file = file, .len = (size_t)there, .speed = NZG_FULL, .losses = (unsigned)atoi(argv[2]), .within = (unsigned)atoi(argv[3]), .damages = (unsigned)atoi(argv[4])};

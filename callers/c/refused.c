@@ -5,11 +5,11 @@
 #include "pool.h"
 #include "hosted.h"
 
-static uint8_t bytes[1 << 16], text[1 << 20], again[1 << 20];
+static uint8_t bytes[1 << 16], image[1 << 18], kept[512], text[1 << 20], again[1 << 20];
 static size_t length;
 static long calls, refusals;
 
-enum { SHOW, CHECK, CHECK_ANY, EXPLAIN, LOOSE, HEX, FROM_TEXT, BUILD, BUILD_COMMENTS, ENUMERATE, JUDGE, FINDINGS, REMARKS, TEXT, WITH_STRINGS, DEVICE, HOST, DECODER,
+enum { SHOW, CHECK, CHECK_ANY, EXPLAIN, LOOSE, HEX, FROM_TEXT, BUILD, BUILD_COMMENTS, ENUMERATE, JUDGE, FINDINGS, REMARKS, TEXT, WITH_STRINGS, IMAGE, HOST, DECODER,
        FINDING_TEXT, REMARK_TEXT, FAULT_TEXT, TROUBLE_TEXT, ENUMERATE_LOG, HOST_WANTED, KINDS };
 
 static struct nzg_answer in_pieces(uint8_t *out) {
@@ -30,7 +30,8 @@ static struct nzg_answer by_host(uint8_t *out, uint8_t strings) {
     struct nzg_transaction due;
     struct nzg_packet packet;
     struct nzg_trouble trouble;
-    struct nzg_answer answer = nzg_device_open(&device, bytes, length, NZG_FULL);
+    struct nzg_answer answer = nzg_device_image(bytes, length, NZG_FULL, image, sizeof image);
+    nzg_size image_len = answer.length;
     if (answer.status == NZG_DONE) answer = nzg_host_open_with(&host, 1, 16, 3, NZG_FULL, strings, true);
     bool stalls = false;
     uint8_t action = answer.status == NZG_DONE ? nzg_host_next(&host, &due) : NZG_NONE;
@@ -41,24 +42,12 @@ static struct nzg_answer by_host(uint8_t *out, uint8_t strings) {
             continue;
         }
         if (due.stage == NZG_SETUP) stalls = strings == NZG_WANTED && due.setup[1] == 6 && due.setup[3] == 3;
-        nzg_device_serve(&device, &due, bytes, 0, true, &packet);
-        if (packet.reply == NZG_DATA) nzg_device_acked(&device);
+        nzg_device_serve(&device, image, image_len, kept, sizeof kept, &due, bytes, 0, true, &packet);
+        if (packet.reply == NZG_DATA) nzg_device_acked(&device, image, image_len);
         nzg_host_take(&host, stalls && due.stage == NZG_IN ? NZG_STALL : packet.reply, packet.toggle, packet.data, packet.length);
     }
     if (action == NZG_ENDED) answer = nzg_host_outcome(&host, &trouble, out, sizeof text);
     nzg_host_close(&host);
-    nzg_device_close(&device);
-    return answer;
-}
-
-static struct nzg_answer opened_twice(void) {
-    struct nzg_device device = {0};
-    nzg_device_open(&device, bytes, length, NZG_FULL);
-    struct nzg_answer answer = nzg_device_open(&device, bytes, length, NZG_FULL);
-    struct nzg_state state;
-    /* after any fault nothing is held */
-    if (answer.status != NZG_DONE && nzg_device_state(&device, &state)) answer.status = 99;
-    nzg_device_close(&device);
     return answer;
 }
 
@@ -137,7 +126,7 @@ static struct nzg_answer call(int kind, uint8_t *out) {
     case REMARKS: return remarks(out);
     case TEXT: return last_string(out);
     case WITH_STRINGS: return nzg_with_strings(bytes, length, out, sizeof text);
-    case DEVICE: return opened_twice();
+    case IMAGE: return nzg_device_image(bytes, length, NZG_FULL, out, sizeof text);
     case HOST: return by_host(out, NZG_NEEDED);
     case HOST_WANTED: return by_host(out, NZG_WANTED);
     case FINDING_TEXT: return finding_text(out);

@@ -1,6 +1,6 @@
 /* writes: data to a device, packet by packet. Its owner takes them, is given just the bytes that were sent, and accepts or
  * refuses them; he refuses a read too that he has begun to answer. Ends in 0 where all comes as docs/control-transfers.md
- * says, else in the number of what doesn't. The device asks for no memory once it is open. */
+ * says, else in the number of what doesn't. The device asks for no memory, and uses no more of its room than it is lent. */
 #define POOL (1 << 16)
 #include "pool.h"
 #include "hosted.h"
@@ -16,27 +16,32 @@ static const uint8_t sent[9] = {1, 2, 3, 4, 5, 6, 7, 8, 9};
 static struct nzg_device device;
 static struct nzg_packet packet;
 static struct nzg_setup setup;
-static uint8_t data[16];
+/* What is lent: a room of 9 bytes, and 7 after it that stay. */
+static uint8_t image[256], data[16];
+static nzg_size image_len;
+enum { KEPT = 9 };
 
 static uint8_t serve(uint8_t stage, uint8_t toggle, const uint8_t *request, const uint8_t *bytes, size_t length) {
     struct nzg_transaction it = {0, stage, toggle, {0}};
     memcpy(it.setup, request, 8);
-    nzg_device_serve(&device, &it, bytes, length, true, &packet);
+    nzg_device_serve(&device, image, image_len, data, KEPT, &it, bytes, length, true, &packet);
     return packet.reply;
 }
 
+static struct nzg_answer accept(void) { return nzg_device_accept(&device, image, image_len, KEPT); }
+static struct nzg_answer written(void) { return nzg_device_written(&device, data, KEPT, &setup); }
+static bool refuse(void) { return nzg_device_refuse(&device, image, image_len); }
+
 /* A write up to its last packet, the first of which comes again. */
 static bool all_come(void) {
-    return serve(NZG_SETUP, 0, report, sent, 0) == NZG_ACK && nzg_device_accept(&device).status == NZG_DONE &&
+    return serve(NZG_SETUP, 0, report, sent, 0) == NZG_ACK && accept().status == NZG_DONE &&
            serve(NZG_OUT, 1, report, sent, 8) == NZG_ACK && serve(NZG_OUT, 1, report, sent, 8) == NZG_ACK &&
-           nzg_device_written(&device, &setup, data, sizeof data).status == NZG_OPEN &&
+           written().status == NZG_OPEN &&
            serve(NZG_OUT, 0, report, sent + 8, 1) == NZG_ACK;
 }
 
 static bool is_written(void) {
-    struct nzg_answer answer = nzg_device_written(&device, &setup, data, 8);
-    if (answer.status != NZG_NO_ROOM || answer.length != 9 || data[0] != 0xa5) return false;
-    answer = nzg_device_written(&device, &setup, data, sizeof data);
+    struct nzg_answer answer = written();
     return answer.status == NZG_DONE && answer.length == 9 && !memcmp(data, sent, 9) && data[9] == 0xa5 && !memcmp(setup.bytes, report, 8);
 }
 
@@ -53,9 +58,9 @@ static bool is_sent(void) {
     size_t count = 0;
     while ((next = nzg_write_next(&write, sent, 9, &due)).status == NZG_DONE && count < 16) {
         if (due.stage == NZG_OUT && (next.place != 8 * (count - 1) || next.length != (count == 1 ? 8 : 1))) return false;
-        nzg_device_serve(&device, &due, sent + next.place, next.length, true, &packet);
-        if (packet.reply == NZG_DATA) nzg_device_acked(&device);
-        if (count == 0 || count == 2) nzg_device_accept(&device);
+        nzg_device_serve(&device, image, image_len, data, KEPT, &due, sent + next.place, next.length, true, &packet);
+        if (packet.reply == NZG_DATA) nzg_device_acked(&device, image, image_len);
+        if (count == 0 || count == 2) accept();
         heard = nzg_write_take(&write, packet.reply, packet.toggle, packet.data, packet.length);
         count++;
     }
@@ -64,26 +69,27 @@ static bool is_sent(void) {
 
 int main(void) {
     memset(data, 0xa5, sizeof data);
-    if (nzg_device_written(&device, &setup, data, 16).status != NZG_CLOSED || nzg_device_refuse(&device)) return 1;
-    if (nzg_device_open(&device, file, sizeof file, NZG_FULL).status != NZG_DONE) return 2;
+    if (written().status != NZG_OPEN || refuse()) return 1;
+    struct nzg_answer made = nzg_device_image(file, sizeof file, NZG_FULL, image, sizeof image);
+    if (made.status != NZG_DONE) return 2;
+    image_len = made.length;
     long before = pool_calls;
-    if (nzg_device_written(&device, &setup, data, 16).status != NZG_OPEN || !nzg_device_refuse(&device)) return 3;
+    if (written().status != NZG_OPEN || !refuse()) return 3;
     if (!all_come() || !is_written()) return 4;
-    if (nzg_device_accept(&device).status != NZG_DONE || nzg_device_written(&device, &setup, data, 16).status != NZG_OPEN) return 5;
+    if (accept().status != NZG_DONE || written().status != NZG_OPEN) return 5;
     if (serve(NZG_IN, 0, report, sent, 0) != NZG_DATA || packet.toggle != 1 || packet.length != 0) return 6;
     if (!nzg_device_carried_out(&device, &setup) || memcmp(setup.bytes, report, 8)) return 7;
-    if (!all_come() || !nzg_device_refuse(&device) || serve(NZG_IN, 0, report, sent, 0) != NZG_STALL) return 8;
+    if (!all_come() || !refuse() || serve(NZG_IN, 0, report, sent, 0) != NZG_STALL) return 8;
     if (!all_come() || serve(NZG_IN, 0, report, sent, 0) != NZG_STALL) return 9;
     if (serve(NZG_SETUP, 0, longer, sent, 0) != NZG_ACK) return 10;
-    struct nzg_answer answer = nzg_device_accept(&device);
+    struct nzg_answer answer = accept();
     if (answer.status != NZG_UNANSWERED || answer.number != 4) return 11;
-    if (serve(NZG_SETUP, 0, reading, sent, 0) != NZG_ACK || nzg_device_answer_with(&device, sent, 9).status != NZG_DONE) return 12;
-    if (serve(NZG_IN, 0, reading, sent, 0) != NZG_DATA || !nzg_device_refuse(&device)) return 13;
+    if (serve(NZG_SETUP, 0, reading, sent, 0) != NZG_ACK || nzg_device_answer_with(&device, image, image_len, data, KEPT, sent, 9).status != NZG_DONE) return 12;
+    if (serve(NZG_IN, 0, reading, sent, 0) != NZG_DATA || !refuse()) return 13;
     if (serve(NZG_IN, 0, reading, sent, 0) != NZG_STALL || serve(NZG_OUT, 1, reading, sent, 0) != NZG_STALL) return 14;
-    if (serve(NZG_SETUP, 0, descriptor, sent, 0) != NZG_ACK || !nzg_device_refuse(&device)) return 15;
+    if (serve(NZG_SETUP, 0, descriptor, sent, 0) != NZG_ACK || !refuse()) return 15;
     if (serve(NZG_IN, 0, descriptor, sent, 0) != NZG_DATA || packet.length != 8) return 16;
     if (pool_calls != before) return 17;
     if (!is_sent()) return 18;
-    nzg_device_close(&device);
     return pool_live ? 19 : 0;
 }

@@ -6,13 +6,14 @@
 #include <string.h>
 
 int main(int count, char **words) {
-    static uint8_t file[1 << 16], got[1 << 16];
+    static uint8_t file[1 << 16], image[1 << 18], kept[512], got[1 << 16];
     size_t length = fread(file, 1, sizeof file, stdin), fates = count == 3 ? strlen(words[2]) : 0, transactions = 0;
     struct nzg_device device = {0};
     struct nzg_host host = {0};
     struct nzg_transaction due;
     uint8_t action, speed = count == 3 ? (uint8_t)atoi(words[1]) : 0;
-    if (nzg_device_open(&device, file, length, speed).status || nzg_host_open(&host, 1, 16, 3, speed).status) return 2;
+    struct nzg_answer made = nzg_device_image(file, length, speed, image, sizeof image);
+    if (made.status || nzg_host_open(&host, 1, 16, 3, speed).status) return 2;
     while ((action = nzg_host_next(&host, &due)) != NZG_ENDED) {
         struct nzg_packet reply = {NZG_SILENCE, 0, 0, {0}};
         if (action == NZG_RESET) {
@@ -22,15 +23,14 @@ int main(int count, char **words) {
         }
         char fate = transactions < fates ? words[2][transactions] : '.';
         transactions++;
-        if (fate != 'd') nzg_device_serve(&device, &due, file, 0, fate != 'n', &reply);
-        if (reply.reply == NZG_DATA && fate != 'u' && fate != 'a') nzg_device_acked(&device);
+        if (fate != 'd') nzg_device_serve(&device, image, made.length, kept, sizeof kept, &due, file, 0, fate != 'n', &reply);
+        if (reply.reply == NZG_DATA && fate != 'u' && fate != 'a') nzg_device_acked(&device, image, made.length);
         nzg_host_take(&host, fate == 'u' ? NZG_SILENCE : reply.reply, reply.toggle, reply.data, reply.length);
     }
     struct nzg_trouble trouble = {0};
     uint8_t attempts = nzg_host_attempts(&host);
     struct nzg_answer end = nzg_host_outcome(&host, &trouble, got, sizeof got);
     printf("status %u number %u attempts %u transactions %zu\n", (unsigned)end.status, (unsigned)end.number, attempts, transactions);
-    nzg_device_close(&device);
     nzg_host_close(&host);
     return end.status != NZG_DONE || end.length != length || memcmp(got, file, length) != 0;
 }

@@ -331,6 +331,8 @@ struct asked { struct nzg_setup setup; bool is_in_address; char text[400]; };
 struct test {
     struct plugged *at;
     struct nzg_device proved;
+    uint8_t *image, kept[512]; /* what its calls are lent */
+    size_t image_len;
     struct nzg_open_transfer open;
     uint8_t packet, wanted; /* wanted: the set that is selected where both are led */
     bool is_apart;
@@ -344,16 +346,14 @@ struct test {
 static bool ask_proved(struct test *t, const uint8_t q[8], size_t *len) {
     struct nzg_transfer transfer;
     struct nzg_transaction next;
-    struct nzg_state state;
     struct nzg_setup setup;
     memcpy(setup.bytes, q, 8);
     *len = 0;
-    nzg_device_state(&t->proved, &state);
-    nzg_transfer_open(&transfer, state.address, t->packet, NAKS, &setup);
+    nzg_transfer_open(&transfer, t->proved.state.address, t->packet, NAKS, &setup);
     while (nzg_transfer_next(&transfer, &next)) {
         struct nzg_packet back;
-        nzg_device_serve(&t->proved, &next, q, 0, true, &back);
-        if (back.reply == NZG_DATA) nzg_device_acked(&t->proved);
+        nzg_device_serve(&t->proved, t->image, t->image_len, t->kept, sizeof t->kept, &next, q, 0, true, &back);
+        if (back.reply == NZG_DATA) nzg_device_acked(&t->proved, t->image, t->image_len);
         size_t new = nzg_transfer_take(&transfer, back.reply, back.toggle, back.data, back.length).length;
         memcpy(t->due + *len, back.data, new);
         *len += new;
@@ -397,11 +397,11 @@ static uint8_t judge(struct test *t, const struct nzg_setup *request) {
         struct nzg_packet came = {.reply = back.kind, .toggle = back.toggle, .length = (uint8_t)back.len}, has = {0};
         if (is_stopped || is_gone(t->at) || t->at->kept_back) return 0;
         memcpy(came.data, back.data, back.len < sizeof came.data ? back.len : sizeof came.data);
-        uint8_t difference = nzg_judge_device(&t->proved, &t->open, request, &next, back.data, 0, &came, &has);
+        uint8_t difference = nzg_judge_device(&t->proved, t->image, t->image_len, t->kept, sizeof t->kept, &t->open, request, &next, back.data, 0, &came, &has);
         t->is_apart = came.reply != has.reply;
         if (difference) return difference;
         if (came.reply == NZG_DATA) {
-            nzg_device_acked(&t->proved);
+            nzg_device_acked(&t->proved, t->image, t->image_len);
             nzg_judge_acked(&t->open);
         }
         nzg_transfer_take(&transfer, back.kind, back.toggle, back.data, back.len);
@@ -476,7 +476,6 @@ static void ask(struct test *t, const struct nzg_bench_request *it) {
     if (why) return;
     t->requests++;
     struct asked *entry = entry_of(t, &it->setup, is_in_address);
-    struct nzg_state state;
     if (difference && !entry->text[0]) {
         char words[120];
         write_difference(t, q, entry->text);
@@ -484,8 +483,7 @@ static void ask(struct test *t, const struct nzg_bench_request *it) {
         printf("%s: %s\n", words, entry->text);
         t->differences++;
     }
-    nzg_device_state(&t->proved, &state);
-    if (!t->is_apart && q[1] == SET_CONFIGURATION) t->wanted = state.selected;
+    if (!t->is_apart && q[1] == SET_CONFIGURATION) t->wanted = t->proved.state.selected;
     t->is_apart = t->is_apart && !(q[0] & 0x80);
 }
 
@@ -567,17 +565,25 @@ static int run_talk(struct test *t, const uint8_t *file, size_t len, const char 
     return status;
 }
 
+/* The image of the descriptors, from which the proved device answers. */
+static struct nzg_answer make_image(struct test *t, const uint8_t *file, size_t len) {
+    struct nzg_answer wanted = nzg_device_image(file, len, t->at->speed, t->kept, 0);
+    if (wanted.status != NZG_NO_ROOM) return wanted;
+    t->image_len = wanted.length, t->image = malloc(t->image_len);
+    if (!t->image) return (struct nzg_answer){.status = NZG_NO_MEMORY};
+    return nzg_device_image(file, len, t->at->speed, t->image, t->image_len);
+}
+
 static int test_device(struct plugged *p, const char *junit) {
     static struct test t;
     size_t len;
     uint8_t *file = read_file(p, &len);
     if (!file) return STATUS_BAD;
     t.at = p;
-    struct nzg_answer opened = nzg_device_open(&t.proved, file, len, p->speed);
-    int status = opened.status == NZG_DONE ? run_talk(&t, file, len, junit) : opened.status == NZG_DESCRIPTION_FAULT ? tell_findings(p, file, len) : STATUS_BAD;
-    if (opened.status == NZG_NO_MEMORY) tell(p, "out of memory\n");
-    nzg_device_close(&t.proved);
-    free(file);
+    struct nzg_answer made = make_image(&t, file, len);
+    int status = made.status == NZG_DONE ? run_talk(&t, file, len, junit) : made.status == NZG_DESCRIPTION_FAULT ? tell_findings(p, file, len) : STATUS_BAD;
+    if (made.status == NZG_NO_MEMORY) tell(p, "out of memory\n");
+    free(t.image), free(file);
     return status;
 }
 

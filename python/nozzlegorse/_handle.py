@@ -21,10 +21,13 @@ class Handle:
         done(getattr(c.lib, f"nzg_{self._of}_{by}")(self._handle, *rest))
         self._is_open = True
 
-    def _call(self, name: str, *rest):
+    def _open_handle(self):
         if not self._is_open:
             raise Fault("closed")
-        return getattr(c.lib, f"nzg_{self._of}_{name}")(self._handle, *rest)
+        return self._handle
+
+    def _call(self, name: str, *rest):
+        return getattr(c.lib, f"nzg_{self._of}_{name}")(self._open_handle(), *rest)
 
     def close(self) -> None:
         """Frees what is held. Nothing happens where nothing is."""

@@ -128,7 +128,7 @@ class PluggedTest:
         """The number of a difference, or 0, and the reply of the proved device."""
         came, has = c.structs["packet"](KINDS.index(reply.kind), reply.toggle, len(reply.data)), c.structs["packet"]()
         came.data[:len(reply.data[:64])] = reply.data[:64]
-        return c.lib.nzg_judge_device(self.proved._handle, self._open, _request(q), due._numbers(), b"", 0, came, has), has.reply
+        return self.proved._judge(self._open, _request(q), due._numbers(), b"", 0, came, has), has.reply
 
     def _difference(self, q: bytes) -> str:
         """How the answer differs from what is due. What is read changes nothing, so that it is asked of the proved device again."""

@@ -7,6 +7,8 @@ Reply(kind='ack', toggle=0, data=b'')
 """
 from __future__ import annotations
 
+import ctypes
+
 from . import _library as c
 from ._handle import Handle
 from ._value import Value
@@ -101,12 +103,20 @@ class State(Value):
 
 
 class Device(Handle):
-    """A device with the descriptors of a file."""
+    """A device with the descriptors of a file. It has an image of them, and a room for what an owner answers and for writes."""
 
     _of = "device"
 
     def __init__(self, file: bytes, speed: str = "full"):
-        self._open(*c.lend(file), c.speed_number(speed))
+        self.close()
+        answer, image = c.into(c.lib.nzg_device_image, *c.lend(file), c.speed_number(speed))
+        done(answer)
+        self._image, self._room, self._is_open = (image, len(image)), ((ctypes.c_char * ROOM)(), ROOM), True
+        self.reset()
+
+    def close(self) -> None:
+        """The image is let go."""
+        self._image, self._is_open = (b"", 0), False
 
     def reset(self) -> None:
         """The bus is reset."""
@@ -115,12 +125,12 @@ class Device(Handle):
     def serve(self, transaction: Transaction, ready: bool = True) -> Reply:
         """What comes back of a transaction; NAK to IN and OUT where the device isn't ready."""
         it, packet = _is_a(transaction, Transaction), c.structs["packet"]()
-        self._call("serve", it._numbers(), *c.lend(it.data), bool(ready), packet)
+        self._call("serve", *self._image, *self._room, it._numbers(), *c.lend(it.data), bool(ready), packet)
         return Reply(KINDS[packet.reply], packet.toggle, bytes(packet.data)[:packet.length])
 
     def acked(self) -> None:
         """The host acknowledged the data that was answered right before."""
-        self._call("acked")
+        self._call("acked", *self._image)
 
     def refused(self) -> bytes | None:
         """The request that is refused, before the host is told, or None."""
@@ -136,27 +146,29 @@ class Device(Handle):
 
     def answer_with(self, data: bytes) -> None:
         """Answers the refused request with these bytes."""
-        done(self._call("answer_with", *c.lend(data)))
+        done(self._call("answer_with", *self._image, *self._room, *c.lend(data)))
 
     def accept(self) -> None:
         """Accepts the refused request, which has no data stage or sends data to the device; or the write of `written`."""
-        done(self._call("accept"))
+        done(self._call("accept", *self._image, ROOM))
 
     def written(self) -> tuple[bytes, bytes] | None:
         """The request of a write whose data have all come and that wasn't answered yet, and those data, or None."""
         it = c.structs["setup"]()
-        answer, data = c.into(lambda *rest: self._call("written", it, *rest), room=ROOM)
-        return (bytes(it.bytes), data) if STATUSES[done(answer).status] == "done" else None
+        answer = done(self._call("written", *self._room, it))
+        return (bytes(it.bytes), self._room[0][:answer.length]) if STATUSES[answer.status] == "done" else None
 
     def refuse(self) -> None:
         """STALL until the next SETUP, where the device itself rejects the request, and its status stage wasn't answered yet."""
-        self._call("refuse")
+        self._call("refuse", *self._image)
 
     def state(self) -> State:
         """What the device keeps."""
-        it = c.structs["state"]()
-        self._call("state", it)
+        it = self._open_handle().state
         return State(it.address, it.selected, it.wakeup, it.halts, bytes(it.alternates))
+
+    def _judge(self, *rest) -> int:
+        return c.lib.nzg_judge_device(self._open_handle(), *self._image, *self._room, *rest)
 
 
 class _Transfer:

@@ -1,6 +1,6 @@
 //! Both ends of endpoint zero, transaction by transaction, and a set in pieces.
 use crate::fault::{done, Fault, Step};
-use crate::sys::{self, nzg_packet, nzg_setup, nzg_state, nzg_step, nzg_transaction, nzg_trouble};
+use crate::sys::{self, nzg_packet, nzg_setup, nzg_step, nzg_transaction, nzg_trouble};
 use crate::{into, text_of, Speed};
 
 /// The data toggle of a packet.
@@ -162,23 +162,6 @@ macro_rules! handles {
 }
 
 handles! {
-    /// A device with the descriptors of a file. It is `Send`, and neither `Clone` nor `Sync`: what one thread opened another one goes
-    /// on with, and closes.
-    ///
-    /// ```
-    /// use nozzlegorse::{Device, Reply, Speed, Stage, Transaction};
-    ///
-    /// let device = [18, 1, 0, 2, 0, 0, 0, 64, 9, 18, 1, 0, 0, 1, 0, 0, 0, 1];
-    /// let set = [9, 2, 18, 0, 1, 1, 0, 0x80, 50, 9, 4, 0, 0, 0, 0xff, 0, 0, 0];
-    /// let mut device = Device::open(&[device, set].concat(), Speed::Full)?;
-    /// let reply = std::thread::spawn(move || {
-    ///     let setup = Stage::Setup([0x80, 6, 0, 1, 0, 0, 18, 0]);
-    ///     device.serve(&Transaction { address: 0, stage: setup }, true)
-    /// });
-    /// assert_eq!(reply.join().unwrap(), Reply::Ack);
-    /// # Ok::<(), nozzlegorse::Fault>(())
-    /// ```
-    Device nzg_device nzg_device_close
     /// A host that enumerates one device. It is `Send`, and neither `Clone` nor `Sync`.
     ///
     /// ```
@@ -217,6 +200,31 @@ pub struct Transfer(sys::nzg_transfer);
 #[derive(Clone, Copy, Debug, PartialEq, Eq, Hash)]
 pub struct Write(sys::nzg_write);
 
+/// A device with the descriptors of a file. It is `Send`. A copy is a place to come back to.
+///
+/// ```
+/// use nozzlegorse::{Device, Reply, Speed, Stage, Transaction};
+///
+/// let device = [18, 1, 0, 2, 0, 0, 0, 64, 9, 18, 1, 0, 0, 1, 0, 0, 0, 1];
+/// let set = [9, 2, 18, 0, 1, 1, 0, 0x80, 50, 9, 4, 0, 0, 0, 0xff, 0, 0, 0];
+/// let mut device = Device::open(&[device, set].concat(), Speed::Full)?;
+/// let reply = std::thread::spawn(move || {
+///     let setup = Stage::Setup([0x80, 6, 0, 1, 0, 0, 18, 0]);
+///     device.serve(&Transaction { address: 0, stage: setup }, true)
+/// });
+/// assert_eq!(reply.join().unwrap(), Reply::Ack);
+/// # Ok::<(), nozzlegorse::Fault>(())
+/// ```
+#[derive(Clone, Debug, PartialEq, Eq, Hash)]
+pub struct Device {
+    it: sys::nzg_device,
+    image: Vec<u8>,
+    kept: Vec<u8>,
+}
+
+/// The most bytes of an owner's answer, or of a write.
+const ROOM: usize = 512;
+
 /// What a device keeps.
 #[derive(Clone, Copy, Debug, PartialEq, Eq, Hash)]
 pub struct State {
@@ -235,18 +243,25 @@ pub struct State {
 impl Device {
     /// A device with the descriptors of a file, at a speed.
     pub fn open(file: &[u8], speed: Speed) -> Result<Device, Fault> {
-        let mut device = Device(sys::nzg_device::default());
-        done(unsafe { sys::nzg_device_open(&mut device.0, file.as_ptr(), file.len(), speed as u8) })?;
-        Ok(device)
+        let (answer, image) =
+            into(|image, room| unsafe { sys::nzg_device_image(file.as_ptr(), file.len(), speed as u8, image, room) });
+        done(answer)?;
+        Ok(Device { it: sys::nzg_device::default(), image, kept: vec![0; ROOM] })
     }
     /// The bus is reset.
     pub fn reset(&mut self) {
-        unsafe { sys::nzg_device_reset(&mut self.0) };
+        unsafe { sys::nzg_device_reset(&mut self.it) };
     }
     /// What comes back of a transaction; NAK to IN and OUT where the device isn't ready.
     pub fn serve(&mut self, transaction: &Transaction<'_>, ready: bool) -> Reply {
-        let ((transaction, data), mut it) = (transaction.numbers(), nzg_packet::default());
-        unsafe { sys::nzg_device_serve(&mut self.0, &transaction, data.as_ptr(), data.len(), ready, &mut it) };
+        let ((sent, data), mut it) = (transaction.numbers(), nzg_packet::default());
+        let (image, kept) = (&self.image, &mut self.kept);
+        unsafe {
+            sys::nzg_device_serve(
+                &mut self.it, image.as_ptr(), image.len(), kept.as_mut_ptr(), kept.len(), &sent, data.as_ptr(), data.len(), ready,
+                &mut it,
+            )
+        };
         Reply::of(&it)
     }
     /// Whether a device under test may answer so in the transfer of this request: this one has the same transaction, is ready
@@ -255,50 +270,61 @@ impl Device {
     pub fn judge(
         &mut self, open: &mut OpenTransfer, request: [u8; 8], transaction: &Transaction<'_>, came: &Reply,
     ) -> Option<(Option<Difference>, Reply)> {
-        let ((transaction, data), (reply, toggle, bytes)) = (transaction.numbers(), came.numbers());
+        let ((sent, data), (reply, toggle, bytes)) = (transaction.numbers(), came.numbers());
         let mut packet = nzg_packet { reply, toggle, length: u8::try_from(bytes.len()).ok()?, ..nzg_packet::default() };
         packet.data.get_mut(..bytes.len())?.copy_from_slice(bytes);
         let (request, mut has) = (nzg_setup { bytes: request }, nzg_packet::default());
-        let (sent, len, open) = (data.as_ptr(), data.len(), &mut open.0);
-        let number = unsafe { sys::nzg_judge_device(&mut self.0, open, &request, &transaction, sent, len, &packet, &mut has) };
+        let (image, kept) = (&self.image, &mut self.kept);
+        let number = unsafe {
+            sys::nzg_judge_device(
+                &mut self.it, image.as_ptr(), image.len(), kept.as_mut_ptr(), kept.len(), &mut open.0, &request, &sent,
+                data.as_ptr(), data.len(), &packet, &mut has,
+            )
+        };
         (number < 9).then(|| (Difference::of(number), Reply::of(&has)))
     }
     /// The host acknowledged the data that was answered right before.
     pub fn acked(&mut self) {
-        unsafe { sys::nzg_device_acked(&mut self.0) };
+        unsafe { sys::nzg_device_acked(&mut self.it, self.image.as_ptr(), self.image.len()) };
     }
     /// The request that is refused, before the host is told.
-    pub fn refused(&mut self) -> Option<[u8; 8]> {
+    pub fn refused(&self) -> Option<[u8; 8]> {
         let mut setup = nzg_setup::default();
-        unsafe { sys::nzg_device_refused(&mut self.0, &mut setup) }.then_some(setup.bytes)
+        unsafe { sys::nzg_device_refused(&self.it, &mut setup) }.then_some(setup.bytes)
     }
     /// Answers the refused request with these bytes.
     pub fn answer_with(&mut self, bytes: &[u8]) -> Result<(), Fault> {
-        done(unsafe { sys::nzg_device_answer_with(&mut self.0, bytes.as_ptr(), bytes.len()) }).map(|_| ())
+        let (image, kept) = (&self.image, &mut self.kept);
+        let answer = unsafe {
+            sys::nzg_device_answer_with(
+                &mut self.it, image.as_ptr(), image.len(), kept.as_mut_ptr(), kept.len(), bytes.as_ptr(), bytes.len(),
+            )
+        };
+        done(answer).map(|_| ())
     }
     /// Accepts the refused request, which has no data stage or sends data to the device; or the write of [`Device::written`].
     pub fn accept(&mut self) -> Result<(), Fault> {
-        done(unsafe { sys::nzg_device_accept(&mut self.0) }).map(|_| ())
+        let (image, room) = (&self.image, self.kept.len());
+        done(unsafe { sys::nzg_device_accept(&mut self.it, image.as_ptr(), image.len(), room) }).map(|_| ())
     }
-    /// The request of a write whose data have all come and that wasn't answered yet, and those data, for which there is room.
-    pub fn written(&mut self) -> Option<([u8; 8], Vec<u8>)> {
-        let mut setup = nzg_setup::default();
-        let (answer, data) = into(|data, room| unsafe { sys::nzg_device_written(&mut self.0, &mut setup, data, room) });
-        (answer.status == 0).then_some((setup.bytes, data))
+    /// The request of a write whose data have all come and that wasn't answered yet, and those data.
+    pub fn written(&self) -> Option<([u8; 8], Vec<u8>)> {
+        let (kept, mut setup) = (&self.kept, nzg_setup::default());
+        let answer = unsafe { sys::nzg_device_written(&self.it, kept.as_ptr(), kept.len(), &mut setup) };
+        (answer.status == 0).then(|| (setup.bytes, kept[..answer.length].to_vec()))
     }
     /// STALL until the next SETUP, where the device itself rejects the request, and its status stage wasn't answered yet.
     pub fn refuse(&mut self) {
-        unsafe { sys::nzg_device_refuse(&mut self.0) };
+        unsafe { sys::nzg_device_refuse(&mut self.it, self.image.as_ptr(), self.image.len()) };
     }
     /// The request that was carried out just now.
-    pub fn carried_out(&mut self) -> Option<[u8; 8]> {
+    pub fn carried_out(&self) -> Option<[u8; 8]> {
         let mut setup = nzg_setup::default();
-        unsafe { sys::nzg_device_carried_out(&mut self.0, &mut setup) }.then_some(setup.bytes)
+        unsafe { sys::nzg_device_carried_out(&self.it, &mut setup) }.then_some(setup.bytes)
     }
     /// What the device keeps.
-    pub fn state(&mut self) -> State {
-        let mut it = nzg_state::default();
-        unsafe { sys::nzg_device_state(&mut self.0, &mut it) };
+    pub fn state(&self) -> State {
+        let it = &self.it.state;
         State { address: it.address, selected: it.selected, wakeup: it.wakeup, halts: it.halts, alternates: it.alternates }
     }
 }

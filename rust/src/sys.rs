@@ -38,10 +38,10 @@ structs! {
     nzg_packet { u8: reply toggle length; [u8; 64]: data; }
     nzg_setup { [u8; 8]: bytes; }
     nzg_open_transfer { u16: acknowledged sent; u8: last stage; }
-    nzg_state { u32: halts; u8: address selected; bool: wakeup; [u8; 256]: alternates; }
+    nzg_state { u8: address selected; [u8; 256]: alternates; u32: halts; bool: wakeup; }
     nzg_trouble { u8: why step index; u16: language; }
     nzg_step { u16: naks kept language; u8: step index strikes; [u8; 8]: setup; }
-    nzg_device { *mut c_void: held; }
+    nzg_device { nzg_state: state; u32: start; u16: count offset; nzg_setup: request; u8: stage toggle; bool: settled pending; }
     nzg_transfer { u16: naks nak_count kept; u8: address packet stage why toggle strikes; [u8; 8]: setup; }
     nzg_write { nzg_transfer: transfer; }
     nzg_host { *mut c_void: held; }
@@ -88,24 +88,27 @@ extern "C" {
     ) -> nzg_answer;
     pub fn nzg_crc5(fields: u32, width: u32) -> u8;
     pub fn nzg_crc16(bytes: *const u8, len: usize) -> u16;
-    pub fn nzg_device_open(device: *mut nzg_device, file: *const u8, len: usize, speed: u8) -> nzg_answer;
-    pub fn nzg_device_reset(device: *mut nzg_device) -> bool;
+    pub fn nzg_device_image(file: *const u8, len: usize, speed: u8, image: *mut u8, room: usize) -> nzg_answer;
+    pub fn nzg_device_reset(device: *mut nzg_device);
     pub fn nzg_device_serve(
-        device: *mut nzg_device, transaction: *const nzg_transaction, data: *const u8, len: usize, ready: bool,
-        packet: *mut nzg_packet,
+        device: *mut nzg_device, image: *const u8, image_len: usize, kept: *mut u8, kept_len: usize,
+        transaction: *const nzg_transaction, data: *const u8, len: usize, ready: bool, packet: *mut nzg_packet,
     ) -> bool;
-    pub fn nzg_device_acked(device: *mut nzg_device) -> bool;
-    pub fn nzg_device_refused(device: *mut nzg_device, setup: *mut nzg_setup) -> bool;
-    pub fn nzg_device_answer_with(device: *mut nzg_device, bytes: *const u8, len: usize) -> nzg_answer;
-    pub fn nzg_device_accept(device: *mut nzg_device) -> nzg_answer;
-    pub fn nzg_device_written(device: *mut nzg_device, setup: *mut nzg_setup, data: *mut u8, room: usize) -> nzg_answer;
-    pub fn nzg_device_refuse(device: *mut nzg_device) -> bool;
-    pub fn nzg_device_carried_out(device: *mut nzg_device, setup: *mut nzg_setup) -> bool;
-    pub fn nzg_device_state(device: *mut nzg_device, state: *mut nzg_state) -> bool;
-    pub fn nzg_device_close(device: *mut nzg_device);
+    pub fn nzg_device_acked(device: *mut nzg_device, image: *const u8, image_len: usize) -> bool;
+    pub fn nzg_device_refused(device: *const nzg_device, setup: *mut nzg_setup) -> bool;
+    pub fn nzg_device_answer_with(
+        device: *mut nzg_device, image: *const u8, image_len: usize, kept: *mut u8, kept_len: usize, bytes: *const u8, len: usize,
+    ) -> nzg_answer;
+    pub fn nzg_device_accept(device: *mut nzg_device, image: *const u8, image_len: usize, kept_len: usize) -> nzg_answer;
+    pub fn nzg_device_written(
+        device: *const nzg_device, kept: *const u8, kept_len: usize, setup: *mut nzg_setup,
+    ) -> nzg_answer;
+    pub fn nzg_device_refuse(device: *mut nzg_device, image: *const u8, image_len: usize) -> bool;
+    pub fn nzg_device_carried_out(device: *const nzg_device, setup: *mut nzg_setup) -> bool;
     pub fn nzg_judge_device(
-        device: *mut nzg_device, open: *mut nzg_open_transfer, request: *const nzg_setup, transaction: *const nzg_transaction,
-        data: *const u8, len: usize, came: *const nzg_packet, has: *mut nzg_packet,
+        device: *mut nzg_device, image: *const u8, image_len: usize, kept: *mut u8, kept_len: usize,
+        open: *mut nzg_open_transfer, request: *const nzg_setup, transaction: *const nzg_transaction, data: *const u8,
+        len: usize, came: *const nzg_packet, has: *mut nzg_packet,
     ) -> u8;
     pub fn nzg_judge_acked(open: *mut nzg_open_transfer);
     pub fn nzg_transfer_open(

@@ -10,6 +10,8 @@ from playing.built import ROOT
 WIDTHS = {"bool": 1, "uint8_t": 1, "uint16_t": 2, "uint32_t": 4, "uint64_t": 8, "nzg_size": 8}
 # A handle's pointer has a place of eight bytes.
 HELD = ("held", "held", 0)
+# How the length of the pointer before it is called.
+LENGTH = re.compile(r"(\w+_)?len|room")
 
 
 class Field(NamedTuple):
@@ -112,14 +114,14 @@ def short(name):
 
 
 def roles(call):
-    """What each parameter is to a caller in JavaScript: bytes that it lends, room that the call fills, a struct, or a number. A
-    length that belongs to the pointer before it is none of its own."""
+    """What each parameter is to a caller in JavaScript: bytes that it lends, bytes that are kept from call to call and change in place,
+    room that the call fills, a struct, or a number. A length that belongs to the pointer before it is none of its own."""
     rest = list(call.parameters)
     while rest:
         it = rest.pop(0)
-        if it.is_pointer and rest and not rest[0].is_pointer and rest[0].kind == "nzg_size" and not (it.is_const and it.kind != "uint8_t"):
-            rest.pop(0)
-            yield ("bytes" if it.is_const else "room"), it.name, it.kind
+        if it.is_pointer and rest and LENGTH.fullmatch(rest[0].name):
+            is_room = rest.pop(0).name == "room"
+            yield ("bytes" if it.is_const else "room" if is_room else "kept"), it.name, it.kind
         elif it.is_pointer:
             yield ("lent" if it.is_const else "struct"), it.name, it.kind
         else:
@@ -153,7 +155,7 @@ def type_of(kind, count, known):
 
 def parameters_of(call, known):
     for role, name, kind in roles(call):
-        if role == "bytes":
+        if role in ("bytes", "kept"):
             yield f"{name}: Uint8Array"
         elif role != "room":
             yield f"{name}: {camel(kind) if role in ('struct', 'lent') else 'number | bigint' if kind == 'uint64_t' else type_of(kind, 0, known)}"
