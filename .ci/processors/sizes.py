@@ -101,7 +101,7 @@ def longest_frame(made, frames, script, room):
         kept = {found[1] for line in it if (found := re.search(r":\(\.text\.(.*)\)$", line.rstrip()))}
     with open(frames, encoding="utf-8") as it:
         rows = (line.rstrip().split("\t") for line in it)
-        known = {place.partition(".ll:")[2].partition(":")[2] or place: (int(size), kind) for place, size, kind in rows}
+        known = {place.split(".ll:", 1)[-1]: (int(size), kind) for place, size, kind in rows}
     if others := [it for it in kept if it not in known]:
         fail(f"no frame is said of {others[0]}")
     if moving := [it for it in kept if known[it][1] != "static"]:
