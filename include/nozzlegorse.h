@@ -52,7 +52,7 @@ enum nzg_status {
     NZG_CLOSED = 9,            /* the handle holds nothing */
     NZG_BAD_ARGUMENT = 10,     /* number: 1 address, 2 attempts, 3 speed, 4 a fate, 5 a rule, 6 no string, 7 a packet size, 8 a reply,
                                 * 9 a request without data to the device, 10 data that are not wLength bytes, 11 numbers of no transfer,
-                                * 12 no packet, 13 no such finding, remark, fault or trouble, 14 what becomes of strings, 15 an image */
+                                * 12 no packet, 13 no such finding, remark, fault or trouble, 14 what becomes of strings */
     NZG_TROUBLE = 11,          /* number 1..7: why a transfer or an enumeration failed */
     NZG_UNANSWERED = 12,       /* number 1..4: why the device doesn't take the answer to a request */
     NZG_NO_BYTES = 13,         /* number: why the file of a host has no bytes; a law of the library says it doesn't come */
@@ -272,18 +272,19 @@ struct nzg_state {
     bool wakeup;               /* remote wakeup is enabled */
 };
 
-/* A device is these numbers, beside an image and a room that each call is lent: always the same image, and the room with the bytes
- * that the call before left there. {0} is a new device; a copy, with one of the room, is a place to come back to. Any numbers, any
- * image and any room are safe. */
+/* A device is these numbers, beside an image and a room that its calls are lent: always the same image, and the room with the bytes that
+ * the call before left there. {0} is a new device; a copy, with one of the room, is a place to come back to. Any numbers, any image and
+ * any room are safe. */
 struct nzg_device {
+    uint8_t stage;             /* in a transfer; 0: in none */
+    uint8_t toggle;            /* in a data stage: that of the packet that is due, or awaited */
+    bool settled;              /* the host knows of the rejection, or the request was carried out */
+    bool pending;              /* the last answer waits for an ACK */
+    uint8_t source, own[2];    /* bytes that are sent: 0 own ones, 1 of the room, 2 of the image from `place` on */
+    uint8_t request[8];        /* that of the transfer */
+    nzg_size place;
+    nzg_size count, offset;    /* bytes to send; those that were acknowledged, or have come */
     struct nzg_state state;
-    uint32_t start;           /* where the bytes of a data stage to the host begin in the image, or 0: they are in the room */
-    uint16_t count, offset;   /* of a data stage: how many bytes are to be sent; how many were acknowledged, or have come */
-    struct nzg_setup request; /* of the transfer */
-    uint8_t stage;            /* of the transfer: 0 none */
-    uint8_t toggle;           /* of the packet that is due, or awaited */
-    bool settled;             /* the host knows of a rejection; or the request was carried out */
-    bool pending;             /* the last answer waits for an ACK */
 };
 
 /* The image of a descriptor file, from which a device answers: the same at each speed at which there is such a device. It may lie
@@ -291,8 +292,8 @@ struct nzg_device {
 struct nzg_answer nzg_device_image(const uint8_t *file, nzg_size len, uint8_t speed, uint8_t *image, nzg_size room);
 /* A bus reset. */
 void nzg_device_reset(struct nzg_device *device);
-/* Each call with an image wants one of version 1 whose bMaxPacketSize0 is 1 to 64. Of other bytes it answers false, or a bad argument,
- * and nothing changes. The room is for what an owner answers and for writes: at most as many bytes, and 2 for chapter 9 alone.
+/* Each call with an image wants one of version 1 whose bMaxPacketSize0 is 1 to 64: else it answers false, and nothing changes. The room
+ * is for an owner's answers and for writes, as many bytes as the longest has; chapter 9 alone needs none.
  *
  * False, too, where the stage or the toggle of OUT has no meaning: the packet is then as it was. */
 bool nzg_device_serve(struct nzg_device *device, const uint8_t *image, nzg_size image_len, uint8_t *kept, nzg_size kept_len, const struct nzg_transaction *transaction, const uint8_t *data, nzg_size len, bool ready, struct nzg_packet *packet);
@@ -300,8 +301,8 @@ bool nzg_device_acked(struct nzg_device *device, const uint8_t *image, nzg_size 
 /* The request that is refused, before the host is answered; an answer to it; and the request that was carried out. Accepted is a
  * request without data, one whose data go to the device, for which there is room, and then the write once all of them have come. */
 bool nzg_device_refused(const struct nzg_device *device, struct nzg_setup *setup);
-struct nzg_answer nzg_device_answer_with(struct nzg_device *device, const uint8_t *image, nzg_size image_len, uint8_t *kept, nzg_size kept_len, const uint8_t *bytes, nzg_size len);
-struct nzg_answer nzg_device_accept(struct nzg_device *device, const uint8_t *image, nzg_size image_len, nzg_size kept_len);
+struct nzg_answer nzg_device_answer_with(struct nzg_device *device, uint8_t *kept, nzg_size kept_len, const uint8_t *bytes, nzg_size len);
+struct nzg_answer nzg_device_accept(struct nzg_device *device, nzg_size kept_len);
 /* The write whose data have all come and that wasn't answered yet: done, and its data are the first `length` bytes of the room; open
  * where there is none. */
 struct nzg_answer nzg_device_written(const struct nzg_device *device, const uint8_t *kept, nzg_size kept_len, struct nzg_setup *setup);
@@ -441,7 +442,7 @@ NZG_SIZE(nzg_write, 20);
 NZG_SIZE(nzg_trouble, 6);
 NZG_SIZE(nzg_step, 18);
 NZG_SIZE(nzg_setup, 8);
-NZG_SIZE(nzg_device, 288);
+NZG_SIZE(nzg_device, 312);
 NZG_SIZE(nzg_host, 8);
 NZG_SIZE(nzg_decoder, 8);
 #undef NZG_SIZE

@@ -28,7 +28,7 @@ static uint8_t serve(uint8_t stage, uint8_t toggle, const uint8_t *request, cons
     return packet.reply;
 }
 
-static struct nzg_answer accept(void) { return nzg_device_accept(&device, image, image_len, KEPT); }
+static struct nzg_answer accept(void) { return nzg_device_accept(&device, KEPT); }
 static struct nzg_answer written(void) { return nzg_device_written(&device, data, KEPT, &setup); }
 static bool refuse(void) { return nzg_device_refuse(&device, image, image_len); }
 
@@ -84,7 +84,7 @@ int main(void) {
     if (serve(NZG_SETUP, 0, longer, sent, 0) != NZG_ACK) return 10;
     struct nzg_answer answer = accept();
     if (answer.status != NZG_UNANSWERED || answer.number != 4) return 11;
-    if (serve(NZG_SETUP, 0, reading, sent, 0) != NZG_ACK || nzg_device_answer_with(&device, image, image_len, data, KEPT, sent, 9).status != NZG_DONE) return 12;
+    if (serve(NZG_SETUP, 0, reading, sent, 0) != NZG_ACK || nzg_device_answer_with(&device, data, KEPT, sent, 9).status != NZG_DONE) return 12;
     if (serve(NZG_IN, 0, reading, sent, 0) != NZG_DATA || !refuse()) return 13;
     if (serve(NZG_IN, 0, reading, sent, 0) != NZG_STALL || serve(NZG_OUT, 1, reading, sent, 0) != NZG_STALL) return 14;
     if (serve(NZG_SETUP, 0, descriptor, sent, 0) != NZG_ACK || !refuse()) return 15;

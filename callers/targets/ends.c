@@ -90,8 +90,8 @@ static void answer_refused(struct nzg_device *device) {
     if (!is_refused && !one_in(20)) return;
     uint32_t length = any(one_in(10) ? 800 : 90), which = any(4);
     fill(room, length);
-    if (which == 0) say_answer(" with", nzg_device_answer_with(device, LENT, room, length));
-    if (which == 1) say_answer(" accept", nzg_device_accept(device, IMAGE, kept_length));
+    if (which == 0) say_answer(" with", nzg_device_answer_with(device, kept, kept_length, room, length));
+    if (which == 1) say_answer(" accept", nzg_device_accept(device, kept_length));
     if (which == 2) say_list(" refuse ", nzg_device_refuse(device, IMAGE));
 }
 
@@ -103,7 +103,7 @@ static void take_written(struct nzg_device *device) {
     say_setup(setup.bytes);
     if (answer.status == NZG_DONE) {
         say_hash(kept, answer.length);
-        if (one_in(2)) say_answer(" accept", nzg_device_accept(device, IMAGE, kept_length));
+        if (one_in(2)) say_answer(" accept", nzg_device_accept(device, kept_length));
         else say_list(" refuse ", nzg_device_refuse(device, IMAGE));
     }
     say_list(" carried ", nzg_device_carried_out(device, &setup));
@@ -172,9 +172,10 @@ static void any_numbers(struct nzg_device *device) {
     device->pending = one_in(2);
     device->stage = (uint8_t)any(one_in(9) ? 256 : 9);
     device->toggle = (uint8_t)any(one_in(9) ? 256 : 2);
-    if (one_in(2)) device->start = any(image_length + 9);
-    if (one_in(2)) device->count = (uint16_t)any(300);
-    if (one_in(2)) device->offset = (uint16_t)any(300);
+    device->source = (uint8_t)any(one_in(9) ? 256 : 3);
+    if (one_in(2)) device->place = any(image_length + 9);
+    if (one_in(2)) device->count = any(300);
+    if (one_in(2)) device->offset = any(300);
 }
 
 /* Of the image that is there some bytes are others, or it is cut. */
@@ -208,8 +209,8 @@ static void deep_transfer(struct nzg_device *device, const uint8_t *request) {
     for (int i = 0; i < 8; i++) next.setup[i] = request[i];
     DEEP("nzg_device_serve", nzg_device_serve(device, LENT, &next, DATA, 0, true, &packet));
     DEEP("nzg_device_refused", nzg_device_refused(device, &setup));
-    DEEP("nzg_device_answer_with", nzg_device_answer_with(device, LENT, DATA, sizeof DATA));
-    DEEP("nzg_device_accept", nzg_device_accept(device, IMAGE, kept_length));
+    DEEP("nzg_device_answer_with", nzg_device_answer_with(device, kept, kept_length, DATA, sizeof DATA));
+    DEEP("nzg_device_accept", nzg_device_accept(device, kept_length));
     next.stage = NZG_OUT;
     if (request[0] < 0x80 && request[6]) DEEP("nzg_device_serve", nzg_device_serve(device, LENT, &next, DATA, sizeof DATA, true, &packet));
     DEEP("nzg_device_written", nzg_device_written(device, kept, kept_length, &setup));

@@ -48,8 +48,8 @@ static void device_step(uint8_t kind, const uint8_t *at, uint32_t length) {
     if (kind == 'T') serve(at, length);
     if (kind == 'K') say_list("acked ", nzg_device_acked(&device, IMAGE));
     if (kind == 'R') nzg_device_reset(&device);
-    if (kind == 'A') say_answer("with", nzg_device_answer_with(&device, LENT, at, length));
-    if (kind == 'C') say_answer("accept", nzg_device_accept(&device, IMAGE, kept_length));
+    if (kind == 'A') say_answer("with", nzg_device_answer_with(&device, kept, kept_length, at, length));
+    if (kind == 'C') say_answer("accept", nzg_device_accept(&device, kept_length));
     if (kind == 'N') say_list("refuse ", nzg_device_refuse(&device, IMAGE));
     if (kind == 'F') say_request("refused ", nzg_device_refused(&device, &setup), &setup);
     if (kind == 'D') say_request("carried ", nzg_device_carried_out(&device, &setup), &setup);

@@ -25,8 +25,8 @@ static bool answer_class(void) {
     const uint8_t *setup = refused.bytes;
     bool is_report = setup[0] == OF_INTERFACE_IN && setup[1] == GET_DESCRIPTOR && setup[3] == REPORT && !setup[4];
     bool is_set = setup[0] == OF_CLASS_OUT && (setup[1] == SET_IDLE || setup[1] == SET_PROTOCOL) && !setup[4] && !setup[6] && !setup[7];
-    if (is_report) return nzg_device_answer_with(&device, mouse, MOUSE_LENGTH, kept, sizeof kept, REPORT_DESCRIPTOR, sizeof REPORT_DESCRIPTOR).status == NZG_DONE;
-    return is_set && nzg_device_accept(&device, mouse, MOUSE_LENGTH, sizeof kept).status == NZG_DONE;
+    if (is_report) return nzg_device_answer_with(&device, kept, sizeof kept, REPORT_DESCRIPTOR, sizeof REPORT_DESCRIPTOR).status == NZG_DONE;
+    return is_set && nzg_device_accept(&device, sizeof kept).status == NZG_DONE;
 }
 
 static void serve(const struct hardware_event *event) {

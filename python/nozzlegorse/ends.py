@@ -146,11 +146,11 @@ class Device(Handle):
 
     def answer_with(self, data: bytes) -> None:
         """Answers the refused request with these bytes."""
-        done(self._call("answer_with", *self._image, *self._room, *c.lend(data)))
+        done(self._call("answer_with", *self._room, *c.lend(data)))
 
     def accept(self) -> None:
         """Accepts the refused request, which has no data stage or sends data to the device; or the write of `written`."""
-        done(self._call("accept", *self._image, ROOM))
+        done(self._call("accept", ROOM))
 
     def written(self) -> tuple[bytes, bytes] | None:
         """The request of a write whose data have all come and that wasn't answered yet, and those data, or None."""

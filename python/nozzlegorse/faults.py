@@ -10,7 +10,7 @@ _NAMES = {
     "file_fault": "Device Set SetKind Qualifier Text Truncated Trailing",
     "list_fault": "Line Word Place Field TooLong Missing",
     "description_fault": "Finding Texts Speed Memory Unwritable",
-    "bad_argument": "address attempts speed fate rule string packet reply request data transfer fields text strings image",
+    "bad_argument": "address attempts speed fate rule string packet reply request data transfer fields text strings",
     "trouble": "NoAnswer Busy Stalled TooLong Unexpected Malformed Memory",
     "unanswered": "Nothing Closed Shape Room",
     "damage": "Empty Pid Reserved Length Crc5 Crc16",

@@ -294,18 +294,12 @@ impl Device {
     }
     /// Answers the refused request with these bytes.
     pub fn answer_with(&mut self, bytes: &[u8]) -> Result<(), Fault> {
-        let (image, kept) = (&self.image, &mut self.kept);
-        let answer = unsafe {
-            sys::nzg_device_answer_with(
-                &mut self.it, image.as_ptr(), image.len(), kept.as_mut_ptr(), kept.len(), bytes.as_ptr(), bytes.len(),
-            )
-        };
-        done(answer).map(|_| ())
+        let (kept, len) = (self.kept.as_mut_ptr(), self.kept.len());
+        done(unsafe { sys::nzg_device_answer_with(&mut self.it, kept, len, bytes.as_ptr(), bytes.len()) }).map(|_| ())
     }
     /// Accepts the refused request, which has no data stage or sends data to the device; or the write of [`Device::written`].
     pub fn accept(&mut self) -> Result<(), Fault> {
-        let (image, room) = (&self.image, self.kept.len());
-        done(unsafe { sys::nzg_device_accept(&mut self.it, image.as_ptr(), image.len(), room) }).map(|_| ())
+        done(unsafe { sys::nzg_device_accept(&mut self.it, self.kept.len()) }).map(|_| ())
     }
     /// The request of a write whose data have all come and that wasn't answered yet, and those data.
     pub fn written(&self) -> Option<([u8; 8], Vec<u8>)> {

@@ -41,7 +41,15 @@ structs! {
     nzg_state { u8: address selected; [u8; 256]: alternates; u32: halts; bool: wakeup; }
     nzg_trouble { u8: why step index; u16: language; }
     nzg_step { u16: naks kept language; u8: step index strikes; [u8; 8]: setup; }
-    nzg_device { nzg_state: state; u32: start; u16: count offset; nzg_setup: request; u8: stage toggle; bool: settled pending; }
+    nzg_device {
+        u8: stage toggle;
+        bool: settled pending;
+        u8: source;
+        [u8; 2]: own;
+        [u8; 8]: request;
+        usize: place count offset;
+        nzg_state: state;
+    }
     nzg_transfer { u16: naks nak_count kept; u8: address packet stage why toggle strikes; [u8; 8]: setup; }
     nzg_write { nzg_transfer: transfer; }
     nzg_host { *mut c_void: held; }
@@ -97,9 +105,9 @@ extern "C" {
     pub fn nzg_device_acked(device: *mut nzg_device, image: *const u8, image_len: usize) -> bool;
     pub fn nzg_device_refused(device: *const nzg_device, setup: *mut nzg_setup) -> bool;
     pub fn nzg_device_answer_with(
-        device: *mut nzg_device, image: *const u8, image_len: usize, kept: *mut u8, kept_len: usize, bytes: *const u8, len: usize,
+        device: *mut nzg_device, kept: *mut u8, kept_len: usize, bytes: *const u8, len: usize,
     ) -> nzg_answer;
-    pub fn nzg_device_accept(device: *mut nzg_device, image: *const u8, image_len: usize, kept_len: usize) -> nzg_answer;
+    pub fn nzg_device_accept(device: *mut nzg_device, kept_len: usize) -> nzg_answer;
     pub fn nzg_device_written(
         device: *const nzg_device, kept: *const u8, kept_len: usize, setup: *mut nzg_setup,
     ) -> nzg_answer;
