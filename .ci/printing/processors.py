@@ -7,7 +7,7 @@ sys.path.insert(0, os.path.join(os.path.dirname(os.path.abspath(__file__)), ".."
 from processors import records  # noqa: E402
 
 NAMES = {"thumbv7em": "Cortex-M4", "thumbv6m": "Cortex-M0", "riscv32imac": "RISC-V"}
-CORNERS = {"flash": "Exports", "device": "Of a device", "stack": "Call", "compared": "Target", "wrong": "Wrong edit"}
+CORNERS = {"flash": "Exports", "stack": "Call", "compared": "Target", "wrong": "Wrong edit"}
 
 
 def printed(table):
