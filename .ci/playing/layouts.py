@@ -10,6 +10,8 @@ WIDTHS = {"u8": "uint8_t", "u16": "uint16_t", "u32": "uint32_t", "u64": "uint64_
 # The names in C of fields that the source calls otherwise.
 NAMES = {"at": "held", "NzgDescriptor.kind": "type", "Position.interface": "interface_", "Position.class": "class_",
          "NzgPacket.bytes": "data", "Position.at": "next"}
+# The structs in C that the source calls otherwise.
+STRUCTS = {"EndpointZero": "device"}
 
 
 # What the program in Rust begins with: `offset_of` of the standard library is younger than the oldest Rust that is served.
@@ -48,6 +50,7 @@ def of_c(text):
 
 
 def struct(name):
+    name = STRUCTS.get(name, name)
     return "struct nzg_" + re.sub(r"(?<!^)(?=[A-Z])", "_", re.sub(r"^(Nzg|nzg_)", "", name)).lower()
 
 

@@ -3,40 +3,10 @@
  * refused, else in the number of what isn't. */
 #define POOL (1 << 22)
 #include "pool.h"
-#include "hosted.h"
+#include "script.h"
 
-static uint8_t bytes[1 << 16];
-static char script[1 << 20];
 static struct nzg_host host;
 static long transactions;
-
-/* The place of a word among those of a list, which ends in NULL; -1 where it is none of them. */
-static int place_of(const char *word, const char *const *list) {
-    for (int i = 0; list[i]; i++)
-        if (!strcmp(word, list[i])) return i;
-    return -1;
-}
-
-/* The first word of a line, which begins after it then. */
-static char *word_of(char **line) {
-    char *word = *line, *end = strchr(word, ' ');
-    *line = end ? end + 1 : word + strlen(word);
-    if (end) *end = 0;
-    return word;
-}
-
-static void print_hex(const uint8_t *at, size_t length) {
-    for (size_t i = 0; i < length; i++) printf("%02x", at[i]);
-    if (!length) printf("-");
-}
-
-/* The bytes of digits, or none of `-`. */
-static size_t read_hex(const char *digits) {
-    static const char all[] = "0123456789abcdef";
-    size_t length = 0;
-    for (; digits[0] && digits[0] != '-'; digits += 2) bytes[length++] = (uint8_t)((strchr(all, digits[0]) - all) * 16 + (strchr(all, digits[1]) - all));
-    return length;
-}
 
 static void print_step(const struct nzg_trouble *t) {
     static const char *const words[] = {"", "first", "address", "device", "header %u", "set %u", "qualifier", "other_header %u", "other_set %u", "languages", "", "configure"};
@@ -141,27 +111,8 @@ static int refused(void) {
     return trouble.why != 9 || trouble.step != 9 || trouble.index != 9 || trouble.language != 9 ? 7 : 0;
 }
 
-/* A line with what comes of it, where it is a step. */
-static void play_line(char *line) {
-    static const char arrow[] = " -> ";
-    char *end = strchr(line, '>');
-    if (!end || end < line + 3 || memcmp(end - 3, arrow, sizeof arrow - 1)) {
-        printf("%s\n", line);
-        return;
-    }
-    end[-3] = 0;
-    printf("%s%s", line, arrow);
-    play(line);
-    printf("\n");
-}
-
 int main(void) {
-    size_t length = fread(script, 1, sizeof script - 1, stdin);
-    for (char *line = script, *end; line < script + length; line = end + 1) {
-        end = strchr(line, '\n');
-        *end = 0;
-        play_line(line);
-    }
+    play_script(play);
     int why = refused();
     nzg_host_close(&host);
     return why ? why : pool_live ? 9 : 0;

@@ -1,5 +1,4 @@
 mod DecoderValues
-mod DeviceValues
 mod Due
 mod EndpointWalks
 mod Faults

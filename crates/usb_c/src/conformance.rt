@@ -1,15 +1,16 @@
 //! A device under test beside a device that C holds.
 ghost use Rattle.std.specs.Prelude.{◌≡◌};
 ghost use Rattle.usb_fields.specs.Setup.{setup_of};
+ghost use Rattle.usb_device.specs.Offers.{has_head};
 ghost use Rattle.usb_device.specs.OpenTransfers.{after_ack};
 ghost use Rattle.usb_c.specs.Conformance.{JudgesDevice, judged_number, numbers_of, stage_number, stage_told, transfer_told};
 ghost use Rattle.usb_device.specs.Transactions.{packet_told, sent_told};
 
-use crate::device::NzgSetup;
-use crate::device_handle::NzgDevice;
-use std::alloc::Global;
-use std::mem::replace;
-use usb_device::{Difference, NzgPacket, NzgTransaction, OpenStage, OpenTransfer, answer_in, sent};
+use crate::device_owner::NzgSetup;
+use usb_device::{
+    Difference, EndpointZero, Image, NzgPacket, NzgTransaction, OpenStage, OpenTransfer, answer_in,
+    is_ready, judge, sent, tell,
+};
 use usb_fields::{Setup, Toggle};
 
 /// What a device under test has answered in a transfer whose outcome is open to it. Any numbers may stand there.
@@ -26,13 +27,14 @@ pub struct NzgOpenTransfer {
     pub stage: u8,
 }
 
-/// One transaction, to which a device under test has answered so in the transfer of this request. The device that is held has it
-/// too, and its answer goes into the packet. 0 where what came is allowed, and the open transfer goes on; else the number of the
-/// [`Difference`](usb_device::Difference), and 9 where none is held, or where a number has no meaning: nothing changes then.
+/// One transaction, to which a device under test has answered so in the transfer of this request. The device here has it too, and
+/// its answer goes into the packet. 0 where what came is allowed, and the open transfer goes on; else the number of the
+/// [`Difference`](usb_device::Difference), and 9 where the bytes are no image, or where a number has no meaning: nothing changes then.
 #[unsafe(no_mangle)]
 pub extern "C" fn nzg_judge_device(
-    alloc: Global,
-    device: &mut NzgDevice,
+    device: &mut EndpointZero,
+    image: &[u8],
+    kept: &mut [u8],
     transfer: &mut NzgOpenTransfer,
     request: &NzgSetup,
     transaction: &NzgTransaction,
@@ -40,21 +42,26 @@ pub extern "C" fn nzg_judge_device(
     came: &NzgPacket,
     packet: &mut NzgPacket,
 ) -> u8
-    ensures { JudgesDevice device.old.held transfer.old (setup_of request.now.bytes) (sent_told transaction.now bytes.now) (packet_told came.now) packet.old device.new.held transfer.new packet.new result }
+    ensures { JudgesDevice (has_head image.now) (sent_told transaction.now bytes.now) (packet_told came.now) image.now kept.old device.old transfer.old (setup_of request.now.bytes) packet.old kept.new device.new transfer.new packet.new result }
 {
+    let image = Image { bytes: image };
+    if !image.has_head() {
+        return 9;
+    }
     let Some(transaction) = sent(transaction, bytes) else {
         return 9;
     };
     let Some(came) = answer_in(came) else {
         return 9;
     };
-    let Some(mut held) = replace(device, NzgDevice::empty(alloc)).into_box() else {
-        return 9;
-    };
     let request = Setup::from_bytes(&request.bytes);
+    let free = device.is_free(image, request);
+    let reaction = device.serve(image, kept, &transaction, is_ready(came));
+    let has = reaction.answer(device.packet(image, kept));
+    tell(has, packet);
     let mut known = transfer_of(transfer);
-    let judged = held.judge(&mut known, request, &transaction, came, packet);
-    *device = NzgDevice::of(held);
+    let stage = transaction.stage;
+    let judged = judge(&mut known, free, request, image.packet(), stage, came, has);
     *transfer = numbers_of(known);
     judged_number(judged)
 }

@@ -7,7 +7,8 @@
 //!
 //! `nzg_next` goes from a descriptor to the next one, and `nzg_field` gives its fields, as numbers in the caller's structs and without
 //! memory: `specs/Descriptors.antt`, `specs/DescriptorFields.antt`. [`laws`] says which descriptors those are. So are a transfer and a
-//! write: `specs/Transfers.antt`, `specs/Writes.antt`.
+//! write: `specs/Transfers.antt`, `specs/Writes.antt`. A device is numbers too, [`EndpointZero`], beside an image and a room that each
+//! call is lent: `specs/Devices.antt`.
 //!
 //! `nzg_find` is what stands first among any bytes, whole sets and device descriptors, and `nzg_find_all` all of it: `usb_find`.
 //!
@@ -26,7 +27,7 @@ mod decoder_handle;
 mod descriptor;
 mod descriptor_field;
 mod device;
-mod device_handle;
+mod device_owner;
 mod enumeration;
 mod enumeration_log;
 mod explaining;
@@ -66,12 +67,11 @@ pub use decoder::{nzg_decoder_close, nzg_decoder_feed, nzg_decoder_list, nzg_dec
 pub use decoder_handle::NzgDecoder;
 pub use descriptor::NzgDescriptor;
 pub use descriptor_field::{NzgField, nzg_field};
-pub use device::{
-    NzgSetup, NzgState, nzg_device_accept, nzg_device_acked, nzg_device_answer_with,
-    nzg_device_carried_out, nzg_device_close, nzg_device_open, nzg_device_refuse,
-    nzg_device_refused, nzg_device_reset, nzg_device_serve, nzg_device_state, nzg_device_written,
+pub use device::{nzg_device_acked, nzg_device_image, nzg_device_reset, nzg_device_serve};
+pub use device_owner::{
+    NzgSetup, nzg_device_accept, nzg_device_answer_with, nzg_device_carried_out, nzg_device_refuse,
+    nzg_device_refused, nzg_device_written,
 };
-pub use device_handle::NzgDevice;
 pub use enumeration::NzgOutcome;
 pub use enumeration_log::nzg_enumerate_log;
 pub use fault_text::nzg_fault_text;
@@ -97,7 +97,7 @@ pub use string_text::nzg_text;
 pub use transfer::{nzg_transfer_next, nzg_transfer_open, nzg_transfer_take};
 pub use transfer_numbers::NzgTransfer;
 pub use trouble_text::nzg_trouble_text;
-pub use usb_device::{NzgPacket, NzgTransaction};
+pub use usb_device::{EndpointZero, NzgPacket, NzgTransaction};
 pub use walk::nzg_next;
 pub use with_strings::nzg_with_strings;
 pub use write::{NzgWrite, nzg_write_next, nzg_write_open, nzg_write_take};

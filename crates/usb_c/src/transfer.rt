@@ -10,7 +10,7 @@ ghost use Rattle.usb_c.specs.Transfers.{Opens, TakesReply, heard_told, transfer_
 ghost use Rattle.usb_device.specs.Transactions.{reply_told, sent_told, transaction_of};
 
 use crate::answer::{Answer, Verdict};
-use crate::device::NzgSetup;
+use crate::device_owner::NzgSetup;
 use crate::transfer_numbers::NzgTransfer;
 use usb_device::{NzgTransaction, answer_of, told};
 use usb_host::Heard;

@@ -11,7 +11,7 @@ ghost use Rattle.usb_c.specs.Transfers.{Opens, TakesReply, transfer_in, wrong_tr
 ghost use Rattle.usb_c.specs.Writes.{TellsNext, bytes_of, wrong_write};
 
 use crate::answer::{Answer, Verdict};
-use crate::device::NzgSetup;
+use crate::device_owner::NzgSetup;
 use crate::transfer::{tell_heard, wrong_transfer};
 use crate::transfer_numbers::NzgTransfer;
 use usb_device::{NzgTransaction, answer_of, told};

@@ -6,7 +6,8 @@ use Rattle.usb_fields.specs.declared.setup.Setup.{Setup}
 use Rattle.usb_fields.specs.Packets.{Token, SetupToken, InToken, Reply, NakReply, StallReply, DataReply, NoReply, flipped, is_same_toggle}
 use Rattle.usb_file_data.specs.declared.file.DescriptorFile.{DescriptorFile}
 use Rattle.usb_device.specs.Beside.{asks_for_bytes, is_open}
-use Rattle.usb_device.specs.Freedoms.{is_either}
+use Rattle.usb_device.specs.Freedoms.{is_either_to}
+use Rattle.usb_device.specs.Offers.{Offer, offer_of}
 use Rattle.usb_device.specs.Step.{DeviceStage, DeviceView, Halted}
 use Rattle.usb_device.specs.OpenTransfers.{after_answer, is_stalled, may_answer, new_transfer}
 use Rattle.usb_device.specs.declared.open_transfer.OpenTransfer.{OpenTransfer}
@@ -40,10 +41,14 @@ abbrev pub is_refusing : DeviceStage → Bool
 is_refusing (Halted refused) = true
 is_refusing stage = false
 
--- Whether the outcome of the transfer of request q is open: the device of these descriptors refuses what its owner may answer, or a
--- device may either carry it out or refuse it.
+-- Whether the outcome of the transfer of request q is open: the device that offers this refuses what its owner may answer, or a device
+-- may either carry it out or refuse it.
+abbrev pub is_free_to : Offer → DeviceView → Setup → Bool
+is_free_to o d q = (is_refusing d.stage && is_open q) || is_either_to o d.state q
+
+-- the same of a device with these descriptors
 abbrev pub is_free : DescriptorFile → DeviceView → Setup → Bool
-is_free f d q = (is_refusing d.stage && is_open q) || is_either f d.state q
+is_free f d q = is_free_to (offer_of f) d q
 
 -- The same answer, or the same status.
 abbrev pub IsSame : Setup → Token → Reply → Reply → Type 0

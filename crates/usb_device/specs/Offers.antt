@@ -1,5 +1,5 @@
 -- What a device offers to its host: all that its answers depend on beside its state.
-use Rattle.std.specs.Prelude.{ℕ, List, [], ◌∷◌, map, Option, None, Some}
+use Rattle.std.specs.Prelude.{ℕ, ◌==◌, ◌&&◌, nat_lt, nat_le, Bool, List, [], ◌∷◌, length, map, Option, None, Some}
 use Rattle.usb_set.specs.declared.tree.Configuration.{Configuration}
 use Rattle.usb_set.specs.declared.tree.Endpoint.{Endpoint}
 use Rattle.usb_set.specs.declared.tree.Setting.{Setting}
@@ -69,6 +69,11 @@ sets_in ps = map set_in (pieces_in (find_in ps 129 0 0))
 -- bMaxPacketSize0, which the head tells
 unfoldable pub packet_in : List ℕ → ℕ
 packet_in b = (piece_in b).number
+
+-- whether the bytes begin with the head: version 1 of the format, and packets of 1 to 64 bytes (9.6.1)
+abbrev pub has_head : List ℕ → Bool
+has_head b =
+    nat_le 8 (length b) && ((piece_in b).kind == 0) && ((piece_in b).index == 1) && nat_lt 0 (packet_in b) && nat_le (packet_in b) 64
 
 abbrev pub offer_in : List ℕ → Offer
 offer_in b = record { packet = packet_in b; descriptor = descriptor_in (pieces_of b); sets = sets_in (pieces_of b) }

@@ -17,10 +17,10 @@ use usb_file_data::{DescriptorFile, Other, Strings, has_wrong_count, has_wrong_k
 use usb_set::{Configuration, EncodeFault, Endpoint, Setting, encode_onto};
 
 /// The version of the format, which the head tells.
-const VERSION: u8 = 1;
+pub(crate) const VERSION: u8 = 1;
 
 /// The kinds of pieces that are no descriptors: the head, the strings of a language, and what requests can name.
-const HEAD: u8 = 0;
+pub(crate) const HEAD: u8 = 0;
 
 pub(crate) const LANGUAGE: u8 = 128;
 

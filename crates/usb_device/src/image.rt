@@ -2,11 +2,11 @@
 ghost use Rattle.std.specs.Prelude.{◌≡◌, IfSome, option_and_then};
 ghost use Rattle.std.specs.Option.{option_copied, option_map};
 ghost use Rattle.usb_device.specs.Images.{descriptor_in, find_in, pieces_of, string_in};
-ghost use Rattle.usb_device.specs.Offers.{packet_in, sets_in};
+ghost use Rattle.usb_device.specs.Offers.{has_head, packet_in, sets_in};
 ghost use Rattle.usb_device.specs.inside.Places.{bytes_at, IsPlace};
 ghost use Rattle.usb_device.specs.inside.Sets.{sets_left};
 
-use crate::file_image::{LANGUAGE, SETS};
+use crate::file_image::{HEAD, LANGUAGE, SETS, VERSION};
 use crate::piece::{Place, find};
 use crate::sets::Sets;
 use usb_fields::{descriptor_type, word_at};
@@ -30,6 +30,19 @@ impl<'a> Image<'a> {
             [_, _, p0, p1, ..] => usize::from(u16::from_le_bytes([*p0, *p1])),
             _ => usize::from(word_at(self.bytes, 2)),
         }
+    }
+
+    /// Whether the bytes begin with the head that [`write_image`](crate::write_image) writes: version 1 of the format, and packets
+    /// of 1 to 64 bytes (USB 2.0, 9.6.1).
+    #[tactic(auto, unfolding(crate::specs::Offers::packet_in))]
+    pub fn has_head(&self) -> bool
+        ensures { result ≡ has_head self.now.bytes.now }
+    {
+        let [kind, version, p0, p1, _, _, _, _, ..] = self.bytes else {
+            return false;
+        };
+        let packet = u16::from_le_bytes([*p0, *p1]);
+        *kind == HEAD && *version == VERSION && packet != 0 && packet <= 64
     }
 
     /// The descriptor of this type and index, in this language where it is a string, or `None` where there is none such:

@@ -1,0 +1,118 @@
+//! What the owner of such a device has a say in.
+ghost use Rattle.std.specs.Prelude.{◌≡◌, ◌⊎◌, ℕ, List, None, Some, is_some, length, IfErr, OnOk};
+ghost use Rattle.usb_device.specs.Beside.{carried_out_in, refused_in, rejected, unaccepted, unanswered, unfit_bytes, written_in, Gives, accepted, answered};
+ghost use Rattle.usb_device.specs.Offers.{has_head, offer_in};
+ghost use Rattle.usb_device.specs.Requests.{answer_to};
+ghost use Rattle.usb_device.specs.View.{device_of, IsOf};
+ghost use Rattle.usb_c.specs.Answers.{AnswersOn, answer_of};
+ghost use Rattle.usb_c.specs.Devices.{Becomes, Changes, TellsWrite, setup_told, taken_or};
+
+use crate::answer::{Answer, Verdict};
+use usb_device::{EndpointZero, Image, Unanswered};
+use usb_fields::Setup;
+
+/// The bytes of a request (USB 2.0, 9.3).
+#[repr(C)]
+pub struct NzgSetup {
+    /// bmRequestType, bRequest, wValue, wIndex and wLength.
+    pub bytes: [u8; 8],
+}
+
+/// The request that is rejected, and of whose rejection the host doesn't know yet. False where there is none.
+#[unsafe(no_mangle)]
+pub extern "C" fn nzg_device_refused(device: &EndpointZero, setup: &mut NzgSetup) -> bool
+    ensures setup { (image : List ℕ) → (kept : List ℕ) → setup.new ≡ setup_told (refused_in (device_of image kept device.now).stage) setup.old }
+    ensures found { (image : List ℕ) → (kept : List ℕ) → result ≡ is_some (refused_in (device_of image kept device.now).stage) }
+{
+    tell_request(device.refused(), setup)
+}
+
+/// Answers that request by these bytes, cut to wLength, which the room then keeps.
+#[unsafe(no_mangle)]
+pub extern "C" fn nzg_device_answer_with(
+    device: &mut EndpointZero,
+    kept: &mut [u8],
+    bytes: &[u8],
+) -> Answer
+    ensures device { (image : List ℕ) → IsOf image kept.old device.old → (device_of image kept.new device.new ≡ answered (length kept.old) (Gives bytes.now) (device_of image kept.old device.old)) × IsOf image kept.new device.new }
+    ensures answer { (image : List ℕ) → result ≡ answer_of (taken_or (unanswered (unfit_bytes (length kept.old) bytes.now) (refused_in (device_of image kept.old device.old).stage))) }
+    ensures same { (result ≡ answer_of (taken_or None)) ⊎ ((device.new ≡ device.old) × (kept.new ≡ kept.old)) }
+{
+    tell_taken(device.answer_with(kept, bytes))
+}
+
+/// Accepts that request, which has no data or brings some to the device; or the data of a write, once all have come. The room
+/// has so many bytes.
+#[unsafe(no_mangle)]
+pub extern "C" fn nzg_device_accept(device: &mut EndpointZero, room_size: usize) -> Answer
+    ensures device { (image : List ℕ) → (kept : List ℕ) → length kept ≡ room_size → IsOf image kept device.old → (device_of image kept device.new ≡ accepted room_size (device_of image kept device.old)) × IsOf image kept device.new }
+    ensures answer { (image : List ℕ) → (kept : List ℕ) → result ≡ answer_of (taken_or (unaccepted room_size (device_of image kept device.old).stage)) }
+    ensures same { (result ≡ answer_of (taken_or None)) ⊎ (device.new ≡ device.old) }
+{
+    tell_taken(device.accept(room_size))
+}
+
+/// The write whose data have all come, and that isn't answered yet: its request goes into the setup, and its data are so many of
+/// the first bytes of the room. It is open where there is no such write.
+#[unsafe(no_mangle)]
+pub extern "C" fn nzg_device_written(
+    device: &EndpointZero,
+    kept: &[u8],
+    setup: &mut NzgSetup,
+) -> Answer
+    ensures { (image : List ℕ) → AnswersOn (TellsWrite (written_in (device_of image kept.now device.now).stage) kept.now setup.old setup.new) result }
+{
+    match device.written(kept) {
+        Some((request, bytes)) => {
+            setup.bytes = request.to_bytes();
+            Verdict::Done(bytes.len()).answer()
+        }
+        None => Verdict::Open(0).answer(),
+    }
+}
+
+/// Refuses the request that the device's owner was to answer, or has answered or accepted, until the status stage was
+/// answered. False where the bytes are no image: nothing changes then.
+#[unsafe(no_mangle)]
+pub extern "C" fn nzg_device_refuse(device: &mut EndpointZero, image: &[u8]) -> bool
+    ensures { Changes (rejected (answer_to (offer_in image.now))) (has_head image.now) image.now device.old device.new result }
+{
+    let image = Image { bytes: image };
+    if !image.has_head() {
+        return false;
+    }
+    device.refuse(image);
+    true
+}
+
+/// The request that was carried out, in its status stage. False where there is none.
+#[unsafe(no_mangle)]
+pub extern "C" fn nzg_device_carried_out(device: &EndpointZero, setup: &mut NzgSetup) -> bool
+    ensures setup { (image : List ℕ) → (kept : List ℕ) → setup.new ≡ setup_told (carried_out_in (device_of image kept device.now).stage) setup.old }
+    ensures found { (image : List ℕ) → (kept : List ℕ) → result ≡ is_some (carried_out_in (device_of image kept device.now).stage) }
+{
+    tell_request(device.carried_out(), setup)
+}
+
+fn tell_request(request: Option<Setup>, setup: &mut NzgSetup) -> bool
+    ensures setup { setup.new ≡ setup_told request setup.old }
+    ensures found { result ≡ is_some request }
+{
+    match request {
+        Some(request) => {
+            setup.bytes = request.to_bytes();
+            true
+        }
+        None => false,
+    }
+}
+
+fn tell_taken(taken: Result<(), Unanswered>) -> Answer
+    ensures ok { OnOk taken (result ≡ answer_of (taken_or None)) }
+    ensures err { IfErr taken (λ why. result ≡ answer_of (taken_or (Some why))) }
+{
+    match taken {
+        Ok(()) => Verdict::Done(0).answer(),
+        Err(why) => Verdict::Unanswered(why).answer(),
+    }
+}
