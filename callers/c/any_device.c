@@ -91,7 +91,7 @@ static bool is_called(struct nzg_device *device, const struct lent *lent) {
 }
 
 int main(int count, char **words) {
-    for (long calls = count > 1 ? atol(words[1]) : 0; calls > 0; calls--) {
+    for (int devices = count > 1 ? atoi(words[1]) : 0; devices > 0; devices--) {
         struct lent lent = {.image_len = some_length(), .kept_len = some_length(), .len = some_length()};
         lent.image = some_image(lent.image_len), lent.kept = some(lent.kept_len), lent.data = some(lent.len);
         struct nzg_device device = some_device();

@@ -258,7 +258,15 @@ impl Device {
         let (image, kept) = (&self.image, &mut self.kept);
         unsafe {
             sys::nzg_device_serve(
-                &mut self.it, image.as_ptr(), image.len(), kept.as_mut_ptr(), kept.len(), &sent, data.as_ptr(), data.len(), ready,
+                &mut self.it,
+                image.as_ptr(),
+                image.len(),
+                kept.as_mut_ptr(),
+                kept.len(),
+                &sent,
+                data.as_ptr(),
+                data.len(),
+                ready,
                 &mut it,
             )
         };
@@ -277,8 +285,18 @@ impl Device {
         let (image, kept) = (&self.image, &mut self.kept);
         let number = unsafe {
             sys::nzg_judge_device(
-                &mut self.it, image.as_ptr(), image.len(), kept.as_mut_ptr(), kept.len(), &mut open.0, &request, &sent,
-                data.as_ptr(), data.len(), &packet, &mut has,
+                &mut self.it,
+                image.as_ptr(),
+                image.len(),
+                kept.as_mut_ptr(),
+                kept.len(),
+                &mut open.0,
+                &request,
+                &sent,
+                data.as_ptr(),
+                data.len(),
+                &packet,
+                &mut has,
             )
         };
         (number < 9).then(|| (Difference::of(number), Reply::of(&has)))

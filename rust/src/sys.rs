@@ -108,9 +108,8 @@ extern "C" {
         device: *mut nzg_device, kept: *mut u8, kept_len: usize, bytes: *const u8, len: usize,
     ) -> nzg_answer;
     pub fn nzg_device_accept(device: *mut nzg_device, kept_len: usize) -> nzg_answer;
-    pub fn nzg_device_written(
-        device: *const nzg_device, kept: *const u8, kept_len: usize, setup: *mut nzg_setup,
-    ) -> nzg_answer;
+    pub fn nzg_device_written(device: *const nzg_device, kept: *const u8, kept_len: usize, setup: *mut nzg_setup)
+        -> nzg_answer;
     pub fn nzg_device_refuse(device: *mut nzg_device, image: *const u8, image_len: usize) -> bool;
     pub fn nzg_device_carried_out(device: *const nzg_device, setup: *mut nzg_setup) -> bool;
     pub fn nzg_judge_device(

@@ -30,6 +30,7 @@ pub extern "C" fn nzg_device_image(
     }
 }
 
+#[tactic(auto, using(crate::proofs::Faults::no_file_puts, crate::proofs::Faults::no_description_puts))]
 fn put_image(alloc: Global, bytes: &[u8], speed: Speed, image: &mut [u8]) -> Verdict
     ensures { PutsImageAt bytes.now speed image.old image.new result }
 {

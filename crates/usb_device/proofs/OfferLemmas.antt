@@ -1,5 +1,5 @@
 -- An image offers what the file offers that it was written of.
-use Rattle.std.proofs.Common.{◌≡◌, ◌<◌, ◌≤◌, ℕ, Bool, length, drop, fold, slice_index_or, arith, List, [], ◌∷◌, ◌++◌, map, refl, ap, subst, ◌∙◌}
+use Rattle.std.proofs.Common.{◌≡◌, ◌<◌, ◌≤◌, ℕ, Bool, true, length, drop, fold, slice_index_or, arith, List, [], ◌∷◌, ◌++◌, map, refl, ap, subst, ◌∙◌}
 use Rattle.std.specs.List.{flat_map}
 use Rattle.usb_set.specs.declared.tree.Configuration.{Configuration}
 use Rattle.usb_set.specs.declared.tree.Endpoint.{Endpoint}
@@ -9,19 +9,20 @@ use Rattle.usb_fields.specs.Device.{device_bytes}
 use Rattle.usb_file_data.specs.File.{named_indices, whole_set}
 use Rattle.usb_device.specs.Images.{Piece, descriptor_in, image_bytes, pieces_of}
 use Rattle.usb_device.specs.Descriptors.{descriptor}
-use Rattle.usb_device.specs.Freedoms.{is_either, is_either_to}
+use Rattle.usb_device.specs.Accepted.{Accepted}
+use Rattle.usb_device.specs.Conformance.{is_free, is_free_to}
 use Rattle.usb_device.specs.Step.{acked, served}
-use Rattle.usb_device.specs.View.{acked_by, acked_over, device_of, served_by, served_over}
-use Rattle.usb_device.specs.declared.endpoint_zero.EndpointZero.{EndpointZero}
-use Rattle.usb_device.specs.declared.state.State.{State}
-use Rattle.usb_fields.specs.Packets.{Reply, Sent}
-use Rattle.usb_fields.specs.declared.setup.Setup.{Setup}
-use Rattle.usb_device.specs.Offers.{SettingOffer, endpoint_offer, endpoints_in, offer_in, offer_of, packet_in, set_in, set_offer, setting_in, setting_offer, sets_in}
+use Rattle.usb_device.specs.View.{acked_by, acked_over, served_by, served_over}
+use Rattle.usb_fields.specs.declared.packet.Speed.{Speed}
+use Rattle.usb_device.specs.Offers.{SettingOffer, endpoint_offer, endpoints_in, has_head, offer_in, offer_of, packet_in, set_in, set_offer, setting_in, setting_offer, sets_in}
 use Rattle.usb_fields.specs.Setup.{class_of}
 use Rattle.usb_device.specs.Requests.{addresses_in, answer, answer_of, answer_to, interface_addresses}
 use Rattle.usb_device.specs.States.{without_halt}
 use Rattle.std.proofs.lemmas.List.Sums.{fold-append}
 use Rattle.usb_device.specs.FileImages.{endpoint_bytes, file_pieces, image_of, indexed, keyed, other_pieces, set_piece, setting_piece, string_pieces}
+use Rattle.std.proofs.lemmas.Bool.Decides.{nat_tests}
+use Rattle.usb_device.proofs.AcceptedLemmas.{packet_some}
+use Rattle.usb_device.proofs.Replies.{packet_fits}
 use Rattle.usb_device.proofs.PieceLemmas.{read_back, read_piece}
 use Rattle.usb_device.proofs.FoundLemmas.{offers_descriptor}
 
@@ -74,18 +75,17 @@ same_served f = λ i d sent ready. served (same_answers f i) (head_back f i) d s
 pub same_acked : (f : DescriptorFile) → acked_over (image_of f) ≡ acked_by f
 same_acked f = λ i d. acked (same_answers f i) (head_back f i) d
 
-pub same_either : (f : DescriptorFile) → is_either_to (offer_in (image_of f)) ≡ is_either f
-same_either f = λ i s q. is_either_to (same_offer f i) s q
+pub same_free : (f : DescriptorFile) → is_free_to (offer_in (image_of f)) ≡ is_free f
+same_free f = λ i d q. is_free_to (same_offer f i) d q
 
--- A device over an image of a file, as the file has it.
-
-pub by_file : (f : DescriptorFile) (image : List ℕ) (e : EndpointZero) (sent : Sent) (ready : Bool) (reply : Reply) → image ≡ image_of f →
-    reply ≡ (served_over image (device_of image e) sent ready).reply → reply ≡ (served_by f (device_of (image_of f) e) sent ready).reply
-by_file f image e sent ready reply is h =
-    subst (λ (i : List ℕ). reply ≡ (served_over i (device_of i e) sent ready).reply) is h ∙ (λ i. (same_served f i (device_of (image_of f) e) sent ready).reply)
-
-pub either_by_file : (f : DescriptorFile) (image : List ℕ) (s : State) (q : Setup) → image ≡ image_of f → is_either_to (offer_in image) s q ≡ is_either f s q
-either_by_file f image s q is = ap (λ i. is_either_to (offer_in i) s q) is ∙ (λ i. same_either f i s q)
+-- and an image of which there is a device begins with a head
+pub has_head_back : (f : DescriptorFile) (speed : Speed) → Accepted f speed → has_head (image_of f) ≡ true
+unfolding image_of
+has_head_back f speed accepted =
+    let some = packet_some f accepted.rules in
+    let fits = packet_fits f accepted.rules in
+    let head = head_back f in
+    grind (arith, nat_tests)
 
 -- Endpoints, two bytes each.
 

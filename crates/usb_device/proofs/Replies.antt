@@ -17,7 +17,7 @@ use Rattle.usb_device.specs.View.{served_by}
 use Rattle.usb_device.specs.Transactions.{HasRoom}
 
 -- where no rule is broken, packets have at most 64 bytes
-packet_fits : (f : DescriptorFile) → findings f ≡ [] → f.device.packet ≤ 64
+pub packet_fits : (f : DescriptorFile) → findings f ≡ [] → f.device.packet ≤ 64
 packet_fits f none =
     let device = device_right f none in
     grind (arith, nat_tests)
@@ -100,7 +100,7 @@ module _ (table : State → Setup → Outcome) (n : ℕ) (small : n ≤ 64) wher
   here_fits d (OutToken toggle bytes) false = tt
   here_fits d (OutToken toggle bytes) true = out_fits d.state d.stage toggle bytes
 
-  served_fits : (d : DeviceView) (sent : Sent) (ready : Bool) → HasRoom (served table n d sent ready).reply
+  pub served_fits : (d : DeviceView) (sent : Sent) (ready : Bool) → HasRoom (served table n d sent ready).reply
   served_fits d sent ready =
       if_fits (sent.address == d.state.address) (served_here table n d sent.token ready) (replies NoReply d.state d.stage false) (here_fits d sent.token ready) tt
 

@@ -6,9 +6,11 @@ use Rattle.usb_fields.specs.declared.setup.Setup.{Setup}
 use Rattle.usb_fields.specs.Packets.{packets, flipped}
 use Rattle.usb_fields.proofs.PacketLemmas.{packets-at, packets-past}
 use Rattle.usb_device.specs.Offers.{packet_in}
-use Rattle.usb_device.specs.declared.stage.DataStage.{DataStage}
+use Rattle.usb_device.specs.declared.stage.Stage.{Stage}
+use Rattle.usb_device.specs.declared.stage.Stage.TheVariants as stages
+use Rattle.usb_device.specs.declared.endpoint_zero.EndpointZero.{EndpointZero}
 use Rattle.usb_device.specs.Step.{Sending, StatusOut, next_stage}
-use Rattle.usb_device.specs.Stages.{data_bytes, source_bytes, IsData}
+use Rattle.usb_device.specs.Stages.{data_bytes, request_of, source_at, source_bytes, stage_kind, stage_of, toggle_at, IsData}
 
 -- what is left of a list from one of its elements on
 drop_there : {X : Type 0} (xs : List X) (k : ℕ) (x : X) → slice_get xs k ≡ Some x → drop k xs ≡ x ∷ drop (suc k) xs
@@ -49,40 +51,50 @@ stage_ends q b n o pos whole fits past =
     let at = packets-past b n q.length (suc (o / n)) pos fits (rw on past) in
     rw (drop_past (packets b n q.length) (suc (o / n)) at) refl
 
-module _ (image : List ℕ) (d : DataStage) (q : Setup) where
+-- which stage a device is in, whatever it holds there
+pub kind_back : (image room : List ℕ) (e : EndpointZero) (stage : Stage) → stage_kind (stage_of image room e stage) ≡ stage
+kind_back image room e stages.Idle = refl
+kind_back image room e stages.Sending = refl
+kind_back image room e stages.StatusOut = refl
+kind_back image room e stages.Over = refl
+kind_back image room e stages.Halted = refl
+kind_back image room e stages.StatusIn = refl
+kind_back image room e stages.Receiving = refl
+kind_back image room e stages.Written = refl
+
+module _ (image room : List ℕ) (e : EndpointZero) (pos : 0 < packet_in image) (h : IsData image room e) where
   -- the bytes of a data stage are as many as the code counts
-  pub data_length : IsData image d q → length (data_bytes image d) ≡ d.count
-  data_length h = length-take-le d.count (source_bytes image d.source d.kept) h.count
+  data_length : length (data_bytes image room e) ≡ e.count
+  data_length = length-take-le e.count (source_bytes image room e (source_at e.source)) h.count
 
   -- the packet that is due stands at the offset
-  pub packets_left : 0 < packet_in image → IsData image d q → drop (d.offset / packet_in image) (packets (data_bytes image d) (packet_in image) q.length) ≡ take (packet_in image) (drop d.offset (data_bytes image d)) ∷ drop (suc (d.offset / packet_in image)) (packets (data_bytes image d) (packet_in image) q.length)
-  packets_left pos h =
-      let within : d.offset ≤ length (data_bytes image d) = omega (arith, h.inside, data_length h) in
-      packet_here (data_bytes image d) (packet_in image) q.length d.offset pos h.whole within h.asked
+  pub packets_left : drop (e.offset / packet_in image) (packets (data_bytes image room e) (packet_in image) (request_of e).length) ≡ take (packet_in image) (drop e.offset (data_bytes image room e)) ∷ drop (suc (e.offset / packet_in image)) (packets (data_bytes image room e) (packet_in image) (request_of e).length)
+  packets_left =
+      let within : e.offset ≤ length (data_bytes image room e) = omega (arith, h.inside, data_length) in
+      packet_here (data_bytes image room e) (packet_in image) (request_of e).length e.offset pos h.whole within h.asked
 
   -- after a whole packet before the end the code is at the next one
-  pub data_goes_on : 0 < packet_in image → IsData image d q → d.offset + packet_in image ≤ d.count → d.offset + packet_in image < q.length → IsData image (record d { offset = d.offset + packet_in image; toggle = flipped d.toggle }) q
-  data_goes_on pos h inside asked =
-      let next = next_place d.offset (packet_in image) pos h.whole in
+  pub data_goes_on : (toggle : ℕ) → toggle_at toggle ≡ flipped (toggle_at e.toggle) → e.offset + packet_in image ≤ e.count → e.offset + packet_in image < (request_of e).length → IsData image room (record e { offset = e.offset + packet_in image; toggle = toggle })
+  data_goes_on toggle flips inside asked =
+      let next = next_place e.offset (packet_in image) pos h.whole in
       record {
         count = h.count;
         fits = h.fits;
         whole = rw next (grind (arith, h.whole));
         inside = inside;
         asked = asked;
-        toggle = rw (next, h.toggle) refl;
+        toggle = rw (next, flips, h.toggle) refl;
       }
 
   -- and the stage is the next one
-  pub stage_data_goes_on : 0 < packet_in image → IsData image d q → d.offset + packet_in image ≤ d.count → d.offset + packet_in image < q.length → next_stage q (data_bytes image d) (d.offset / packet_in image) (drop (suc (d.offset / packet_in image)) (packets (data_bytes image d) (packet_in image) q.length)) ≡ Sending q (data_bytes image d) ((d.offset + packet_in image) / packet_in image)
-  stage_data_goes_on pos h inside asked =
-      let within : d.offset + packet_in image ≤ length (data_bytes image d) = omega (arith, data_length h) in
-      rw (next_place d.offset (packet_in image) pos h.whole)
-      (stage_goes_on q (data_bytes image d) (packet_in image) d.offset pos h.whole within asked)
+  pub stage_data_goes_on : e.offset + packet_in image ≤ e.count → e.offset + packet_in image < (request_of e).length → next_stage (request_of e) (data_bytes image room e) (e.offset / packet_in image) (drop (suc (e.offset / packet_in image)) (packets (data_bytes image room e) (packet_in image) (request_of e).length)) ≡ Sending (request_of e) (data_bytes image room e) ((e.offset + packet_in image) / packet_in image)
+  stage_data_goes_on inside asked =
+      let within : e.offset + packet_in image ≤ length (data_bytes image room e) = omega (arith, data_length) in
+      rw (next_place e.offset (packet_in image) pos h.whole)
+      (stage_goes_on (request_of e) (data_bytes image room e) (packet_in image) e.offset pos h.whole within asked)
 
-  pub stage_data_ends : 0 < packet_in image → IsData image d q → (d.count < d.offset + packet_in image) ⊎ (q.length ≤ d.offset + packet_in image) → next_stage q (data_bytes image d) (d.offset / packet_in image) (drop (suc (d.offset / packet_in image)) (packets (data_bytes image d) (packet_in image) q.length)) ≡ StatusOut q
-  stage_data_ends pos h past =
-      let long = data_length h in
-      stage_ends q (data_bytes image d) (packet_in image) d.offset pos h.whole (omega (arith, long, h.fits)) (rw long past)
+  pub stage_data_ends : (e.count < e.offset + packet_in image) ⊎ ((request_of e).length ≤ e.offset + packet_in image) → next_stage (request_of e) (data_bytes image room e) (e.offset / packet_in image) (drop (suc (e.offset / packet_in image)) (packets (data_bytes image room e) (packet_in image) (request_of e).length)) ≡ StatusOut (request_of e)
+  stage_data_ends past =
+      stage_ends (request_of e) (data_bytes image room e) (packet_in image) e.offset pos h.whole (omega (arith, data_length, h.fits)) (rw data_length past)
 
 pub ruleset stages = (packets_left, data_goes_on, stage_data_goes_on, stage_data_ends)

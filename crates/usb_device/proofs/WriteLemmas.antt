@@ -1,5 +1,5 @@
 -- Data to the device: its own table refuses each request that brings some, and packets are counted by their bytes.
-use Rattle.std.proofs.Common.{◌≡◌, ℕ, suc, ◌+◌, ◌-◌, ◌*◌, ◌/◌, ◌<◌, ◌≤◌, ◌≢◌, ◌==◌, ◌&&◌, not, Bool, true, false, if◌then◌else◌, List, ◌++◌, length, length-append, min, Option, Some, None, refl, arith, subst}
+use Rattle.std.proofs.Common.{◌≡◌, ℕ, suc, ◌+◌, ◌-◌, ◌*◌, ◌/◌, ◌<◌, ◌≤◌, ◌≢◌, ◌==◌, ◌&&◌, not, Bool, true, false, if◌then◌else◌, List, ◌++◌, length, length-append, min, take, Option, Some, None, refl, arith, subst}
 use Rattle.std.proofs.lemmas.Bool.Decides.{nat_tests}
 use Rattle.std.proofs.lemmas.Nat.{div-mul-add}
 use Rattle.std.proofs.lemmas.List.{length-take-le}
@@ -15,14 +15,13 @@ use Rattle.usb_fields.specs.declared.packet.Toggle.{Toggle}
 use Rattle.usb_fields.specs.declared.packet.Toggle.TheVariants.{Data0, Data1}
 use Rattle.usb_fields.specs.Packets.{flipped, is_same_toggle}
 use Rattle.usb_device.specs.declared.state.State.{State}
-use Rattle.usb_device.specs.declared.stage.DataStage.{DataStage}
 use Rattle.usb_device.specs.Offers.{Offer, offer_in, packet_in}
 use Rattle.usb_device.specs.Requests.{Outcome, Refused, when, bytes_in, gives, does, status_of, feature_of, get_status, set_address, get_descriptor, get_configuration, set_configuration, get_interface, set_interface, row, answer_of, answer_to}
 use Rattle.usb_device.specs.Beside.{brings_bytes, is_in}
 use Rattle.usb_device.specs.Step.{Written, awaited, gathered}
 use Rattle.usb_device.specs.declared.stage.Stage.TheVariants as stages
 use Rattle.usb_device.specs.declared.endpoint_zero.EndpointZero.{EndpointZero}
-use Rattle.usb_device.specs.Stages.{written_bytes, IsReceiving, IsStage, IsWrite}
+use Rattle.usb_device.specs.Stages.{request_of, stage_at, toggle_at, written_bytes, IsReceiving, IsStage, IsWrite}
 use Rattle.usb_device.specs.View.{device_of, IsOf}
 use Rattle.usb_device.specs.inside.Reactions.{received_by}
 use Rattle.usb_device.proofs.StageLemmas.{next_place}
@@ -143,43 +142,47 @@ awaited_flips packet count n whole some few =
     rw split (div-mul-add (suc k) packet (n - 1) (omega arith))) in
     rw (here, next) refl
 
-module _ (image : List ℕ) (d : DataStage) (q : Setup) (pos : 0 < packet_in image) (h : IsReceiving image d q) where
-  flips : (e : DataStage) (n : ℕ) → e.offset ≡ d.offset + n → e.toggle ≡ flipped d.toggle → 0 < n → n ≤ packet_in image → IsWrite image e q
-  flips e n at toggle some few =
-      record {
-        write = h.is_write.write;
-        room = h.is_write.room;
-        toggle = rw (toggle, at, awaited_flips (packet_in image) d.offset n h.whole some few, h.is_write.toggle) refl;
-      }
-
-  -- after a whole packet with bytes left after it more are to come
-  pub write_goes_on : (e : DataStage) (n : ℕ) → e.offset ≡ d.offset + n → e.toggle ≡ flipped d.toggle → n ≡ min (packet_in image) (q.length - d.offset) → n ≢ q.length - d.offset → IsReceiving image e q
-  write_goes_on e n at toggle due left =
-      let whole : n ≡ packet_in image = omega (arith, due, left) in
-      record {
-        is_write = flips e n at toggle (omega (arith, whole, pos)) (omega (arith, whole));
-        whole = rw (at, whole, next_place d.offset (packet_in image) pos h.whole) (grind (arith, h.whole));
-        more = omega (arith, at, due, left, h.more);
-      }
-
-  -- with all that is left all have come
-  pub write_ends : (e : DataStage) (n : ℕ) → e.offset ≡ d.offset + n → e.toggle ≡ flipped d.toggle → n ≡ min (packet_in image) (q.length - d.offset) → n ≡ q.length - d.offset → IsWrite image e q × (e.offset ≡ q.length)
-  write_ends e n at toggle due all =
-      (flips e n at toggle (omega (arith, all, h.more)) (omega (arith, due, all)), omega (arith, at, all, h.more))
-
 -- a toggle is the same as itself
 same_self : (t : Toggle) → is_same_toggle t t ≡ true
 same_self Data0 = refl
 same_self Data1 = refl
 
+-- a packet of a write is kept: with these numbers the device goes on, in a room that has become this one
+module _ (image room after : List ℕ) (e : EndpointZero) (stage toggle n : ℕ) (pos : 0 < packet_in image) (h : IsReceiving image room e) (wide : length after ≡ length room) (flips : toggle_at toggle ≡ flipped (toggle_at e.toggle)) (due : n ≡ min (packet_in image) ((request_of e).length - e.offset)) where
+  abbrev next : EndpointZero
+  next = record e { stage = stage; toggle = toggle; offset = e.offset + n }
+
+  still_write : IsWrite image after next
+  still_write =
+      record {
+        write = h.is_write.write;
+        fits = omega (arith, wide, h.is_write.fits);
+        toggle = rw (flips, awaited_flips (packet_in image) e.offset n h.whole (omega (arith, due, pos, h.more)) (omega (arith, due)), h.is_write.toggle) refl;
+      }
+
+  -- after a whole packet with bytes left after it more are to come
+  pub write_goes_on : n ≢ (request_of e).length - e.offset → IsReceiving image after next
+  write_goes_on left =
+      let whole : n ≡ packet_in image = omega (arith, due, left) in
+      record {
+        is_write = still_write;
+        whole = rw (whole, next_place e.offset (packet_in image) pos h.whole) (grind (arith, h.whole));
+        more = omega (arith, due, left, h.more);
+      }
+
+  -- with all that is left all have come
+  pub write_ends : n ≡ (request_of e).length - e.offset → IsWrite image after next × (e.offset + n ≡ (request_of e).length)
+  write_ends all = (still_write, omega (arith, all, h.more))
+
 -- the last packet: the owner is asked
-pub gathers_last : (image : List ℕ) (e : EndpointZero) (next : DataStage) (toggle : Toggle) (bytes : List ℕ) → e.stage ≡ stages.Receiving → IsOf image e → e.pending ≡ false → e.data_stage.offset ≤ length e.data_stage.kept → toggle ≡ e.data_stage.toggle → length bytes ≡ min (packet_in image) (e.request.length - e.data_stage.offset) → length bytes ≡ e.request.length - e.data_stage.offset → written_bytes next ≡ written_bytes e.data_stage ++ bytes → device_of image (record e { stage = stages.Written; data_stage = next }) ≡ (received_by image e toggle bytes).device
-gathers_last image e next toggle bytes at is heard room right due all came =
-    let h : IsReceiving image e.data_stage e.request = subst (λ stage. IsStage image stage e.data_stage e.request) at is in
-    let long : length (written_bytes e.data_stage) ≡ e.data_stage.offset = length-take-le e.data_stage.offset e.data_stage.kept room in
-    let same : is_same_toggle e.data_stage.toggle (awaited (packet_in image) (length (written_bytes e.data_stage))) ≡ true =
-    rw (long, h.is_write.toggle) (same_self (awaited (packet_in image) e.data_stage.offset)) in
-    let fits : (length bytes == min (packet_in image) (e.request.length - length (written_bytes e.data_stage))) ≡ true = rw long (grind (arith, nat_tests, due)) in
-    rw (at, heard, right, same, fits, last_gathered (offer_in image) e.state e.request h.is_write.write (written_bytes e.data_stage) bytes (rw long (omega (arith, h.more))) (rw long all), came) refl
+pub gathers_last : (image room after : List ℕ) (e : EndpointZero) (stage toggle : ℕ) (came : Toggle) (bytes : List ℕ) → stage_at e.stage ≡ stages.Receiving → IsOf image room e → e.pending ≡ false → came ≡ toggle_at e.toggle → length bytes ≡ min (packet_in image) ((request_of e).length - e.offset) → length bytes ≡ (request_of e).length - e.offset → stage_at stage ≡ stages.Written → take (e.offset + length bytes) after ≡ take e.offset room ++ bytes → device_of image after (record e { stage = stage; toggle = toggle; offset = e.offset + length bytes }) ≡ (received_by image room e came bytes).device
+gathers_last image room after e stage toggle came bytes at is heard right due all ends kept =
+    let q = request_of e in
+    let h : IsReceiving image room e = subst (λ stage. IsStage image room e stage) at is.1 in
+    let long : length (written_bytes room e) ≡ e.offset = length-take-le e.offset room (omega (arith, h.more, h.is_write.fits)) in
+    let same : is_same_toggle (toggle_at e.toggle) (awaited (packet_in image) (length (written_bytes room e))) ≡ true =
+    rw (long, h.is_write.toggle) (same_self (awaited (packet_in image) e.offset)) in
+    let fits : (length bytes == min (packet_in image) (q.length - length (written_bytes room e))) ≡ true = rw long (grind (arith, nat_tests, due)) in
+    rw (at, ends, heard, right, same, fits, last_gathered (offer_in image) e.state q h.is_write.write (written_bytes room e) bytes (rw long (omega (arith, h.more))) (rw long all), kept) refl
 
 pub ruleset writes = (gathers_last, write_goes_on, write_ends)

@@ -62,7 +62,7 @@ pub fn is_ready(came: Answer<'_>) -> bool
 /// Judges one transaction of a device under test, in the transfer of this request, with packets of so many bytes. `came` is its
 /// answer; `has` is that of a [`Device`](crate::Device) of the same descriptors, which had the same transactions, to this one where
 /// [`is_ready`] says whether it is ready. `free` is whether the outcome of the transfer is open to a device:
-/// [`OwnedDevice::is_free`](crate::OwnedDevice::is_free).
+/// [`EndpointZero::is_free`](crate::EndpointZero::is_free).
 ///
 /// `None` is an allowed answer: the same; where the outcome is open, one that keeps chapter 8 after what is known of the transfer;
 /// and the status of a device with another bit 0, self-powered (USB 2.0, 9.4.5). The transfer then goes on by it.

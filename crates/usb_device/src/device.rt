@@ -5,7 +5,7 @@
 ghost use Rattle.std.specs.Prelude.{◌≡◌, None, Some, OnOk, OnErr, IfErr, MatchOption};
 ghost use Rattle.std.specs.Borrow.{sem};
 
-use crate::beside::Unanswered;
+use crate::beside::{ROOM, Unanswered};
 use crate::description::Description;
 use crate::encoded::Encoded;
 use crate::endpoint_zero::EndpointZero;
@@ -31,6 +31,7 @@ use usb_fields::{Answer, Setup, Stage as Token, Toggle, Transaction};
 #[derive(Debug, Drop)]
 pub struct Device<'d> {
     endpoint_zero: EndpointZero,
+    room: [u8; ROOM],
     description: &'d Encoded,
 }
 
@@ -51,10 +52,9 @@ impl<'d> Device<'d> {
     ghost use Rattle.usb_device.specs.Requests.{answer};
     ghost use Rattle.usb_device.specs.Step.{new_device};
     ghost use Rattle.usb_device.specs.Stages.{stage_kind};
-    ghost use Rattle.usb_device.specs.View.{acked_by, acknowledged, served_by};
+    ghost use Rattle.usb_device.specs.View.{acked_by, acknowledged, packet_due, reply_with, served_by};
     ghost use Rattle.usb_device.specs.Lending.{EndsAs};
     ghost use Rattle.usb_device.specs.Beside.{accepted, answered, carried_out_in, refused_in, rejected, room_size, unaccepted, unanswered, unfit_bytes, written_in, Gives};
-    ghost use Rattle.usb_device.specs.inside.Reactions.{packet_due, reply_with};
 
     /// A device in the Default state, and in no transfer.
     pub fn new(d: &'d Description) -> Device<'d>
@@ -68,7 +68,8 @@ impl<'d> Device<'d> {
         ensures { result ≡ record { description = d.now; device = new_device } }
     {
         Device {
-            endpoint_zero: EndpointZero::new(d.image()),
+            endpoint_zero: EndpointZero::new(),
+            room: [0; ROOM],
             description: d,
         }
     }
@@ -77,7 +78,7 @@ impl<'d> Device<'d> {
     pub fn reset(&mut self)
         ensures { self.new ≡ record self.old { device = new_device } }
     {
-        self.endpoint_zero = EndpointZero::new(self.description.image());
+        self.endpoint_zero.reset();
     }
 
     /// One transaction, answered as the table of requests and the stages say. Where `ready` is false the device has no
@@ -103,23 +104,19 @@ impl<'d> Device<'d> {
         ensures device { self.new ≡ record self.old { device = (served_by self.old.description.file self.old.device (sent_of t.now) ready).device } }
     {
         // The image is read only where the device has time.
-        match t.stage {
-            Token::Setup(_) => self.endpoint_zero.react(self.description.image(), t, ready),
-            _ => {
-                if ready {
-                    self.endpoint_zero.react(self.description.image(), t, ready)
-                } else {
-                    self.endpoint_zero.put_off(t)
-                }
-            }
+        if !ready && !matches!(t.stage, Token::Setup(_)) {
+            return self.endpoint_zero.put_off(t);
         }
+        self.endpoint_zero
+            .serve(self.description.image(), &mut self.room, t, ready)
     }
 
     #[inline(always)]
     fn packet(&self) -> &[u8]
         ensures { result.now ≡ packet_due self.now.description.file.device.packet self.now.device.stage }
     {
-        self.endpoint_zero.packet(self.description.image())
+        self.endpoint_zero
+            .packet(self.description.image(), &self.room)
     }
 
     /// Call it when the host has acknowledged the packet, never right after `serve`. If the last answer of
@@ -170,7 +167,7 @@ impl<'d> Device<'d> {
         ensures same { OnErr result (self.new ≡ self.old) }
     {
         self.endpoint_zero
-            .answer_with(self.description.image(), bytes)
+            .answer_with(&mut self.room, bytes)
     }
 
     /// Accepts the request that is rejected. One without data is answered by its status stage, as if the table had. Of a
@@ -186,7 +183,7 @@ impl<'d> Device<'d> {
         ensures err { IfErr result (λ why. unaccepted room_size self.old.device.stage ≡ Some why) }
         ensures same { OnErr result (self.new ≡ self.old) }
     {
-        self.endpoint_zero.accept(self.description.image())
+        self.endpoint_zero.accept(ROOM)
     }
 
     /// The write whose data have all come, and that isn't answered yet, with its wLength bytes: from its last packet to
@@ -215,7 +212,7 @@ impl<'d> Device<'d> {
     pub fn written(&self) -> Option<(Setup, &[u8])>
         ensures { MatchOption result (written_in self.now.device.stage ≡ None) (λ w. written_in self.now.device.stage ≡ Some (w.0, w.1.now)) }
     {
-        self.endpoint_zero.written()
+        self.endpoint_zero.written(&self.room)
     }
 
     /// Refuses the request that the owner was to answer, or has answered or accepted: each IN and OUT is answered by STALL
@@ -241,14 +238,15 @@ impl<'d> Device<'d> {
     pub fn state(&self) -> State
         ensures { result ≡ self.now.device.state }
     {
-        self.endpoint_zero.state()
+        self.endpoint_zero.state
     }
 
     /// Its stage in a transfer.
+    #[tactic(auto, using(crate::proofs::StageLemmas::kind_back))]
     pub fn stage(&self) -> Stage
         ensures { result ≡ stage_kind self.now.device.stage }
     {
-        self.endpoint_zero.stage()
+        Stage::of(self.endpoint_zero.stage)
     }
 
     /// How many bytes of a data stage to the host were sent and acknowledged: 0 in any other stage.

@@ -1,136 +1,117 @@
 //! The device's end of the control transfers of endpoint zero.
-ghost use Rattle.std.specs.Borrow.{sem};
-ghost use Rattle.std.specs.Prelude.{◌≡◌, ◌<◌, ◌≤◌, ◌/◌, ◌==◌, ℕ, List, suc, true, false, if◌then◌else◌, [], take, drop, length};
-ghost use Rattle.usb_fields.specs.Packets.{reply_of, sent_of, packets, StallReply, DataReply};
+ghost use Rattle.std.specs.Prelude.{◌≡◌, ◌<◌, ◌≤◌, ◌==◌, ℕ, List, true, false, if◌then◌else◌, [], take, length};
+ghost use Rattle.usb_fields.specs.Packets.{sent_of, StallReply, DataReply};
+ghost use Rattle.usb_fields.specs.Setup.{setup_of};
 ghost use Rattle.usb_fields.specs.declared.packet.Toggle.TheVariants.{Data1};
 ghost use Rattle.usb_device.specs.Offers.{offer_in, packet_in};
 ghost use Rattle.usb_device.specs.Requests.{answer_to};
-ghost use Rattle.usb_device.specs.Step.{begun, carried_out, next_stage, Sending};
-ghost use Rattle.usb_device.specs.Stages.{data_bytes, stage_kind, IsData};
+ghost use Rattle.usb_device.specs.Step.{begun, carried_out, Sending};
+ghost use Rattle.usb_device.specs.Stages.{request_of, stage_at};
 
+mod data_stage;
+mod freedom;
 mod owner;
 
 use crate::image::Image;
 use crate::piece::Place;
 use crate::request::{Request, is_set_address};
-use crate::stage::{DataStage, Decision, Reaction, Source, Stage};
+use crate::stage::{Decision, Reaction, Source, Stage, toggle_at};
 use crate::state::State;
-use usb_fields::{Answer, Setup, Stage as Token, Toggle, Transaction};
+use usb_fields::{Setup, Stage as Token, Toggle, Transaction};
 
-/// What changes in a device: its state, its stage in a transfer, and whether its last answer waits for an ACK. It borrows
-/// nothing, so it can be kept beside its description where a [`Device`](crate::Device) can't: its calls are given the
-/// image of the description, always the one that it was made for.
+/// What changes in a device: its state, its stage in a transfer, and whether its last answer waits for an ACK. It is numbers
+/// alone, which a program in another language can hold: its calls are lent the image of the descriptors and a room, which
+/// keeps the data of a write and the owner's answers between them. These are always the ones that it began with.
+///
+/// No number is refused, nor any byte of an image or a room: each call is then safe too, and ends.
 ///
 /// ```rust
 /// // SET_ADDRESS 5.
-/// let mut endpoint_zero = EndpointZero::new(encoded.image());
+/// let mut endpoint_zero = EndpointZero::new();
+/// let image = encoded.image();
 /// let setup = Transaction { address: 0, stage: Stage::Setup([0, 5, 5, 0, 0, 0, 0, 0]) };
-/// assert_eq!(rt; endpoint_zero.serve(encoded.image(), &setup, true), Answer::Ack);
+/// assert_eq!(rt; endpoint_zero.serve(image, &mut [], &setup, true), Reaction::Ack);
 /// let status = Transaction { address: 0, stage: Stage::In };
-/// assert_eq!(rt; endpoint_zero.serve(encoded.image(), &status, true), Answer::Data(Toggle::Data1, &[]));
-/// endpoint_zero.acked(encoded.image());
-/// assert_eq!(rt; endpoint_zero.state().address, 5);
+/// assert_eq!(rt; endpoint_zero.serve(image, &mut [], &status, true), Reaction::Empty);
+/// endpoint_zero.acked(image);
+/// assert_eq!(rt; endpoint_zero.state.address, 5);
 /// ```
-#[derive(Clone, Copy, Debug, PartialEq, Eq, Hash)]
+#[repr(C)]
+#[derive(Clone, Copy, Debug, Drop, PartialEq, Eq, Hash)]
 pub struct EndpointZero {
-    state: State,
-    stage: Stage,
-    /// In the stages `Sending`, `Receiving` and `Written`: the data stage, beside the stage so that a step writes only what it changes.
-    data_stage: DataStage,
-    /// In the stages other than `Idle` and `Over`: the request.
-    request: Setup,
+    /// The stage in a transfer: [`DeviceStage::of`](crate::DeviceStage::of).
+    pub stage: u8,
+    /// In a data stage: the toggle of the packet that is due, or awaited. 0 is DATA0.
+    pub toggle: u8,
     /// In `Halted`: the host knows of the rejection. In `StatusIn`: the request was carried out, SET_ADDRESS excepted.
-    settled: bool,
-    pending: bool,
+    pub settled: bool,
+    /// Whether the last answer waits for an ACK.
+    pub pending: bool,
+    /// In `Sending`: where the bytes are. 0 is `own`, 1 the room, and 2 the image from `place` on.
+    pub source: u8,
+    /// A status, or the number of a configuration or of an alternate setting.
+    pub own: [u8; 2],
+    /// In the stages other than `Idle` and `Over`: the bytes of the request.
+    pub request: [u8; 8],
+    /// In `Sending`, of bytes of the image: where they begin.
+    pub place: usize,
+    /// In `Sending`: how many bytes there are to send.
+    pub count: usize,
+    /// In a data stage: how many bytes were sent and acknowledged, or have come.
+    pub offset: usize,
+    /// The state.
+    pub state: State,
 }
 
 impl EndpointZero {
     ghost use Rattle.usb_device.specs.Step.{new_device};
-    ghost use Rattle.usb_device.specs.View.{acked_over, acknowledged, served_over, device_of, IsOf};
-    ghost use Rattle.usb_device.specs.Lending.{PartEndsAs};
-    ghost use Rattle.usb_device.specs.Beside.{room_size};
+    ghost use Rattle.usb_device.specs.View.{acked_over, served_over, device_of, replied, IsOf};
     ghost use Rattle.usb_device.specs.inside.Places.{bytes_at, IsPlace};
-    ghost use Rattle.usb_device.specs.inside.Reactions.{is_sending, outcome_of, received_by, replied, sent_by, packet_due, IsAsked};
+    ghost use Rattle.usb_device.specs.inside.Reactions.{is_sending, outcome_of, received_by, sent_by, IsAsked};
 
-    /// That of a new device with this image, and of one after a bus reset.
-    pub fn new(image: Image<'_>) -> EndpointZero
-        ensures device { device_of image.entry.bytes.now result ≡ new_device }
-        ensures of { IsOf image.entry.bytes.now result }
+    /// That of a new device.
+    pub fn new() -> EndpointZero
+        ensures device { (image : List ℕ) → (room : List ℕ) → device_of image room result ≡ new_device }
+        ensures of { (image : List ℕ) → (room : List ℕ) → 0 < packet_in image → IsOf image room result }
     {
         EndpointZero {
-            state: State::zero(),
-            stage: Stage::Idle,
-            data_stage: DataStage::empty(),
-            request: Setup::from_bytes(&[0; 8]),
+            stage: Stage::Idle.number(),
+            toggle: 0,
             settled: false,
             pending: false,
+            source: Source::Own.number(),
+            own: [0; 2],
+            request: [0; 8],
+            place: 0,
+            count: 0,
+            offset: 0,
+            state: State::zero(),
         }
     }
 
-    /// The state.
-    pub fn state(&self) -> State
-        ensures { (image : List ℕ) → result ≡ (device_of image self.now).state }
+    /// A bus reset: it is as that of a new device (USB 2.0, 9.1.1.3).
+    pub fn reset(&mut self)
+        ensures device { (image : List ℕ) → (room : List ℕ) → device_of image room self.new ≡ new_device }
+        ensures of { (image : List ℕ) → (room : List ℕ) → 0 < packet_in image → IsOf image room self.new }
     {
-        self.state
+        self.stage = Stage::Idle.number();
+        self.pending = false;
+        self.state.reset();
     }
 
-    /// The stage of the device in a transfer.
-    pub fn stage(&self) -> Stage
-        ensures { (image : List ℕ) → result ≡ stage_kind (device_of image self.now).stage }
-    {
-        // By cases, since `device_of` says what a stage is by cases.
-        match self.stage {
-            Stage::Idle => Stage::Idle,
-            Stage::Halted => Stage::Halted,
-            Stage::Sending => Stage::Sending,
-            Stage::StatusOut => Stage::StatusOut,
-            Stage::Over => Stage::Over,
-            Stage::StatusIn => Stage::StatusIn,
-            Stage::Receiving => Stage::Receiving,
-            Stage::Written => Stage::Written,
-        }
-    }
-
-    /// How many bytes of a data stage to the host were sent and acknowledged: 0 in any other stage.
-    pub fn acknowledged(&self) -> usize
-        ensures { (image : List ℕ) → IsOf image self.now → result ≡ acknowledged (packet_in image) (device_of image self.now).stage }
-    {
-        match self.stage {
-            Stage::Sending => self.data_stage.offset,
-            _ => 0,
-        }
-    }
-
-    /// One transaction, as [`Device::serve`](crate::Device::serve) has it.
-    ///
-    /// # Requires
-    ///
-    /// The image is the one that it was made for, and its bMaxPacketSize0 isn't 0.
+    /// One transaction, as [`Device::serve`](crate::Device::serve) has it, with the bytes of the answer left out: those of a
+    /// [`Reaction::Packet`] are [`EndpointZero::packet`].
     #[inline(always)]
-    pub fn serve<'a>(&'a mut self, image: Image<'a>, t: &Transaction<'_>, ready: bool) -> Answer<'a>
-        requires size { 0 < packet_in image.bytes.now }
-        requires of { IsOf image.bytes.now self.old }
-        ensures answer { reply_of result ≡ (served_over image.entry.bytes.now (device_of image.entry.bytes.now self.entry.now) (sent_of t.now) ready).reply }
-        ensures* after { sem 𝓛 (PartEndsAs self.entry image.entry.bytes.now (served_over image.entry.bytes.now (device_of image.entry.bytes.now self.old) (sent_of t.now) ready).device) }
-    {
-        match self.react(image, t, ready) {
-            Reaction::Ack => Answer::Ack,
-            Reaction::Nak => Answer::Nak,
-            Reaction::Stall => Answer::Stall,
-            Reaction::Packet(toggle) => Answer::Data(toggle, self.packet(image)),
-            Reaction::Empty => Answer::Data(Toggle::Data1, &[]),
-            Reaction::Silence => Answer::Silence,
-        }
-    }
-
-    /// One transaction, with the bytes of the answer left out.
-    #[inline(always)]
-    pub(crate) fn react(&mut self, image: Image<'_>, t: &Transaction<'_>, ready: bool) -> Reaction
-        requires size { 0 < packet_in image.bytes.now }
-        requires of { IsOf image.bytes.now self.old }
-        ensures reply { replied image.entry.bytes.now self.new result ≡ (served_over image.entry.bytes.now (device_of image.entry.bytes.now self.old) (sent_of t.now) ready).reply }
-        ensures device { device_of image.entry.bytes.now self.new ≡ (served_over image.entry.bytes.now (device_of image.entry.bytes.now self.old) (sent_of t.now) ready).device }
-        ensures of { IsOf image.entry.bytes.now self.new }
+    pub fn serve(
+        &mut self,
+        image: Image<'_>,
+        room: &mut [u8],
+        t: &Transaction<'_>,
+        ready: bool,
+    ) -> Reaction
+        ensures reply { IsOf image.entry.bytes.now room.old self.old → replied image.entry.bytes.now room.new self.new result ≡ (served_over image.entry.bytes.now (device_of image.entry.bytes.now room.old self.old) (sent_of t.now) ready).reply }
+        ensures device { IsOf image.entry.bytes.now room.old self.old → device_of image.entry.bytes.now room.new self.new ≡ (served_over image.entry.bytes.now (device_of image.entry.bytes.now room.old self.old) (sent_of t.now) ready).device }
+        ensures of { IsOf image.entry.bytes.now room.old self.old → IsOf image.entry.bytes.now room.new self.new }
     {
         self.pending = false;
         if t.address != self.state.address {
@@ -138,7 +119,7 @@ impl EndpointZero {
         }
         match t.stage {
             Token::Setup(bytes) => {
-                self.begin(image, Setup::from_bytes(&bytes));
+                self.begin(image, bytes);
                 Reaction::Ack
             }
             Token::In => {
@@ -150,7 +131,7 @@ impl EndpointZero {
             }
             Token::Out(toggle, bytes) => {
                 if ready {
-                    self.receive(image, toggle, bytes)
+                    self.receive(image, room, toggle, bytes)
                 } else {
                     Reaction::Nak
                 }
@@ -175,107 +156,117 @@ impl EndpointZero {
     /// A SETUP: the transfer that the request begins.
     // What most of them ask for is decided first, with few registers.
     #[inline(never)]
-    fn begin(&mut self, image: Image<'_>, q: Setup)
-        ensures device { device_of image.entry.bytes.now self.new ≡ record (device_of image.entry.bytes.now self.old) { stage = begun q (answer_to (offer_in image.entry.bytes.now) self.old.state q) } }
-        ensures of { IsOf image.entry.bytes.now self.new }
+    fn begin(&mut self, image: Image<'_>, bytes: [u8; 8])
+        ensures device { (room : List ℕ) → device_of image.entry.bytes.now room self.new ≡ record (device_of image.entry.bytes.now room self.old) { stage = begun (setup_of bytes) (answer_to (offer_in image.entry.bytes.now) self.old.state (setup_of bytes)) } }
+        ensures of { (room : List ℕ) → 0 < packet_in image.entry.bytes.now → IsOf image.entry.bytes.now room self.new }
     {
+        self.request = bytes;
         let request = Request {
             image,
             state: &self.state,
-            setup: q,
+            setup: Setup::from_bytes(&bytes),
         };
         match request.decide_read() {
-            Some(decision) => self.enter(image, decision, q),
-            None => self.begin_other(image, q),
+            Some(decision) => self.enter(image, decision),
+            None => self.begin_other(image),
         }
     }
 
     /// The same, whatever the request is.
     #[inline(never)]
-    fn begin_other(&mut self, image: Image<'_>, q: Setup)
-        ensures device { device_of image.entry.bytes.now self.new ≡ record (device_of image.entry.bytes.now self.old) { stage = begun q (answer_to (offer_in image.entry.bytes.now) self.old.state q) } }
-        ensures of { IsOf image.entry.bytes.now self.new }
+    fn begin_other(&mut self, image: Image<'_>)
+        ensures device { (room : List ℕ) → device_of image.entry.bytes.now room self.new ≡ record (device_of image.entry.bytes.now room self.old) { stage = begun (request_of self.old) (answer_to (offer_in image.entry.bytes.now) self.old.state (request_of self.old)) } }
+        ensures of { (room : List ℕ) → 0 < packet_in image.entry.bytes.now → IsOf image.entry.bytes.now room self.new }
+    {
+        let decision = self.decision(image);
+        self.enter(image, decision);
+    }
+
+    /// What is decided about the request.
+    #[inline(always)]
+    fn decision(&self, image: Image<'_>) -> Decision
+        ensures answer { outcome_of image.entry.bytes.now self.now.state (request_of self.now) result ≡ answer_to (offer_in image.entry.bytes.now) self.now.state (request_of self.now) }
+        ensures asked { IsAsked image.entry.bytes.now (request_of self.now) result }
     {
         let request = Request {
             image,
             state: &self.state,
-            setup: q,
+            setup: Setup::from_bytes(&self.request),
         };
-        let decision = request.decide();
-        self.enter(image, decision, q);
+        request.decide()
     }
 
-    /// The transfer of a request about which this is decided.
+    /// The transfer of the request, about which this is decided.
     #[inline(always)]
-    fn enter(&mut self, image: Image<'_>, decision: Decision, q: Setup)
-        requires { IsAsked image.bytes.now q decision }
-        ensures device { device_of image.entry.bytes.now self.new ≡ record (device_of image.entry.bytes.now self.old) { stage = begun q (outcome_of image.entry.bytes.now self.old.state q decision) } }
-        ensures of { IsOf image.entry.bytes.now self.new }
+    fn enter(&mut self, image: Image<'_>, decision: Decision)
+        requires { IsAsked image.bytes.now (request_of self.old) decision }
+        ensures device { (room : List ℕ) → device_of image.entry.bytes.now room self.new ≡ record (device_of image.entry.bytes.now room self.old) { stage = begun (request_of self.old) (outcome_of image.entry.bytes.now self.old.state (request_of self.old) decision) } }
+        ensures of { (room : List ℕ) → 0 < packet_in image.entry.bytes.now → IsOf image.entry.bytes.now room self.new }
     {
         match decision {
-            Decision::Descriptor(place) => self.send_descriptor(image, place, q),
-            Decision::Byte(byte) => self.send_kept(image, &[byte], q),
-            Decision::Status(first) => self.send_kept(image, &[first, 0], q),
-            Decision::Done(_) => self.wait(Stage::StatusIn, q),
-            Decision::Refused => self.wait(Stage::Halted, q),
+            Decision::Descriptor(place) => self.send_descriptor(image, place),
+            Decision::Byte(byte) => self.send_own(image, [byte, 0], 1),
+            Decision::Status(first) => self.send_own(image, [first, 0], 2),
+            Decision::Done(_) => self.wait(Stage::StatusIn),
+            Decision::Refused => self.wait(Stage::Halted),
         }
     }
 
     /// Enters the stage of a request that isn't settled yet.
     #[inline(always)]
-    fn wait(&mut self, stage: Stage, q: Setup)
-        ensures { self.new ≡ record self.old { stage = stage; request = q; settled = false } }
+    fn wait(&mut self, stage: Stage)
+        ensures stage { stage_at self.new.stage ≡ stage }
+        ensures rest { self.new ≡ record self.old { stage = self.new.stage; settled = false } }
     {
-        self.stage = stage;
-        self.request = q;
+        self.stage = stage.number();
         self.settled = false;
     }
 
-    /// Begins the data stage of a request with a descriptor, cut to wLength.
-    fn send_descriptor(&mut self, image: Image<'_>, place: Place, q: Setup)
+    /// Begins the data stage of the request with a descriptor, cut to wLength.
+    fn send_descriptor(&mut self, image: Image<'_>, place: Place)
         requires within { IsPlace image.bytes.now place }
-        requires asked { 0 < q.length }
-        ensures device { device_of image.entry.bytes.now self.new ≡ record (device_of image.entry.bytes.now self.old) { stage = Sending q (take q.length (bytes_at image.entry.bytes.now place)) 0 } }
-        ensures of { IsOf image.entry.bytes.now self.new }
+        requires asked { 0 < (request_of self.old).length }
+        ensures device { (room : List ℕ) → device_of image.entry.bytes.now room self.new ≡ record (device_of image.entry.bytes.now room self.old) { stage = Sending (request_of self.old) (take (request_of self.old).length (bytes_at image.entry.bytes.now place)) 0 } }
+        ensures of { (room : List ℕ) → 0 < packet_in image.entry.bytes.now → IsOf image.entry.bytes.now room self.new }
     {
-        self.stage = Stage::Sending;
-        self.request = q;
-        self.data_stage.source = Source::Image(place.start);
-        let limit = usize::from(q.length);
-        self.data_stage.begin(place.count.min(limit));
+        self.place = place.start;
+        let limit = usize::from(self.setup().length);
+        self.begin_data(Source::Image, place.count.min(limit));
     }
 
-    /// Begins the data stage of a request with these bytes, which are kept.
-    // Inlined, so that one or two bytes are written with no call.
+    /// Begins the data stage of the request with the first one or two of these bytes.
     #[inline(always)]
-    fn send_kept(&mut self, image: Image<'_>, bytes: &[u8], q: Setup)
-        requires some { 0 < q.length }
-        requires asked { length bytes.now ≤ q.length }
-        requires kept { length bytes.now ≤ room_size }
-        ensures device { device_of image.entry.bytes.now self.new ≡ record (device_of image.entry.bytes.now self.old) { stage = Sending q bytes.now 0 } }
-        ensures of { IsOf image.entry.bytes.now self.new }
+    fn send_own(&mut self, image: Image<'_>, bytes: [u8; 2], count: usize)
+        requires some { 0 < count }
+        requires few { count ≤ 2 }
+        requires asked { (request_of self.old).length ≡ count }
+        ensures device { (room : List ℕ) → device_of image.entry.bytes.now room self.new ≡ record (device_of image.entry.bytes.now room self.old) { stage = Sending (request_of self.old) (take count bytes) 0 } }
+        ensures of { (room : List ℕ) → 0 < packet_in image.entry.bytes.now → IsOf image.entry.bytes.now room self.new }
     {
-        self.stage = Stage::Sending;
-        self.request = q;
-        self.data_stage.source = Source::Kept;
-        self.data_stage.kept[..bytes.len()].copy_from_slice(bytes);
-        self.data_stage.begin(bytes.len());
+        self.own = bytes;
+        self.begin_data(Source::Own, count);
+    }
+
+    /// The request.
+    #[inline(always)]
+    fn setup(&self) -> Setup
+        ensures { result ≡ request_of self.now }
+    {
+        Setup::from_bytes(&self.request)
     }
 
     /// An IN transaction.
     #[tactic(auto, using(crate::proofs::StageLemmas::packets_left))]
     #[inline(always)]
     fn send(&mut self, image: Image<'_>) -> Reaction
-        requires size { 0 < packet_in image.bytes.now }
-        requires of { IsOf image.bytes.now self.old }
-        ensures reply { replied image.entry.bytes.now self.new result ≡ (sent_by image.entry.bytes.now self.old).reply }
-        ensures device { device_of image.entry.bytes.now self.new ≡ (sent_by image.entry.bytes.now self.old).device }
-        ensures of { IsOf image.entry.bytes.now self.new }
+        ensures reply { (room : List ℕ) → IsOf image.entry.bytes.now room self.old → replied image.entry.bytes.now room self.new result ≡ (sent_by image.entry.bytes.now room self.old).reply }
+        ensures device { (room : List ℕ) → IsOf image.entry.bytes.now room self.old → device_of image.entry.bytes.now room self.new ≡ (sent_by image.entry.bytes.now room self.old).device }
+        ensures of { (room : List ℕ) → IsOf image.entry.bytes.now room self.old → IsOf image.entry.bytes.now room self.new }
     {
-        match self.stage {
+        match Stage::of(self.stage) {
             Stage::Sending => {
                 self.pending = true;
-                Reaction::Packet(self.data_stage.toggle)
+                Reaction::Packet(toggle_at(self.toggle))
             }
             _ => {
                 if self.sends_status(image) {
@@ -291,23 +282,22 @@ impl EndpointZero {
     // No call with a packet, so that the stage is tested once where one is sent.
     #[inline(never)]
     fn sends_status(&mut self, image: Image<'_>) -> bool
-        requires of { IsOf image.bytes.now self.old }
-        requires other { is_sending self.old.stage ≡ false }
-        ensures reply { (if result then DataReply Data1 [] else StallReply) ≡ (sent_by image.entry.bytes.now self.old).reply }
-        ensures device { device_of image.entry.bytes.now self.new ≡ (sent_by image.entry.bytes.now self.old).device }
-        ensures of { IsOf image.entry.bytes.now self.new }
+        requires other { is_sending (stage_at self.old.stage) ≡ false }
+        ensures reply { (room : List ℕ) → (if result then DataReply Data1 [] else StallReply) ≡ (sent_by image.entry.bytes.now room self.old).reply }
+        ensures device { (room : List ℕ) → device_of image.entry.bytes.now room self.new ≡ (sent_by image.entry.bytes.now room self.old).device }
+        ensures of { (room : List ℕ) → 0 < packet_in image.entry.bytes.now → IsOf image.entry.bytes.now room self.new }
     {
-        match self.stage {
+        match Stage::of(self.stage) {
             Stage::StatusIn => {
-                if !self.settled && !is_set_address(self.request) {
-                    self.carry_out(image, self.request);
+                if !self.settled && !is_set_address(self.setup()) {
+                    self.carry_out(image);
                 }
                 self.settled = true;
                 self.pending = true;
                 true
             }
             _ => {
-                self.stall(image);
+                self.stall();
                 false
             }
         }
@@ -315,28 +305,33 @@ impl EndpointZero {
 
     /// An OUT transaction.
     #[inline(always)]
-    fn receive(&mut self, image: Image<'_>, toggle: Toggle, bytes: &[u8]) -> Reaction
-        requires size { 0 < packet_in image.bytes.now }
-        requires of { IsOf image.bytes.now self.old }
-        ensures reply { replied image.entry.bytes.now self.new result ≡ (received_by image.entry.bytes.now self.old toggle bytes.now).reply }
-        ensures device { device_of image.entry.bytes.now self.new ≡ (received_by image.entry.bytes.now self.old toggle bytes.now).device }
-        ensures of { IsOf image.entry.bytes.now self.new }
+    fn receive(
+        &mut self,
+        image: Image<'_>,
+        room: &mut [u8],
+        toggle: Toggle,
+        bytes: &[u8],
+    ) -> Reaction
+        ensures reply { IsOf image.entry.bytes.now room.old self.old → replied image.entry.bytes.now room.new self.new result ≡ (received_by image.entry.bytes.now room.old self.old toggle bytes.now).reply }
+        ensures device { IsOf image.entry.bytes.now room.old self.old → device_of image.entry.bytes.now room.new self.new ≡ (received_by image.entry.bytes.now room.old self.old toggle bytes.now).device }
+        ensures of { IsOf image.entry.bytes.now room.old self.old → IsOf image.entry.bytes.now room.new self.new }
     {
         self.pending = false;
-        match self.stage {
+        match Stage::of(self.stage) {
             Stage::Sending | Stage::StatusOut | Stage::Over => match toggle {
                 Toggle::Data0 => Reaction::Ack,
                 Toggle::Data1 => {
                     if bytes.is_empty() {
-                        self.stage = Stage::Over;
+                        self.stage = Stage::Over.number();
                         Reaction::Ack
                     } else {
-                        self.stall(image)
+                        self.stall();
+                        Reaction::Stall
                     }
                 }
             },
             _ => {
-                if self.takes(image, toggle, bytes) {
+                if self.takes(image, room, toggle, bytes) {
                     Reaction::Ack
                 } else {
                     Reaction::Stall
@@ -347,93 +342,45 @@ impl EndpointZero {
 
     /// STALL, until the next SETUP.
     #[inline(always)]
-    fn stall(&mut self, image: Image<'_>) -> Reaction
-        ensures reply { result ≡ Reaction.Stall }
-        ensures device { self.new ≡ record self.old { stage = Stage.Halted; settled = true; pending = false } }
-        ensures of { IsOf image.entry.bytes.now self.new }
+    fn stall(&mut self)
+        ensures stage { stage_at self.new.stage ≡ Stage.Halted }
+        ensures rest { self.new ≡ record self.old { stage = self.new.stage; settled = true; pending = false } }
     {
-        self.stage = Stage::Halted;
+        self.stage = Stage::Halted.number();
         self.settled = true;
         self.pending = false;
-        Reaction::Stall
     }
 
-    /// Carries out a request, where it asks for no data.
+    /// Carries out the request, where it asks for no data.
     #[inline(never)]
-    fn carry_out(&mut self, image: Image<'_>, q: Setup)
-        ensures { self.new ≡ record self.old { state = carried_out self.old.state (answer_to (offer_in image.entry.bytes.now) self.old.state q) } }
+    fn carry_out(&mut self, image: Image<'_>)
+        ensures { self.new ≡ record self.old { state = carried_out self.old.state (answer_to (offer_in image.entry.bytes.now) self.old.state (request_of self.old)) } }
     {
-        let request = Request {
-            image,
-            state: &self.state,
-            setup: q,
-        };
-        if let Decision::Done(change) = request.decide() {
+        if let Decision::Done(change) = self.decision(image) {
             self.state.change(change);
         }
     }
 
     /// The host's ACK of the data packet that [`EndpointZero::serve`] answered right before. Anywhere else, and a
     /// second time, it changes nothing.
-    ///
-    /// # Requires
-    ///
-    /// The image is the one that it was made for, and its bMaxPacketSize0 isn't 0.
     #[inline(always)]
     pub fn acked(&mut self, image: Image<'_>)
-        requires size { 0 < packet_in image.bytes.now }
-        requires of { IsOf image.bytes.now self.old }
-        ensures device { device_of image.entry.bytes.now self.new ≡ acked_over image.entry.bytes.now (device_of image.entry.bytes.now self.old) }
-        ensures of { IsOf image.entry.bytes.now self.new }
+        ensures device { (room : List ℕ) → IsOf image.entry.bytes.now room self.old → device_of image.entry.bytes.now room self.new ≡ acked_over image.entry.bytes.now (device_of image.entry.bytes.now room self.old) }
+        ensures of { (room : List ℕ) → IsOf image.entry.bytes.now room self.old → IsOf image.entry.bytes.now room self.new }
     {
         if !self.pending {
             return;
         }
         self.pending = false;
-        match self.stage {
+        match Stage::of(self.stage) {
             Stage::Sending => self.go_on(image),
             Stage::StatusIn => {
-                if is_set_address(self.request) {
-                    self.carry_out(image, self.request);
+                if is_set_address(self.setup()) {
+                    self.carry_out(image);
                 }
-                self.stage = Stage::Idle;
+                self.stage = Stage::Idle.number();
             }
             _ => {}
-        }
-    }
-
-    /// The packet that was due was acknowledged: another is due then, or the status stage.
-    #[tactic(auto, using(crate::proofs::StageLemmas::stages))]
-    #[inline(always)]
-    fn go_on(&mut self, image: Image<'_>)
-        requires size { 0 < packet_in image.bytes.now }
-        requires sending { self.old.stage ≡ Stage.Sending }
-        requires due { IsData image.bytes.now self.old.data_stage self.old.request }
-        ensures device { device_of image.entry.bytes.now self.new ≡ record (device_of image.entry.bytes.now self.old) { stage = next_stage self.old.request (data_bytes image.entry.bytes.now self.old.data_stage) (self.old.data_stage.offset / packet_in image.entry.bytes.now) (drop (suc (self.old.data_stage.offset / packet_in image.entry.bytes.now)) (packets (data_bytes image.entry.bytes.now self.old.data_stage) (packet_in image.entry.bytes.now) self.old.request.length)) } }
-        ensures of { IsOf image.entry.bytes.now self.new }
-    {
-        let packet = image.packet();
-        let limit = usize::from(self.request.length);
-        let left = self.data_stage.count - self.data_stage.offset;
-        if left < packet || limit - self.data_stage.offset <= packet {
-            self.stage = Stage::StatusOut;
-        } else {
-            self.data_stage.offset += packet;
-            self.data_stage.toggle = self.data_stage.toggle.flip();
-        }
-    }
-
-    /// The bytes of the packet that is due, or none.
-    #[tactic(auto, using(crate::proofs::StageLemmas::packets_left))]
-    #[inline(always)]
-    pub(crate) fn packet<'a>(&'a self, image: Image<'a>) -> &'a [u8]
-        requires size { 0 < packet_in image.bytes.now }
-        requires of { IsOf image.bytes.now self.now }
-        ensures { result.now ≡ packet_due (packet_in image.entry.bytes.now) (device_of image.entry.bytes.now self.now).stage }
-    {
-        match self.stage {
-            Stage::Sending => self.data_stage.packet(image),
-            _ => &[],
         }
     }
 }

@@ -11,9 +11,8 @@
 //! it, and [`Image`] reads it where it lies, whatever bytes it is: the law [`laws::an_image_is_read_back`] is that it offers
 //! what the file does. [`Encoded`] is a description without the tree: it owns an image, and proofs alone see its file.
 //!
-//! [`EndpointZero`] is what changes in a device, and its calls are lent an image; [`OwnedDevice`] owns its description, and so
-//! can be one handle of a program in another language, for which [`NzgTransaction`] and [`NzgPacket`] are what passes
-//! on the bus, in numbers and lent bytes.
+//! [`EndpointZero`] is what changes in a device, as numbers that a program in another language can hold: its calls are lent an
+//! image and a room. For such a program [`NzgTransaction`] and [`NzgPacket`] are what passes on the bus.
 //!
 //! What is allowed of a device under test, beside a device of the same descriptors, [`judge`] says, transaction by
 //! transaction.
@@ -41,7 +40,6 @@ mod halts;
 mod image;
 pub mod laws;
 mod open_transfer;
-mod owned_device;
 mod piece;
 mod request;
 mod sets;
@@ -59,8 +57,9 @@ pub use endpoint_zero::EndpointZero;
 pub use file_image::write_image;
 pub use image::Image;
 pub use open_transfer::{OpenStage, OpenTransfer};
-pub use owned_device::OwnedDevice;
 pub use request::is_set_address;
-pub use stage::Stage as DeviceStage;
+pub use stage::{Reaction, Stage as DeviceStage};
 pub use state::{DeviceState, State};
-pub use transaction::{NzgPacket, NzgTransaction, answer_in, answer_of, sent, speed_of, told};
+pub use transaction::{
+    NzgPacket, NzgTransaction, answer_in, answer_of, sent, speed_of, tell, told,
+};

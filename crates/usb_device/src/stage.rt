@@ -1,26 +1,45 @@
-//! The stage of a device in a transfer, and what a request is answered by.
-ghost use Rattle.std.specs.Prelude.{◌≡◌, ◌+◌, ◌≤◌, ◌++◌, length, take, drop};
-ghost use Rattle.usb_fields.specs.Packets.{flipped};
-ghost use Rattle.usb_device.specs.Beside.{room_size};
-ghost use Rattle.usb_device.specs.Offers.{packet_in};
-ghost use Rattle.usb_device.specs.Stages.{data_bytes, source_bytes, written_bytes};
+//! The stage of a device in a transfer, and what a request or a transaction is answered by.
+ghost use Rattle.std.specs.Prelude.{◌≡◌};
+ghost use Rattle.usb_device.specs.Stages.{toggle_at};
 
-use crate::beside::ROOM;
-use crate::image::Image;
 use crate::piece::Place;
-use usb_fields::{Toggle, after};
+use usb_fields::{Answer, Toggle};
 
 /// What a device answers to a transaction, with the bytes left out.
-#[derive(Clone, Copy)]
-pub(crate) enum Reaction {
+#[derive(Clone, Copy, Debug, PartialEq, Eq, Hash)]
+pub enum Reaction {
+    /// ACK: the data was taken.
     Ack,
+    /// NAK: not now.
     Nak,
+    /// STALL: the request is rejected.
     Stall,
-    /// The packet that is due, with this toggle.
+    /// The packet that is due, [`EndpointZero::packet`](crate::EndpointZero::packet), with this toggle.
     Packet(Toggle),
     /// The empty packet of the status stage.
     Empty,
+    /// Nothing: the device has another address.
     Silence,
+}
+
+impl Reaction {
+    ghost use Rattle.usb_fields.specs.Packets.{reply_of};
+    ghost use Rattle.usb_device.specs.View.{reply_with};
+
+    /// The answer, where these are the bytes of the packet that is due.
+    #[inline(always)]
+    pub fn answer(self, packet: &[u8]) -> Answer<'_>
+        ensures { reply_of result ≡ reply_with packet.entry.now self }
+    {
+        match self {
+            Reaction::Ack => Answer::Ack,
+            Reaction::Nak => Answer::Nak,
+            Reaction::Stall => Answer::Stall,
+            Reaction::Packet(toggle) => Answer::Data(toggle, packet),
+            Reaction::Empty => Answer::Data(Toggle::Data1, &[]),
+            Reaction::Silence => Answer::Silence,
+        }
+    }
 }
 
 /// What a request changes in the state.
@@ -54,17 +73,17 @@ pub(crate) enum Decision {
 }
 
 /// The stage of a device in a transfer.
-// Those of a read come first, so that an OUT there is told by one comparison.
+// Those of a read stand side by side, so that an OUT there is told by one comparison.
 #[derive(Clone, Copy, Debug, PartialEq, Eq, Hash)]
 pub enum Stage {
+    /// In no transfer.
+    Idle,
     /// In a data stage.
     Sending,
     /// In the status stage after a data stage.
     StatusOut,
     /// Past that status stage.
     Over,
-    /// In no transfer.
-    Idle,
     /// In one that it rejects.
     Halted,
     /// In the status stage of a request without a data stage, or of a write.
@@ -75,96 +94,95 @@ pub enum Stage {
     Written,
 }
 
+impl Stage {
+    ghost use Rattle.usb_device.specs.Stages.{stage_at};
+
+    /// The stage of this number, in the order above from 0 on, and `Idle` of a number that no stage has.
+    #[tactic(auto, unfolding(crate::specs::Stages::stage_at))]
+    #[inline(always)]
+    pub fn of(number: u8) -> Stage
+        ensures { result ≡ stage_at number }
+    {
+        match number {
+            1 => Stage::Sending,
+            2 => Stage::StatusOut,
+            3 => Stage::Over,
+            4 => Stage::Halted,
+            5 => Stage::StatusIn,
+            6 => Stage::Receiving,
+            7 => Stage::Written,
+            _ => Stage::Idle,
+        }
+    }
+
+    /// Its number.
+    #[tactic(auto, unfolding(crate::specs::Stages::stage_at))]
+    #[inline(always)]
+    pub fn number(self) -> u8
+        ensures { stage_at result ≡ self }
+    {
+        self as u8
+    }
+}
+
 /// Where the bytes of a data stage are.
-#[derive(Clone, Copy, Debug, PartialEq, Eq, Hash)]
+#[derive(Clone, Copy)]
 pub(crate) enum Source {
-    /// In the image, from this place on.
-    Image(usize),
-    /// The bytes that the device keeps.
-    Kept,
+    /// In the device itself.
+    Own,
+    /// In the room.
+    Room,
+    /// In the image.
+    Image,
 }
 
-/// A place in a data stage.
-#[derive(Clone, Copy, Debug, PartialEq, Eq, Hash)]
-pub(crate) struct DataStage {
-    /// Where the bytes are.
-    pub(crate) source: Source,
-    /// A status, an owner's answer or the data of a write, in the first bytes of this room.
-    pub(crate) kept: [u8; ROOM],
-    /// How many bytes there are to send.
-    pub(crate) count: usize,
-    /// How many bytes were sent and acknowledged, or have come.
-    pub(crate) offset: usize,
-    /// The toggle of the packet that is due, or awaited.
-    pub(crate) toggle: Toggle,
-}
+impl Source {
+    ghost use Rattle.usb_device.specs.Stages.{source_at};
 
-impl DataStage {
-    ghost use Rattle.usb_fields.specs.declared.packet.Toggle.TheVariants.{Data1};
-
-    /// A data stage with nothing to send.
-    pub(crate) fn empty() -> DataStage {
-        DataStage {
-            source: Source::Kept,
-            kept: [0; ROOM],
-            count: 0,
-            offset: 0,
-            toggle: Toggle::Data1,
+    /// The source of this number, in the order above from 0 on, and `Own` of a number that no source has.
+    #[tactic(auto, unfolding(crate::specs::Stages::source_at))]
+    #[inline(always)]
+    pub(crate) fn of(number: u8) -> Source
+        ensures { result ≡ source_at number }
+    {
+        match number {
+            1 => Source::Room,
+            2 => Source::Image,
+            _ => Source::Own,
         }
     }
 
-    /// Begins to send so many bytes of the source, or to take those of a write.
-    pub(crate) fn begin(&mut self, count: usize)
-        ensures { self.new ≡ record self.old { count = count; offset = 0; toggle = Data1 } }
-    {
-        self.count = count;
-        self.offset = 0;
-        self.toggle = Toggle::Data1;
-    }
-
-    /// Keeps the bytes of a packet after those that have come.
-    pub(crate) fn keep(&mut self, bytes: &[u8])
-        requires { self.old.offset + length bytes.now ≤ room_size }
-        ensures place { self.new ≡ record self.old { kept = self.new.kept; offset = self.old.offset + length bytes.now; toggle = flipped self.old.toggle } }
-        ensures bytes { written_bytes self.new ≡ written_bytes self.old ++ bytes.now }
-    {
-        let end = self.offset + bytes.len();
-        self.kept[self.offset..end].copy_from_slice(bytes);
-        self.offset = end;
-        self.toggle = self.toggle.flip();
-    }
-
-    /// The packet that is due.
+    /// Its number.
+    #[tactic(auto, unfolding(crate::specs::Stages::source_at))]
     #[inline(always)]
-    pub(crate) fn packet<'a>(&'a self, image: Image<'a>) -> &'a [u8]
-        requires count { self.now.count ≤ length (source_bytes image.bytes.now self.now.source self.now.kept) }
-        requires inside { self.now.offset ≤ self.now.count }
-        ensures { result.now ≡ take (packet_in image.entry.bytes.now) (drop self.now.offset (data_bytes image.entry.bytes.now self.now)) }
+    pub(crate) fn number(self) -> u8
+        ensures { source_at result ≡ self }
     {
-        packet_at(
-            &self.source_bytes(image)[..self.count],
-            self.offset,
-            image.packet(),
-        )
-    }
-
-    #[inline(always)]
-    fn source_bytes<'a>(&'a self, image: Image<'a>) -> &'a [u8]
-        ensures { result.now ≡ source_bytes image.entry.bytes.now self.now.source self.now.kept }
-    {
-        match self.source {
-            Source::Image(start) => after(image.bytes, start),
-            Source::Kept => &self.kept,
-        }
+        self as u8
     }
 }
 
-/// The packet at an offset: as many bytes as a packet has, or what is left.
+/// The toggle of this number: DATA0 of 0, and DATA1 of any other.
+#[tactic(auto, unfolding(crate::specs::Stages::toggle_at))]
 #[inline(always)]
-fn packet_at(bytes: &[u8], offset: usize, packet: usize) -> &[u8]
-    requires { offset ≤ length bytes.now }
-    ensures { result.now ≡ take packet (drop offset bytes.now) }
+pub(crate) fn toggle_at(number: u8) -> Toggle
+    ensures { result ≡ toggle_at number }
 {
-    let left = bytes.len() - offset;
-    &bytes[offset..offset + left.min(packet)]
+    if number == 0 {
+        Toggle::Data0
+    } else {
+        Toggle::Data1
+    }
+}
+
+/// The number of this toggle.
+#[tactic(auto, unfolding(crate::specs::Stages::toggle_at))]
+#[inline(always)]
+pub(crate) fn number_of(toggle: Toggle) -> u8
+    ensures { toggle_at result ≡ toggle }
+{
+    match toggle {
+        Toggle::Data0 => 0,
+        Toggle::Data1 => 1,
+    }
 }

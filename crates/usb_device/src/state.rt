@@ -14,7 +14,8 @@ use crate::stage::Change;
 /// assert_eq!(rt; state.selected, 0);
 /// assert_eq!(rt; state.halts, 0);
 /// ```
-#[derive(Clone, Copy, Debug, PartialEq, Eq, Hash)]
+#[repr(C)]
+#[derive(Clone, Copy, Debug, Drop, PartialEq, Eq, Hash)]
 pub struct State {
     /// The address that the device answers at, 0 to 127.
     pub address: u8,
@@ -44,6 +45,18 @@ impl State {
             halts: 0,
             wakeup: false,
         }
+    }
+
+    /// Makes it that one, in place.
+    #[tactic(auto, unfolding(crate::specs::States::first_alternates))]
+    pub(crate) fn reset(&mut self)
+        ensures { self.new ≡ zero }
+    {
+        self.address = 0;
+        self.selected = 0;
+        self.alternates = [0; 256];
+        self.halts = 0;
+        self.wakeup = false;
     }
 
     /// Whether the device is past the Default state.

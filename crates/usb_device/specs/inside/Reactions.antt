@@ -60,25 +60,6 @@ says r response = outcome_of r.image.bytes.now r.state.now r.setup response
 abbrev pub AsksFor : Request → Decision → Type 0
 AsksFor r response = IsAsked r.image.bytes.now r.setup response
 
--- the first of these packets, if there is one
-abbrev pub first_packet : List (List ℕ) → List ℕ
-first_packet [] = []
-first_packet (p ∷ rest) = p
-
--- the bytes of the packet that is due, which in the status stage are none
-abbrev pub packet_due : ℕ → DeviceStage → List ℕ
-packet_due size (Sending q b k) = first_packet (drop k (packets b size q.length))
-packet_due size stage = []
-
--- the reply, where these are the bytes of the packet that is due
-abbrev pub reply_with : List ℕ → Reaction → Reply
-reply_with bytes Ack = AckReply
-reply_with bytes Nak = NakReply
-reply_with bytes Stall = StallReply
-reply_with bytes (Packet toggle) = DataReply toggle bytes
-reply_with bytes Empty = DataReply Data1 []
-reply_with bytes Silence = NoReply
-
 -- Endpoint zero and a device, as callers see them.
 
 -- whether an IN at this stage is one of a data stage
@@ -93,22 +74,18 @@ has_status_out stages.StatusOut = true
 has_status_out stages.Over = true
 has_status_out stage = false
 
--- IN to a device with this image, and OUT
-abbrev pub sent_by : List ℕ → EndpointZero → Served
-sent_by image e = served_in (answer_to (offer_in image)) (packet_in image) e.state (stage_in image e)
+-- IN to a device with this image and this room, and OUT
+abbrev pub sent_by : List ℕ → List ℕ → EndpointZero → Served
+sent_by image room e = served_in (answer_to (offer_in image)) (packet_in image) e.state (stage_in image room e)
 
-abbrev pub received_by : List ℕ → EndpointZero → Toggle → List ℕ → Served
-received_by image e toggle bytes =
-    served_out (answer_to (offer_in image)) (packet_in image) e.state (stage_in image e) toggle bytes
-
--- the reply, where its bytes are those of the packet that is due
-abbrev pub replied : List ℕ → EndpointZero → Reaction → Reply
-replied image e reaction = reply_with (packet_due (packet_in image) (stage_in image e)) reaction
+abbrev pub received_by : List ℕ → List ℕ → EndpointZero → Toggle → List ℕ → Served
+received_by image room e toggle bytes =
+    served_out (answer_to (offer_in image)) (packet_in image) e.state (stage_in image room e) toggle bytes
 
 -- a device as callers see it
 abbrev pub view_of : Inside → View
 view_of d =
-    record { description = d.description.now; device = device_of (image_of d.description.now.file) d.endpoint_zero }
+    record { description = d.description.now; device = device_of (image_of d.description.now.file) d.room d.endpoint_zero }
 
 abbrev pub IsDevice : Inside → Type 0
-IsDevice d = IsOf (image_of d.description.now.file) d.endpoint_zero
+IsDevice d = IsOf (image_of d.description.now.file) d.room d.endpoint_zero

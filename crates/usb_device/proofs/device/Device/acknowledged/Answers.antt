@@ -6,7 +6,7 @@ use Rattle.usb_device.proofs.device.Device.acknowledged.Goals as goal
 
 pub returns : goal.returns
 returns c =
-    let f = c.self.inside.description.now.file in
-    let e = c.self.inside.endpoint_zero in
+    let d = c.self.inside in
+    let f = d.description.now.file in
     subst (λ (v : View). c.acknowledged.result ≡ acknowledged v.description.file.device.packet v.device.stage) c.self.view_is
-    (c.acknowledged.ensures (image_of f) c.self.invariant ∙ ap (λ n. acknowledged n (device_of (image_of f) e).stage) (head_back f))
+    (c.acknowledged.ensures (image_of f) d.room c.self.invariant ∙ ap (λ n. acknowledged n (device_of (image_of f) d.room d.endpoint_zero).stage) (head_back f))
