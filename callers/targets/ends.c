@@ -181,7 +181,8 @@ static void any_numbers(struct nzg_device *device) {
 /* Of the image that is there some bytes are others, or it is cut. */
 static void any_image(void) {
     if (!image_length) fill(image, image_length = 64);
-    if (one_in(2)) image[0] = 1;
+    /* A version and a packet size as an image has them. */
+    if (one_in(2)) image[0] = image[3] = 0, image[1] = 1, image[2] = (uint8_t)(1 + any(64));
     for (uint32_t i = any(8); image_length && i--;) image[any(image_length)] = (uint8_t)any(256);
     if (one_in(6)) image_length = any(image_length + 1);
     kept_length = any(LONGEST_KEPT + 1);
