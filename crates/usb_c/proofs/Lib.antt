@@ -1,4 +1,5 @@
 mod DecoderValues
+mod DeviceLemmas
 mod Due
 mod EndpointWalks
 mod Faults

@@ -30,6 +30,7 @@ pub struct NzgOpenTransfer {
 /// One transaction, to which a device under test has answered so in the transfer of this request. The device here has it too, and
 /// its answer goes into the packet. 0 where what came is allowed, and the open transfer goes on; else the number of the
 /// [`Difference`](usb_device::Difference), and 9 where the bytes are no image, or where a number has no meaning: nothing changes then.
+#[tactic(auto, using(crate::proofs::DeviceLemmas::answer_fits, crate::proofs::DeviceLemmas::answer_is))]
 #[unsafe(no_mangle)]
 pub extern "C" fn nzg_judge_device(
     device: &mut EndpointZero,

@@ -53,6 +53,7 @@ pub extern "C" fn nzg_device_reset(device: &mut EndpointZero)
 }
 
 /// One transaction. False where the bytes are no image, or where the stage or the toggle has no meaning: nothing changes then.
+#[tactic(auto, using(crate::proofs::DeviceLemmas::answer_fits, crate::proofs::DeviceLemmas::answer_is))]
 #[unsafe(no_mangle)]
 pub extern "C" fn nzg_device_serve(
     device: &mut EndpointZero,

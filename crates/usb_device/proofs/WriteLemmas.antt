@@ -1,5 +1,5 @@
 -- Data to the device: its own table refuses each request that brings some, and packets are counted by their bytes.
-use Rattle.std.proofs.Common.{◌≡◌, ℕ, suc, ◌+◌, ◌-◌, ◌*◌, ◌/◌, ◌<◌, ◌≤◌, ◌≢◌, ◌==◌, ◌&&◌, not, Bool, true, false, if◌then◌else◌, List, ◌++◌, length, length-append, min, take, Option, Some, None, refl, arith, subst}
+use Rattle.std.proofs.Common.{◌≡◌, ℕ, suc, ◌+◌, ◌-◌, ◌*◌, ◌/◌, ◌<◌, ◌≤◌, ◌≢◌, ◌==◌, ◌&&◌, not, Bool, true, false, if◌then◌else◌, List, ◌++◌, length, length-append, min, take, Option, Some, None, refl, arith}
 use Rattle.std.proofs.lemmas.Bool.Decides.{nat_tests}
 use Rattle.std.proofs.lemmas.Nat.{div-mul-add}
 use Rattle.std.proofs.lemmas.List.{length-take-le}
@@ -21,8 +21,8 @@ use Rattle.usb_device.specs.Beside.{brings_bytes, is_in}
 use Rattle.usb_device.specs.Step.{Written, awaited, gathered}
 use Rattle.usb_device.specs.declared.stage.Stage.TheVariants as stages
 use Rattle.usb_device.specs.declared.endpoint_zero.EndpointZero.{EndpointZero}
-use Rattle.usb_device.specs.Stages.{request_of, stage_at, toggle_at, written_bytes, IsReceiving, IsStage, IsWrite}
-use Rattle.usb_device.specs.View.{device_of, IsOf}
+use Rattle.usb_device.specs.Stages.{data_of, request_of, stage_at, toggle_at, written_bytes, DataStage, IsReceiving, IsWrite}
+use Rattle.usb_device.specs.View.{device_of}
 use Rattle.usb_device.specs.inside.Reactions.{received_by}
 use Rattle.usb_device.proofs.StageLemmas.{next_place}
 
@@ -142,47 +142,58 @@ awaited_flips packet count n whole some few =
     rw split (div-mul-add (suc k) packet (n - 1) (omega arith))) in
     rw (here, next) refl
 
+-- a write begins
+pub write_begins : (image room : List ℕ) (d : DataStage) → 0 < packet_in image → brings_bytes d.request ≡ true → d.request.length ≤ length room → d.offset ≡ 0 → d.toggle ≡ Data1 → IsReceiving image room d
+write_begins image room d pos write fits first toggle =
+    let none : 0 / packet_in image ≡ 0 = grind (arith) in
+    let nothing : 0 * packet_in image ≡ 0 = omega arith in
+    let split : 0 + (packet_in image - 1) ≡ 0 * packet_in image + (packet_in image - 1) = omega arith in
+    let due : (0 + (packet_in image - 1)) / packet_in image ≡ 0 = rw split (div-mul-add 0 (packet_in image) (packet_in image - 1) (omega (arith, pos))) in
+    let some = long_by (d.request.length == 0) (is_in (direction_of d.request.request_type)) write in
+    record {
+      is_write = record { write = write; fits = fits; toggle = rw (first, due, toggle) refl };
+      whole = rw (first, none, nothing) refl;
+      more = rw first (grind (arith, nat_tests, some));
+    }
+
 -- a toggle is the same as itself
 same_self : (t : Toggle) → is_same_toggle t t ≡ true
 same_self Data0 = refl
 same_self Data1 = refl
 
--- a packet of a write is kept: with these numbers the device goes on, in a room that has become this one
-module _ (image room after : List ℕ) (e : EndpointZero) (stage toggle n : ℕ) (pos : 0 < packet_in image) (h : IsReceiving image room e) (wide : length after ≡ length room) (flips : toggle_at toggle ≡ flipped (toggle_at e.toggle)) (due : n ≡ min (packet_in image) ((request_of e).length - e.offset)) where
-  abbrev next : EndpointZero
-  next = record e { stage = stage; toggle = toggle; offset = e.offset + n }
-
-  still_write : IsWrite image after next
+-- a packet of a write is kept: the data stage goes on, in a room that has become this one
+module _ (image room after : List ℕ) (d : DataStage) (toggle : Toggle) (n : ℕ) (pos : 0 < packet_in image) (h : IsReceiving image room d) (wide : length after ≡ length room) (flips : toggle ≡ flipped d.toggle) (due : n ≡ min (packet_in image) (d.request.length - d.offset)) where
+  still_write : IsWrite image after (record d { offset = d.offset + n; toggle = toggle })
   still_write =
       record {
         write = h.is_write.write;
         fits = omega (arith, wide, h.is_write.fits);
-        toggle = rw (flips, awaited_flips (packet_in image) e.offset n h.whole (omega (arith, due, pos, h.more)) (omega (arith, due)), h.is_write.toggle) refl;
+        toggle = rw (flips, awaited_flips (packet_in image) d.offset n h.whole (omega (arith, due, pos, h.more)) (omega (arith, due)), h.is_write.toggle) refl;
       }
 
   -- after a whole packet with bytes left after it more are to come
-  pub write_goes_on : n ≢ (request_of e).length - e.offset → IsReceiving image after next
+  pub write_goes_on : n ≢ d.request.length - d.offset → IsReceiving image after (record d { offset = d.offset + n; toggle = toggle })
   write_goes_on left =
       let whole : n ≡ packet_in image = omega (arith, due, left) in
       record {
         is_write = still_write;
-        whole = rw (whole, next_place e.offset (packet_in image) pos h.whole) (grind (arith, h.whole));
+        whole = rw (whole, next_place d.offset (packet_in image) pos h.whole) (grind (arith, h.whole));
         more = omega (arith, due, left, h.more);
       }
 
   -- with all that is left all have come
-  pub write_ends : n ≡ (request_of e).length - e.offset → IsWrite image after next × (e.offset + n ≡ (request_of e).length)
+  pub write_ends : n ≡ d.request.length - d.offset → IsWrite image after (record d { offset = d.offset + n; toggle = toggle }) × (d.offset + n ≡ d.request.length)
   write_ends all = (still_write, omega (arith, all, h.more))
 
 -- the last packet: the owner is asked
-pub gathers_last : (image room after : List ℕ) (e : EndpointZero) (stage toggle : ℕ) (came : Toggle) (bytes : List ℕ) → stage_at e.stage ≡ stages.Receiving → IsOf image room e → e.pending ≡ false → came ≡ toggle_at e.toggle → length bytes ≡ min (packet_in image) ((request_of e).length - e.offset) → length bytes ≡ (request_of e).length - e.offset → stage_at stage ≡ stages.Written → take (e.offset + length bytes) after ≡ take e.offset room ++ bytes → device_of image after (record e { stage = stage; toggle = toggle; offset = e.offset + length bytes }) ≡ (received_by image room e came bytes).device
-gathers_last image room after e stage toggle came bytes at is heard right due all ends kept =
+pub gathers_last : (image room after : List ℕ) (e : EndpointZero) (stage toggle : ℕ) (came : Toggle) (bytes : List ℕ) → stage_at e.stage ≡ stages.Receiving → IsReceiving image room (data_of e) → e.pending ≡ false → came ≡ toggle_at e.toggle → length bytes ≡ min (packet_in image) ((request_of e).length - e.offset) → length bytes ≡ (request_of e).length - e.offset → stage_at stage ≡ stages.Written → take (e.offset + length bytes) after ≡ take e.offset room ++ bytes → device_of image after (record e { stage = stage; toggle = toggle; offset = e.offset + length bytes }) ≡ (received_by image room e came bytes).device
+gathers_last image room after e stage toggle came bytes at h heard right due all ends kept =
     let q = request_of e in
-    let h : IsReceiving image room e = subst (λ stage. IsStage image room e stage) at is.1 in
-    let long : length (written_bytes room e) ≡ e.offset = length-take-le e.offset room (omega (arith, h.more, h.is_write.fits)) in
-    let same : is_same_toggle (toggle_at e.toggle) (awaited (packet_in image) (length (written_bytes room e))) ≡ true =
+    let got = written_bytes room (data_of e) in
+    let long : length got ≡ e.offset = length-take-le e.offset room (omega (arith, h.more, h.is_write.fits)) in
+    let same : is_same_toggle (toggle_at e.toggle) (awaited (packet_in image) (length got)) ≡ true =
     rw (long, h.is_write.toggle) (same_self (awaited (packet_in image) e.offset)) in
-    let fits : (length bytes == min (packet_in image) (q.length - length (written_bytes room e))) ≡ true = rw long (grind (arith, nat_tests, due)) in
-    rw (at, ends, heard, right, same, fits, last_gathered (offer_in image) e.state q h.is_write.write (written_bytes room e) bytes (rw long (omega (arith, h.more))) (rw long all), kept) refl
+    let fits : (length bytes == min (packet_in image) (q.length - length got)) ≡ true = rw long (grind (arith, nat_tests, due)) in
+    rw (at, ends, heard, right, same, fits, last_gathered (offer_in image) e.state q h.is_write.write got bytes (rw long (omega (arith, h.more))) (rw long all), kept) refl
 
 pub ruleset writes = (gathers_last, write_goes_on, write_ends)

@@ -1,5 +1,5 @@
 -- What a device is once it has its answer back.
-use Rattle.std.specs.Prelude.{◌≡◌, ℕ, List, ⊤, []}
+use Rattle.std.specs.Prelude.{◌≡◌, ⊤, []}
 use Rattle.std.specs.Borrow.{Fml, MutBor, follows_so}
 use mathlib.Core.Option.{none}
 use mir.Syntax.{named}

@@ -33,35 +33,56 @@ source_at n = if n == 1 then Room else if n == 2 then Image else Own
 unfoldable pub toggle_at : ℕ → Toggle
 toggle_at n = if n == 0 then Data0 else Data1
 
--- the bytes of a source, in this image or this room or among a device's own
-abbrev pub source_bytes : List ℕ → List ℕ → EndpointZero → Source → List ℕ
-source_bytes image room e Own = e.own
-source_bytes image room e Room = room
-source_bytes image room e Image = drop e.place image
+-- a data stage, as a device's numbers have it, and its request
+pub record DataStage : Type 0 where
+  pub source : Source
+  pub own : List ℕ
+  pub place : ℕ
+  pub count : ℕ
+  pub offset : ℕ
+  pub toggle : Toggle
+  pub request : Setup
 
--- the bytes that a data stage answers with
-abbrev pub data_bytes : List ℕ → List ℕ → EndpointZero → List ℕ
-data_bytes image room e = take e.count (source_bytes image room e (source_at e.source))
-
--- the data of a write that have come
-abbrev pub written_bytes : List ℕ → EndpointZero → List ℕ
-written_bytes room e = take e.offset room
-
--- the request
 abbrev pub request_of : EndpointZero → Setup
 request_of e = setup_of e.request
 
--- This stage, of these numbers with this image and this room. The request is settled or not: carried out, or its refusal
--- reported.
-abbrev pub stage_of : List ℕ → List ℕ → EndpointZero → Stage → DeviceStage
-stage_of image room e stages.Idle = Idle
-stage_of image room e stages.Halted = Halted (if e.settled then None else Some (request_of e))
-stage_of image room e stages.Sending = Sending (request_of e) (data_bytes image room e) (e.offset / packet_in image)
-stage_of image room e stages.StatusOut = StatusOut (request_of e)
-stage_of image room e stages.Over = Over
-stage_of image room e stages.StatusIn = StatusIn (request_of e) e.settled
-stage_of image room e stages.Receiving = Receiving (request_of e) (written_bytes room e)
-stage_of image room e stages.Written = Written (request_of e) (written_bytes room e)
+abbrev pub data_of : EndpointZero → DataStage
+data_of e =
+    record {
+      source = source_at e.source;
+      own = e.own;
+      place = e.place;
+      count = e.count;
+      offset = e.offset;
+      toggle = toggle_at e.toggle;
+      request = request_of e;
+    }
+
+-- the bytes of a source, in this image or this room or among a device's own
+abbrev pub source_bytes : List ℕ → List ℕ → DataStage → Source → List ℕ
+source_bytes image room d Own = d.own
+source_bytes image room d Room = room
+source_bytes image room d Image = drop d.place image
+
+-- the bytes that a data stage answers with
+abbrev pub data_bytes : List ℕ → List ℕ → DataStage → List ℕ
+data_bytes image room d = take d.count (source_bytes image room d d.source)
+
+-- the data of a write that have come
+abbrev pub written_bytes : List ℕ → DataStage → List ℕ
+written_bytes room d = take d.offset room
+
+-- the stage, where this is the data stage, with this image and this room, and the request is settled or not: carried out,
+-- or its refusal reported
+abbrev pub stage_of : List ℕ → List ℕ → DataStage → Bool → Stage → DeviceStage
+stage_of image room d settled stages.Idle = Idle
+stage_of image room d settled stages.Halted = Halted (if settled then None else Some d.request)
+stage_of image room d settled stages.Sending = Sending d.request (data_bytes image room d) (d.offset / packet_in image)
+stage_of image room d settled stages.StatusOut = StatusOut d.request
+stage_of image room d settled stages.Over = Over
+stage_of image room d settled stages.StatusIn = StatusIn d.request settled
+stage_of image room d settled stages.Receiving = Receiving d.request (written_bytes room d)
+stage_of image room d settled stages.Written = Written d.request (written_bytes room d)
 
 -- which stage it is, whatever it holds
 abbrev pub stage_kind : DeviceStage → Stage
@@ -75,29 +96,29 @@ stage_kind (Receiving request got) = stages.Receiving
 stage_kind (Written request got) = stages.Written
 
 -- a place in the data stage of the request is a whole number of packets, before its end
-pub record IsData (image : List ℕ) (room : List ℕ) (e : EndpointZero) : Type 0 where
-  pub count : e.count ≤ length (source_bytes image room e (source_at e.source))
-  pub fits : e.count ≤ (request_of e).length
-  pub whole : e.offset ≡ e.offset / packet_in image * packet_in image
-  pub inside : e.offset ≤ e.count
-  pub asked : e.offset < (request_of e).length
-  pub toggle : toggle_at e.toggle ≡ toggle_of (e.offset / packet_in image)
+pub record IsData (image : List ℕ) (room : List ℕ) (d : DataStage) : Type 0 where
+  pub count : d.count ≤ length (source_bytes image room d d.source)
+  pub fits : d.count ≤ d.request.length
+  pub whole : d.offset ≡ d.offset / packet_in image * packet_in image
+  pub inside : d.offset ≤ d.count
+  pub asked : d.offset < d.request.length
+  pub toggle : d.toggle ≡ toggle_of (d.offset / packet_in image)
 
 -- the data of a write have room, and some or all of them have come
-pub record IsWrite (image : List ℕ) (room : List ℕ) (e : EndpointZero) : Type 0 where
-  pub write : brings_bytes (request_of e) ≡ true
-  pub fits : (request_of e).length ≤ length room
-  pub toggle : toggle_at e.toggle ≡ awaited (packet_in image) e.offset
+pub record IsWrite (image : List ℕ) (room : List ℕ) (d : DataStage) : Type 0 where
+  pub write : brings_bytes d.request ≡ true
+  pub fits : d.request.length ≤ length room
+  pub toggle : d.toggle ≡ awaited (packet_in image) d.offset
 
 -- while more are to come, whole packets have come
-pub record IsReceiving (image : List ℕ) (room : List ℕ) (e : EndpointZero) : Type 0 where
-  pub is_write : IsWrite image room e
-  pub whole : e.offset ≡ e.offset / packet_in image * packet_in image
-  pub more : e.offset < (request_of e).length
+pub record IsReceiving (image : List ℕ) (room : List ℕ) (d : DataStage) : Type 0 where
+  pub is_write : IsWrite image room d
+  pub whole : d.offset ≡ d.offset / packet_in image * packet_in image
+  pub more : d.offset < d.request.length
 
--- this stage, of these numbers, is one of a device with this image and this room
-abbrev pub IsStage : List ℕ → List ℕ → EndpointZero → Stage → Type 0
-IsStage image room e stages.Sending = IsData image room e
-IsStage image room e stages.Receiving = IsReceiving image room e
-IsStage image room e stages.Written = IsWrite image room e × (e.offset ≡ (request_of e).length)
-IsStage image room e stage = Unit {0}
+-- the stage, with this data stage, is one of a device with this image and this room
+abbrev pub IsStage : List ℕ → List ℕ → DataStage → Stage → Type 0
+IsStage image room d stages.Sending = IsData image room d
+IsStage image room d stages.Receiving = IsReceiving image room d
+IsStage image room d stages.Written = IsWrite image room d × (d.offset ≡ d.request.length)
+IsStage image room d stage = Unit {0}

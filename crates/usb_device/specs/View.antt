@@ -10,7 +10,7 @@ use Rattle.usb_device.specs.Step.{DeviceStage, Sending, DeviceView, Served, serv
 use Rattle.usb_device.specs.declared.endpoint_zero.EndpointZero.{EndpointZero}
 use Rattle.usb_device.specs.declared.stage.Reaction.{Reaction}
 use Rattle.usb_device.specs.declared.stage.Reaction.TheVariants.{Ack, Nak, Stall, Packet, Empty, Silence}
-use Rattle.usb_device.specs.Stages.{stage_at, stage_of, IsStage}
+use Rattle.usb_device.specs.Stages.{data_of, stage_at, stage_of, IsStage}
 
 -- What callers see of a device.
 
@@ -38,7 +38,7 @@ acknowledged packet stage = 0
 
 -- the stage that a device with this image and this room is in
 abbrev pub stage_in : List ℕ → List ℕ → EndpointZero → DeviceStage
-stage_in image room e = stage_of image room e (stage_at e.stage)
+stage_in image room e = stage_of image room (data_of e) e.settled (stage_at e.stage)
 
 -- what it is with them
 abbrev pub device_of : List ℕ → List ℕ → EndpointZero → DeviceView
@@ -46,7 +46,7 @@ device_of image room e = record { state = e.state; stage = stage_in image room e
 
 -- it is that of a device with this image, whose packets have bytes, and with this room
 abbrev pub IsOf : List ℕ → List ℕ → EndpointZero → Type 0
-IsOf image room e = (0 < packet_in image) × IsStage image room e (stage_at e.stage)
+IsOf image room e = (0 < packet_in image) × IsStage image room (data_of e) (stage_at e.stage)
 
 -- a transaction with a device that has this image, and the host's ACK of its data packet
 abbrev pub served_over : List ℕ → DeviceView → Sent → Bool → Served

@@ -67,6 +67,8 @@ impl<'d> Device<'d> {
     pub fn of(d: &'d Encoded) -> Device<'d>
         ensures { result ≡ record { description = d.now; device = new_device } }
     {
+        // For the proof alone: packets of its image have bytes.
+        let _image = d.image();
         Device {
             endpoint_zero: EndpointZero::new(),
             room: [0; ROOM],
@@ -166,8 +168,7 @@ impl<'d> Device<'d> {
         ensures err { IfErr result (λ why. unanswered (unfit_bytes room_size bytes.now) (refused_in self.old.device.stage) ≡ Some why) }
         ensures same { OnErr result (self.new ≡ self.old) }
     {
-        self.endpoint_zero
-            .answer_with(&mut self.room, bytes)
+        self.endpoint_zero.answer_with(&mut self.room, bytes)
     }
 
     /// Accepts the request that is rejected. One without data is answered by its status stage, as if the table had. Of a

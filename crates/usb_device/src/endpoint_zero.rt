@@ -256,7 +256,6 @@ impl EndpointZero {
     }
 
     /// An IN transaction.
-    #[tactic(auto, using(crate::proofs::StageLemmas::packets_left))]
     #[inline(always)]
     fn send(&mut self, image: Image<'_>) -> Reaction
         ensures reply { (room : List ℕ) → IsOf image.entry.bytes.now room self.old → replied image.entry.bytes.now room self.new result ≡ (sent_by image.entry.bytes.now room self.old).reply }

@@ -174,15 +174,3 @@ pub(crate) fn toggle_at(number: u8) -> Toggle
         Toggle::Data1
     }
 }
-
-/// The number of this toggle.
-#[tactic(auto, unfolding(crate::specs::Stages::toggle_at))]
-#[inline(always)]
-pub(crate) fn number_of(toggle: Toggle) -> u8
-    ensures { toggle_at result ≡ toggle }
-{
-    match toggle {
-        Toggle::Data0 => 0,
-        Toggle::Data1 => 1,
-    }
-}

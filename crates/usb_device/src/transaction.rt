@@ -2,6 +2,7 @@
 ghost use Rattle.std.specs.Prelude.{◌≡◌, ◌≤◌, ◌++◌, drop, length};
 ghost use Rattle.std.specs.Option.{option_map};
 ghost use Rattle.usb_fields.specs.Packets.{reply_of, sent_of};
+ghost use Rattle.usb_device.specs.Stages.{toggle_at};
 ghost use Rattle.usb_device.specs.Transactions.{HasRoom, packet_of, packet_told, reply_told, sent_told, speed_told, toggle_number, toggle_told, transaction_of};
 
 use usb_fields::{Answer, Speed, Stage, Toggle, Transaction};
@@ -44,8 +45,11 @@ pub fn toggle_of(number: u8) -> Option<Toggle>
     }
 }
 
-fn toggle_number(toggle: Toggle) -> u8
-    ensures { result ≡ toggle_number toggle }
+#[tactic(auto, unfolding(crate::specs::Stages::toggle_at))]
+#[inline(always)]
+pub(crate) fn toggle_number(toggle: Toggle) -> u8
+    ensures number { result ≡ toggle_number toggle }
+    ensures back { toggle_at result ≡ toggle }
 {
     match toggle {
         Toggle::Data0 => 0,

@@ -1,5 +1,5 @@
 -- Answers to transactions, as the code holds them: without the bytes.
-use Rattle.std.specs.Prelude.{◌≡◌, ◌<◌, Bool, true, false, [], ◌∷◌, take, slice_set, ℕ, List, drop}
+use Rattle.std.specs.Prelude.{◌≡◌, ◌<◌, Bool, true, false, [], ◌∷◌, take, slice_set, ℕ, List}
 use Rattle.usb_fields.specs.declared.setup.Setup.{Setup}
 use Rattle.usb_device.specs.FileImages.{image_of}
 use Rattle.usb_device.specs.Offers.{offer_in, packet_in}
@@ -14,12 +14,8 @@ use Rattle.usb_device.specs.declared.stage.Decision.{Decision}
 use Rattle.usb_device.specs.declared.stage.Decision.TheVariants as decisions
 use Rattle.usb_device.specs.States.{first_alternates}
 use Rattle.usb_device.specs.Requests.{Outcome, Bytes, Done, Refused, answer_to}
-use Rattle.usb_fields.specs.Packets.{Reply, AckReply, NakReply, StallReply, DataReply, NoReply, packets}
-use Rattle.usb_device.specs.declared.stage.Reaction.{Reaction}
-use Rattle.usb_device.specs.declared.stage.Reaction.TheVariants.{Ack, Nak, Stall, Packet, Empty, Silence}
-use Rattle.usb_device.specs.Step.{DeviceStage, Sending, Served, served_in, served_out}
+use Rattle.usb_device.specs.Step.{Served, served_in, served_out}
 use Rattle.usb_fields.specs.declared.packet.Toggle.{Toggle}
-use Rattle.usb_fields.specs.declared.packet.Toggle.TheVariants.{Data1}
 use Rattle.usb_device.specs.declared.device.Device.TheInside.{Inside}
 use Rattle.usb_device.specs.declared.endpoint_zero.EndpointZero.{EndpointZero}
 use Rattle.usb_device.specs.View.{stage_in, device_of, IsOf, View}

@@ -4,11 +4,12 @@ ghost use Rattle.usb_fields.specs.Packets.{packets};
 ghost use Rattle.usb_fields.specs.declared.packet.Toggle.TheVariants.{Data1};
 ghost use Rattle.usb_device.specs.Offers.{packet_in};
 ghost use Rattle.usb_device.specs.Step.{next_stage};
-ghost use Rattle.usb_device.specs.Stages.{data_bytes, request_of, source_at, source_bytes, stage_at, toggle_at};
+ghost use Rattle.usb_device.specs.Stages.{data_bytes, data_of, request_of, source_at, stage_at, toggle_at};
 
 use super::EndpointZero;
 use crate::image::Image;
-use crate::stage::{Source, Stage, number_of, toggle_at};
+use crate::stage::{Source, Stage, toggle_at};
+use crate::transaction::toggle_number;
 use usb_fields::{Toggle, after, prefix};
 
 impl EndpointZero {
@@ -25,15 +26,14 @@ impl EndpointZero {
         self.source = source.number();
         self.count = count;
         self.offset = 0;
-        self.toggle = number_of(Toggle::Data1);
+        self.toggle = toggle_number(Toggle::Data1);
     }
 
     /// The packet that was due was acknowledged: another is due then, or the status stage.
-    #[tactic(auto, using(crate::proofs::StageLemmas::stages))]
     #[inline(always)]
     pub(super) fn go_on(&mut self, image: Image<'_>)
         requires sending { stage_at self.old.stage ≡ Stage.Sending }
-        ensures device { (room : List ℕ) → IsOf image.entry.bytes.now room self.old → device_of image.entry.bytes.now room self.new ≡ record (device_of image.entry.bytes.now room self.old) { stage = next_stage (request_of self.old) (data_bytes image.entry.bytes.now room self.old) (self.old.offset / packet_in image.entry.bytes.now) (drop (suc (self.old.offset / packet_in image.entry.bytes.now)) (packets (data_bytes image.entry.bytes.now room self.old) (packet_in image.entry.bytes.now) (request_of self.old).length)) } }
+        ensures device { (room : List ℕ) → IsOf image.entry.bytes.now room self.old → device_of image.entry.bytes.now room self.new ≡ record (device_of image.entry.bytes.now room self.old) { stage = next_stage (request_of self.old) (data_bytes image.entry.bytes.now room (data_of self.old)) (self.old.offset / packet_in image.entry.bytes.now) (drop (suc (self.old.offset / packet_in image.entry.bytes.now)) (packets (data_bytes image.entry.bytes.now room (data_of self.old)) (packet_in image.entry.bytes.now) (request_of self.old).length)) } }
         ensures of { (room : List ℕ) → IsOf image.entry.bytes.now room self.old → IsOf image.entry.bytes.now room self.new }
     {
         let packet = image.packet();
@@ -43,7 +43,7 @@ impl EndpointZero {
             self.stage = Stage::StatusOut.number();
         } else {
             self.offset += packet;
-            self.toggle = number_of(toggle_at(self.toggle).flip());
+            self.toggle = toggle_number(toggle_at(self.toggle).flip());
         }
     }
 
@@ -58,7 +58,6 @@ impl EndpointZero {
     }
 
     /// The bytes of the packet that is due, or none.
-    #[tactic(auto, using(crate::proofs::StageLemmas::packets_left))]
     #[inline(always)]
     pub fn packet<'a>(&'a self, image: Image<'a>, room: &'a [u8]) -> &'a [u8]
         ensures short { length result.now ≤ packet_in image.entry.bytes.now }
@@ -75,7 +74,7 @@ impl EndpointZero {
 
     #[inline(always)]
     fn data_bytes<'a>(&'a self, image: Image<'a>, room: &'a [u8]) -> &'a [u8]
-        ensures { result.now ≡ data_bytes image.entry.bytes.now room.entry.now self.now }
+        ensures { result.now ≡ data_bytes image.entry.bytes.now room.entry.now (data_of self.now) }
     {
         let bytes = match Source::of(self.source) {
             Source::Own => &self.own,

@@ -1,26 +1,29 @@
 //! What the owner of a device has a say in: requests that the device itself rejects, and the data of writes.
-ghost use Rattle.std.specs.Prelude.{◌≡◌, ◌+◌, ◌≤◌, ◌++◌, ℕ, List, false, length, if◌then◌else◌, None, Some, OnOk, OnErr, IfErr, MatchOption};
+ghost use Rattle.std.specs.Prelude.{◌≡◌, ◌+◌, ◌<◌, ◌≤◌, ◌++◌, ℕ, List, [], true, false, length, if◌then◌else◌, None, Some, OnOk, OnErr, IfErr, IfSome, MatchOption};
 ghost use Rattle.usb_fields.specs.Packets.{flipped, AckReply, StallReply};
-ghost use Rattle.usb_device.specs.Offers.{offer_in};
+ghost use Rattle.usb_device.specs.Offers.{offer_in, packet_in};
 ghost use Rattle.usb_device.specs.Requests.{answer_to};
-ghost use Rattle.usb_device.specs.Stages.{request_of, stage_at, toggle_at, written_bytes};
+ghost use Rattle.usb_device.specs.Step.{Receiving, Sending};
+ghost use Rattle.usb_device.specs.Stages.{data_of, request_of, stage_at, toggle_at, written_bytes};
 
 use super::EndpointZero;
 use crate::beside::{Unanswered, is_open};
 use crate::image::Image;
-use crate::stage::{Decision, Source, Stage, number_of, toggle_at};
+use crate::stage::{Decision, Source, Stage, toggle_at};
+use crate::transaction::toggle_number;
 use usb_fields::{Direction, Setup, Toggle, prefix};
 
 impl EndpointZero {
     ghost use Rattle.usb_device.specs.View.{device_of, IsOf};
-    ghost use Rattle.usb_device.specs.Beside.{accepted, answered, carried_out_in, is_left, refused_in, rejected, unaccepted, unanswered, unfit_bytes, written_in, Gives};
+    ghost use Rattle.usb_device.specs.Beside.{accepted, answered, brings_bytes, carried_out_in, is_left, refused_in, rejected, unaccepted, unanswered, unfit_bytes, written_in, Gives};
     ghost use Rattle.usb_device.specs.inside.Reactions.{has_status_out, received_by};
 
     /// The request that is rejected, and of whose rejection the host doesn't know yet: as
     /// [`Device::refused`](crate::Device::refused).
     #[inline]
     pub fn refused(&self) -> Option<Setup>
-        ensures { (image : List ℕ) → (room : List ℕ) → result ≡ refused_in (device_of image room self.now).stage }
+        ensures stage { (image : List ℕ) → (room : List ℕ) → result ≡ refused_in (device_of image room self.now).stage }
+        ensures request { IfSome result (λ q. q ≡ request_of self.now) }
     {
         match Stage::of(self.stage) {
             Stage::Halted if !self.settled => Some(self.setup()),
@@ -55,8 +58,7 @@ impl EndpointZero {
         if count > room.len() {
             return Err(Unanswered::Room);
         }
-        room[..count].copy_from_slice(&bytes[..count]);
-        self.begin_data(Source::Room, count);
+        self.send_kept(room, &bytes[..count]);
         Ok(())
     }
 
@@ -94,9 +96,7 @@ impl EndpointZero {
         if limit > room_size {
             return Err(Unanswered::Room);
         }
-        self.wait(Stage::Receiving);
-        self.offset = 0;
-        self.toggle = number_of(Toggle::Data1);
+        self.begin_write();
         Ok(())
     }
 
@@ -181,13 +181,7 @@ impl EndpointZero {
     /// A packet of a write, whether it is acknowledged: kept, or discarded where it came again. A STALL answers one that is
     /// no whole packet and not all that is left, and one for which the room that is lent has no place.
     #[tactic(auto, using(crate::proofs::WriteLemmas::writes))]
-    fn gathers(
-        &mut self,
-        image: Image<'_>,
-        room: &mut [u8],
-        toggle: Toggle,
-        bytes: &[u8],
-    ) -> bool
+    fn gathers(&mut self, image: Image<'_>, room: &mut [u8], toggle: Toggle, bytes: &[u8]) -> bool
         requires at { stage_at self.old.stage ≡ Stage.Receiving }
         requires heard { self.old.pending ≡ false }
         ensures reply { IsOf image.entry.bytes.now room.old self.old → (if result then AckReply else StallReply) ≡ (received_by image.entry.bytes.now room.old self.old toggle bytes.now).reply }
@@ -210,18 +204,45 @@ impl EndpointZero {
         true
     }
 
+    /// Begins the data stage of the request with these bytes, which the room keeps.
+    #[tactic(auto, using(crate::proofs::StageLemmas::data_begins))]
+    #[inline(always)]
+    fn send_kept(&mut self, room: &mut [u8], bytes: &[u8])
+        requires some { 0 < (request_of self.old).length }
+        requires asked { length bytes.now ≤ (request_of self.old).length }
+        requires kept { length bytes.now ≤ length room.old }
+        ensures device { (image : List ℕ) → device_of image room.new self.new ≡ record (device_of image room.old self.old) { stage = Sending (request_of self.old) bytes.now 0 } }
+        ensures of { (image : List ℕ) → 0 < packet_in image → IsOf image room.new self.new }
+    {
+        room[..bytes.len()].copy_from_slice(bytes);
+        self.begin_data(Source::Room, bytes.len());
+    }
+
+    /// Begins the data stage of a write.
+    #[tactic(auto, using(crate::proofs::WriteLemmas::write_begins))]
+    #[inline(always)]
+    fn begin_write(&mut self)
+        requires { brings_bytes (request_of self.old) ≡ true }
+        ensures device { (image : List ℕ) → (room : List ℕ) → device_of image room self.new ≡ record (device_of image room self.old) { stage = Receiving (request_of self.old) [] } }
+        ensures of { (image : List ℕ) → (room : List ℕ) → 0 < packet_in image → (request_of self.old).length ≤ length room → IsOf image room self.new }
+    {
+        self.wait(Stage::Receiving);
+        self.offset = 0;
+        self.toggle = toggle_number(Toggle::Data1);
+    }
+
     /// Keeps the bytes of a packet after those that have come.
     #[inline(always)]
     fn keep(&mut self, room: &mut [u8], bytes: &[u8])
         requires { self.old.offset + length bytes.now ≤ length room.old }
         ensures toggle { toggle_at self.new.toggle ≡ flipped (toggle_at self.old.toggle) }
         ensures rest { self.new ≡ record self.old { toggle = self.new.toggle; offset = self.old.offset + length bytes.now } }
-        ensures bytes { written_bytes room.new self.new ≡ written_bytes room.old self.old ++ bytes.now }
+        ensures bytes { written_bytes room.new (data_of self.new) ≡ written_bytes room.old (data_of self.old) ++ bytes.now }
         ensures room { length room.new ≡ length room.old }
     {
         let end = self.offset + bytes.len();
         room[self.offset..end].copy_from_slice(bytes);
         self.offset = end;
-        self.toggle = number_of(toggle_at(self.toggle).flip());
+        self.toggle = toggle_number(toggle_at(self.toggle).flip());
     }
 }
