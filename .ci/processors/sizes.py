@@ -1,20 +1,20 @@
 """How much flash each group of exports takes for a processor: code and constants that a linker keeps for them, without what the
-compiler's run-time library and the functions for memory add."""
+compiler's run-time library and the functions for memory add. Of a device also its struct, and the longest frame of its functions."""
 
 import re
 import struct
 
 import declared
-from playing.built import LLD, run
+from playing.built import LLD, fail, run
 
 NOT_THERE = 8  # SHT_NOBITS
 WRITABLE = 1  # SHF_WRITE
 ALLOCATED = 2  # SHF_ALLOC
 # The groups, by what the names of their exports have after nzg_.
 GROUPS = {
-    "a device": r"device_\w+|judge_device",
-    "a device that is open": r"device_(?:serve|acked|reset|close)",
-    "a device and its owner": r"device_(?!open)\w+",
+    "a device": r"device_(?!image)\w+",
+    "the image of a device": r"device_image",
+    "a device, its image, and another judged beside": r"device_\w+|judge_device",
     "a host": r"host_\w+",
     "both ends": r"(?:device|host)_\w+",
     "a transfer": r"transfer_\w+",
@@ -30,9 +30,9 @@ GROUPS = {
 # What none may be over, of proved code and of code near to that: of thumbv7em, thumbv6m and riscv32imac.
 BOUNDED = ("thumbv7em", "thumbv6m", "riscv32imac")
 BOUNDS = {
-    "a device": (46_000, 58_000, 74_000),
-    "a device that is open": (6_500, 8_750, 11_000),
-    "a device and its owner": (8_500, 12_000, 16_000),
+    "a device": (5_000, 7_500, 9_500),
+    "the image of a device": (42_000, 54_000, 70_000),
+    "a device, its image, and another judged beside": (46_000, 58_000, 74_000),
     "a host": (32_000, 40_000, 51_000),
     "both ends": (59_000, 75_000, 96_000),
     "a transfer": (3_000, 3_750, 5_250),
@@ -45,6 +45,8 @@ BOUNDS = {
     "packets": (3_300, 3_650, 4_400),
     "everything": (256_000, 275_000, 337_000),
 }
+# Of a device: all that a program keeps but the room that it lends, and each frame of the calls.
+STRUCT, STRUCT_BOUND, FRAME_BOUND = "nzg_device", 330, 200
 
 
 def bound_of(target, group):
@@ -71,11 +73,37 @@ def in_ram(path):
     return sum(length for _, flags, length in sections(path) if flags & WRITABLE)
 
 
+def linked(group, made, script, room):
+    """What a linker keeps for a group, and the map of it; nothing where it has no exports."""
+    names = [it for it in declared.calls(declared.text_of_header()) if re.fullmatch(GROUPS[group], it.removeprefix("nzg_"))]
+    if not names:
+        return None
+    out = f"{room}/group"
+    run(LLD, "-T", script, "--gc-sections", "--unresolved-symbols=ignore-all", "-e", names[0], *(f"--undefined={it}" for it in names), *made, "-o", out, f"-Map={out}.map")
+    return out
+
+
 def measured(made, script, room):
     """The size of each group that has exports."""
-    for group, pattern in GROUPS.items():
-        names = [it for it in declared.calls(declared.text_of_header()) if re.fullmatch(pattern, it.removeprefix("nzg_"))]
-        if names:
-            out = f"{room}/group"
-            run(LLD, "-T", script, "--gc-sections", "--unresolved-symbols=ignore-all", "-e", names[0], *(f"--undefined={it}" for it in names), *made, "-o", out)
+    for group in GROUPS:
+        if out := linked(group, made, script, room):
             yield group, in_flash(out)
+
+
+def struct_of_device():
+    """Bytes of what a device keeps."""
+    return declared.structs(declared.text_of_header())[STRUCT].size
+
+
+def longest_frame(made, frames, script, room):
+    """The function of a device's calls with the longest frame, and that, as LLVM says of the object."""
+    with open(f"{linked('a device', [made], script, room)}.map", encoding="utf-8") as it:
+        kept = {found[1] for line in it if (found := re.search(r":\(\.text\.(.*)\)$", line.rstrip()))}
+    with open(frames, encoding="utf-8") as it:
+        rows = (line.rstrip().split("\t") for line in it)
+        known = {place.split(".ll:", 1)[-1]: (int(size), kind) for place, size, kind in rows}
+    if others := [it for it in kept if it not in known]:
+        fail(f"no frame is said of {others[0]}")
+    if moving := [it for it in kept if known[it][1] != "static"]:
+        fail(f"the frame of {moving[0]} is {known[moving[0]][1]}")
+    return max((known[it][0], it) for it in kept)

@@ -41,26 +41,30 @@ void say_due(const struct nzg_transaction *due) {
 /* --- a device ---------------------------------------------------------------------------------------------------------- */
 
 static uint8_t stage, toggle;
-uint8_t image[1 << 18], kept[KEPT];
-uint32_t image_len;
 
-struct nzg_answer make_image(const uint8_t *bytes, uint32_t length, uint8_t speed) {
-    struct nzg_answer answer = nzg_device_image(bytes, length, speed, image, sizeof image);
-    image_len = answer.status == NZG_DONE ? (uint32_t)answer.length : 0;
-    return answer;
+uint8_t image[LONGEST_IMAGE], kept[LONGEST_KEPT];
+uint32_t image_length, kept_length;
+
+struct nzg_answer new_device(struct nzg_device *device, const uint8_t *bytes, uint32_t length, uint8_t speed) {
+    struct nzg_answer made = nzg_device_image(bytes, length, speed, image, sizeof image);
+    image_length = made.status == NZG_DONE ? (uint32_t)made.length : 0;
+    kept_length = sizeof kept;
+    *device = (struct nzg_device){0};
+    return made;
 }
 
 void say_state(const struct nzg_device *device) {
-    say_list("state ", device->state.halts);
-    say_list(" ", device->state.address);
-    say_list(" ", device->state.selected);
-    say_list(" ", device->state.wakeup);
-    say_hash(device->state.alternates, sizeof device->state.alternates);
+    const struct nzg_state *state = &device->state;
+    say_list("state ", state->halts);
+    say_list(" ", state->address);
+    say_list(" ", state->selected);
+    say_list(" ", state->wakeup);
+    say_hash(state->alternates, sizeof state->alternates);
     say("\n");
 }
 
 /* The next transaction of a host that mostly keeps the order of a transfer. */
-static uint32_t any_transaction(struct nzg_device *device, struct nzg_transaction *next, uint8_t *data) {
+static uint32_t any_transaction(const struct nzg_device *device, struct nzg_transaction *next, uint8_t *data) {
     if (one_in(3)) stage = NZG_SETUP;
     else if (stage == NZG_SETUP || one_in(6)) stage = (uint8_t)(1 + any(2));
     if (one_in(200)) stage = (uint8_t)any(256);
@@ -86,21 +90,21 @@ static void answer_refused(struct nzg_device *device) {
     if (!is_refused && !one_in(20)) return;
     uint32_t length = any(one_in(10) ? 800 : 90), which = any(4);
     fill(room, length);
-    if (which == 0) say_answer(" with", nzg_device_answer_with(device, kept, KEPT, room, length));
-    if (which == 1) say_answer(" accept", nzg_device_accept(device, KEPT));
-    if (which == 2) say_list(" refuse ", nzg_device_refuse(device, image, image_len));
+    if (which == 0) say_answer(" with", nzg_device_answer_with(device, kept, kept_length, room, length));
+    if (which == 1) say_answer(" accept", nzg_device_accept(device, kept_length));
+    if (which == 2) say_list(" refuse ", nzg_device_refuse(device, IMAGE));
 }
 
 /* And with a write that has come. */
 static void take_written(struct nzg_device *device) {
     struct nzg_setup setup = {0};
-    struct nzg_answer answer = nzg_device_written(device, kept, one_in(4) ? 3 : KEPT, &setup);
+    struct nzg_answer answer = nzg_device_written(device, kept, kept_length, &setup);
     say_answer(" written", answer);
     say_setup(setup.bytes);
     if (answer.status == NZG_DONE) {
         say_hash(kept, answer.length);
-        if (one_in(2)) say_answer(" accept", nzg_device_accept(device, KEPT));
-        else say_list(" refuse ", nzg_device_refuse(device, image, image_len));
+        if (one_in(2)) say_answer(" accept", nzg_device_accept(device, kept_length));
+        else say_list(" refuse ", nzg_device_refuse(device, IMAGE));
     }
     say_list(" carried ", nzg_device_carried_out(device, &setup));
     say_setup(setup.bytes);
@@ -114,7 +118,7 @@ static void say_judged(struct nzg_device *device, const struct nzg_transaction *
     came.toggle = (uint8_t)any(2);
     came.length = (uint8_t)any(65);
     any_setup(request.bytes);
-    say_list("judged ", nzg_judge_device(device, image, image_len, kept, KEPT, &open, &request, next, data, length, &came, &has));
+    say_list("judged ", nzg_judge_device(device, LENT, &open, &request, next, data, length, &came, &has));
     say_packet(&has);
     if (one_in(2)) nzg_judge_acked(&open);
     say_list(" open ", open.acknowledged);
@@ -130,9 +134,9 @@ static void device_step(struct nzg_device *device) {
     uint8_t data[81];
     uint32_t length = any_transaction(device, &next, data);
     if (one_in(30)) say_judged(device, &next, data, length);
-    say_list("serve ", nzg_device_serve(device, image, image_len, kept, KEPT, &next, data, length, !one_in(10), &packet));
+    say_list("serve ", nzg_device_serve(device, LENT, &next, data, length, !one_in(10), &packet));
     say_packet(&packet);
-    if (packet.reply == NZG_DATA && !one_in(6)) say_list(" acked ", nzg_device_acked(device, image, image_len));
+    if (packet.reply == NZG_DATA && !one_in(6)) say_list(" acked ", nzg_device_acked(device, IMAGE));
     if (one_in(3)) {
         answer_refused(device);
         take_written(device);
@@ -141,20 +145,89 @@ static void device_step(struct nzg_device *device) {
 }
 
 void device_steps(uint32_t length, uint8_t speed, uint32_t steps) {
-    struct nzg_device device = {0};
-    struct nzg_answer made = make_image(file, length, speed);
+    struct nzg_device device;
+    struct nzg_answer made = new_device(&device, file, length, speed);
     say_answer("device", made);
-    say_hash(image, image_len);
+    if (made.status == NZG_DONE) say_hash(image, made.length);
     say_list(" speed ", speed);
+    if (one_in(3)) kept_length = any(LONGEST_KEPT + 1);
+    say_list(" kept ", kept_length);
     say("\n");
     stage = NZG_SETUP;
     toggle = 1;
     if (made.status != NZG_DONE) steps = 5;
     for (uint32_t i = 0; i < steps; i++) {
-        if (one_in(60)) nzg_device_reset(&device);
+        if (one_in(60)) nzg_device_reset(&device), say("reset\n");
         if (one_in(20)) say_state(&device);
         device_step(&device);
     }
+}
+
+/* --- a device of any numbers, any image and any room ---------------------------------------------------------------------- */
+
+static void any_numbers(struct nzg_device *device) {
+    fill((uint8_t *)device, sizeof *device);
+    device->state.wakeup = one_in(2);
+    device->settled = one_in(2);
+    device->pending = one_in(2);
+    device->stage = (uint8_t)any(one_in(9) ? 256 : 9);
+    device->toggle = (uint8_t)any(one_in(9) ? 256 : 2);
+    device->source = (uint8_t)any(one_in(9) ? 256 : 3);
+    if (one_in(2)) device->place = any(image_length + 9);
+    if (one_in(2)) device->count = any(300);
+    if (one_in(2)) device->offset = any(300);
+}
+
+/* Of the image that is there some bytes are others, or it is cut. */
+static void any_image(void) {
+    if (!image_length) fill(image, image_length = 64);
+    /* A version and a packet size as an image has them. */
+    if (one_in(2)) image[0] = image[3] = 0, image[1] = 1, image[2] = (uint8_t)(1 + any(64));
+    for (uint32_t i = any(8); image_length && i--;) image[any(image_length)] = (uint8_t)any(256);
+    if (one_in(6)) image_length = any(image_length + 1);
+    kept_length = any(LONGEST_KEPT + 1);
+}
+
+void any_device_steps(uint32_t steps) {
+    struct nzg_device device;
+    any_image();
+    for (uint32_t i = 0; i < steps; i++) {
+        if (!i || one_in(8)) any_numbers(&device);
+        if (one_in(20)) say_state(&device);
+        if (one_in(5)) answer_refused(&device);
+        device_step(&device);
+    }
+}
+
+/* --- how deep the stack goes ------------------------------------------------------------------------------------------------- */
+
+/* A request, its answer by an owner where it is refused, its data and its status. */
+static void deep_transfer(struct nzg_device *device, const uint8_t *request) {
+    static const uint8_t DATA[8];
+    struct nzg_transaction next = {device->state.address, NZG_SETUP, 1, {0}};
+    struct nzg_packet packet;
+    struct nzg_setup setup;
+    for (int i = 0; i < 8; i++) next.setup[i] = request[i];
+    DEEP("nzg_device_serve", nzg_device_serve(device, LENT, &next, DATA, 0, true, &packet));
+    DEEP("nzg_device_refused", nzg_device_refused(device, &setup));
+    DEEP("nzg_device_answer_with", nzg_device_answer_with(device, kept, kept_length, DATA, sizeof DATA));
+    DEEP("nzg_device_accept", nzg_device_accept(device, kept_length));
+    next.stage = NZG_OUT;
+    if (request[0] < 0x80 && request[6]) DEEP("nzg_device_serve", nzg_device_serve(device, LENT, &next, DATA, sizeof DATA, true, &packet));
+    DEEP("nzg_device_written", nzg_device_written(device, kept, kept_length, &setup));
+    next.stage = NZG_IN;
+    DEEP("nzg_device_serve", nzg_device_serve(device, LENT, &next, DATA, 0, true, &packet));
+    DEEP("nzg_device_acked", nzg_device_acked(device, IMAGE));
+    DEEP("nzg_device_carried_out", nzg_device_carried_out(device, &setup));
+    DEEP("nzg_device_refuse", nzg_device_refuse(device, IMAGE));
+}
+
+void device_stacks(uint32_t length) {
+    struct nzg_device device;
+    DEEP("nzg_device_image", nzg_device_image(file, length, NZG_HIGH, image, sizeof image));
+    new_device(&device, file, length, NZG_HIGH);
+    DEEP("nzg_device_reset", nzg_device_reset(&device));
+    for (uint32_t i = 0; i < sizeof REQUESTS / 8; i++) deep_transfer(&device, REQUESTS[i]);
 }
 
 /* --- a host -------------------------------------------------------------------------------------------------------------- */
@@ -185,8 +258,8 @@ static void exchange(struct nzg_host *host, struct nzg_device *device, const str
     struct nzg_packet packet = {0};
     say("send");
     say_due(next);
-    nzg_device_serve(device, image, image_len, kept, KEPT, next, file, 0, !one_in(9), &packet);
-    if (packet.reply == NZG_DATA && !one_in(30)) nzg_device_acked(device, image, image_len);
+    nzg_device_serve(device, LENT, next, file, 0, !one_in(9), &packet);
+    if (packet.reply == NZG_DATA && !one_in(30)) nzg_device_acked(device, IMAGE);
     spoil(&packet, trouble_in);
     say_list(" took ", nzg_host_take(host, packet.reply, packet.toggle, packet.data, packet.length));
     say_step(host);
@@ -223,9 +296,9 @@ static void open_with(struct nzg_host *host, uint8_t address, uint16_t naks, uin
 }
 
 void host_steps(uint32_t length, uint8_t speed, uint32_t trouble_in) {
-    struct nzg_device device = {0};
+    struct nzg_device device;
     struct nzg_host host = {0};
-    make_image(file, length, speed);
+    new_device(&device, file, length, speed);
     uint8_t address = (uint8_t)any(129), attempts = (uint8_t)any(5);
     uint16_t naks = (uint16_t)any(5);
     if (one_in(2)) say_answer("host", nzg_host_open(&host, address, naks, attempts, speed));

@@ -176,7 +176,7 @@ static uint32_t refused_after(uint32_t length, uint32_t granted) {
     uint32_t refused = 0;
     for (uint32_t i = 0; i < CALLS; i++) {
         memory_allow((long)granted);
-        if (i == 0) answers[i] = make_image(file, length, NZG_HIGH);
+        if (i == 0) answers[i] = nzg_device_image(file, length, NZG_HIGH, image, sizeof image);
         if (i == 1) answers[i] = nzg_host_open(&host, 1, 16, 3, NZG_HIGH);
         if (i == 2) answers[i] = nzg_check(file, length, true, room, ROOM);
         if (i == 3) answers[i] = nzg_explain(file, length, 0, 0, room, ROOM);
@@ -201,21 +201,14 @@ void refusals(uint32_t length) {
     }
 }
 
-#define DEEP(name, call) (paint(), (void)(call), say_list(" " name " ", deepest()))
-
 /* Bytes of stack of each call: not the same on two processors, so that these lines begin with a mark. */
 void stacks(uint32_t length) {
-    struct nzg_device device = {0};
     struct nzg_host host = {0};
     struct nzg_transaction next = {0};
-    struct nzg_packet packet = {0};
     struct nzg_descriptor descriptor = {0};
     struct nzg_field field;
     say("%");
-    DEEP("nzg_device_image", make_image(file, length, NZG_HIGH));
-    DEEP("nzg_device_reset", nzg_device_reset(&device));
-    DEEP("nzg_device_serve", nzg_device_serve(&device, image, image_len, kept, KEPT, &next, file, 0, true, &packet));
-    DEEP("nzg_device_acked", nzg_device_acked(&device, image, image_len));
+    device_stacks(length);
     DEEP("nzg_host_open", nzg_host_open(&host, 1, 16, 3, NZG_HIGH));
     nzg_host_reset_done(&host);
     DEEP("nzg_host_next", nzg_host_next(&host, &next));

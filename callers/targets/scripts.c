@@ -24,7 +24,7 @@ static void serve(const uint8_t *at, uint32_t length) {
     struct nzg_packet packet = {0};
     bool is_setup = next.stage == NZG_SETUP;
     for (int i = 0; is_setup && i < 8; i++) next.setup[i] = at[4 + i];
-    say_list("serve ", nzg_device_serve(&device, image, image_len, kept, KEPT, &next, at + 4, is_setup ? 0 : length - 4, at[3], &packet));
+    say_list("serve ", nzg_device_serve(&device, LENT, &next, at + 4, is_setup ? 0 : length - 4, at[3], &packet));
     say_packet(&packet);
 }
 
@@ -36,7 +36,7 @@ static void say_request(const char *what, uint64_t is_there, const struct nzg_se
 
 static void say_written(void) {
     struct nzg_setup setup = {0};
-    struct nzg_answer answer = nzg_device_written(&device, kept, KEPT, &setup);
+    struct nzg_answer answer = nzg_device_written(&device, kept, kept_length, &setup);
     say_answer("written", answer);
     say_request(" ", answer.status == NZG_DONE, &setup);
     if (answer.status == NZG_DONE) say_hash(kept, answer.length);
@@ -44,13 +44,13 @@ static void say_written(void) {
 
 static void device_step(uint8_t kind, const uint8_t *at, uint32_t length) {
     struct nzg_setup setup = {0};
-    if (kind == 'O') say_answer("image", make_image(at + 1, length - 1, at[0]));
+    if (kind == 'O') say_answer("open", new_device(&device, at + 1, length - 1, at[0]));
     if (kind == 'T') serve(at, length);
-    if (kind == 'K') say_list("acked ", nzg_device_acked(&device, image, image_len));
-    if (kind == 'O' || kind == 'R') nzg_device_reset(&device);
-    if (kind == 'A') say_answer("with", nzg_device_answer_with(&device, kept, KEPT, at, length));
-    if (kind == 'C') say_answer("accept", nzg_device_accept(&device, KEPT));
-    if (kind == 'N') say_list("refuse ", nzg_device_refuse(&device, image, image_len));
+    if (kind == 'K') say_list("acked ", nzg_device_acked(&device, IMAGE));
+    if (kind == 'R') nzg_device_reset(&device);
+    if (kind == 'A') say_answer("with", nzg_device_answer_with(&device, kept, kept_length, at, length));
+    if (kind == 'C') say_answer("accept", nzg_device_accept(&device, kept_length));
+    if (kind == 'N') say_list("refuse ", nzg_device_refuse(&device, IMAGE));
     if (kind == 'F') say_request("refused ", nzg_device_refused(&device, &setup), &setup);
     if (kind == 'D') say_request("carried ", nzg_device_carried_out(&device, &setup), &setup);
     if (kind == 'W') say_written();

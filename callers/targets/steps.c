@@ -53,6 +53,7 @@ struct wanted { uint32_t steps, mutations, more; };
 
 static void play(uint32_t length, const struct wanted *wanted) {
     for (uint8_t speed = NZG_LOW; speed <= NZG_HIGH; speed++) device_steps(length, speed, wanted->steps);
+    any_device_steps(wanted->steps / 2);
     for (uint8_t i = 0; i < 12; i++) host_steps(length, (uint8_t)(1 + i % 3), 5 + 40 * (i % 5));
     for (uint8_t i = 0; i < 30; i++) transfer_steps();
     for (uint8_t i = 0; i < 30; i++) write_steps();

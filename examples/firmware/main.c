@@ -1,6 +1,7 @@
 /* A mouse. The library is its end of endpoint zero; what belongs to HID 1.11 is here: a report descriptor, SET_IDLE, SET_PROTOCOL,
  * and reports that move the pointer. */
 #include "hardware.h"
+#include "mouse.h" /* python3 -m nozzlegorse.image makes it of mouse.file */
 
 enum { GET_DESCRIPTOR = 6, SET_IDLE = 10, SET_PROTOCOL = 11, REPORT = 0x22 };
 enum { OF_INTERFACE_IN = 0x81, OF_CLASS_OUT = 0x21 };
@@ -10,16 +11,11 @@ static const uint8_t REPORT_DESCRIPTOR[] = {
     0x05, 1, 0x09, 2, 0xa1, 1, 0x09, 1, 0xa1, 0, 0x05, 9, 0x19, 1, 0x29, 3, 0x15, 0, 0x25, 1, 0x95, 3, 0x75, 1, 0x81, 2, 0x95, 1, 0x75, 5,
     0x81, 1, 0x05, 1, 0x09, 0x30, 0x09, 0x31, 0x15, 0x81, 0x25, 0x7f, 0x75, 8, 0x95, 2, 0x81, 6, 0xc0, 0xc0};
 
-/* The device, its configuration set, the list of languages and a string. */
-static const uint8_t FILE[] = {
-    18, 1, 0x10, 1, 0, 0, 0, 64, 0x34, 0x12, 0x78, 0x56, 0, 1, 0, 1, 0, 1,
-    9, 2, 34, 0, 1, 1, 0, 0xa0, 50, 9, 4, 0, 0, 1, 3, 1, 2, 0, 9, 0x21, 0x11, 1, 0, 1, REPORT, sizeof REPORT_DESCRIPTOR, 0, 7, 5, 0x81, 3, 4, 0, 10,
-    4, 3, 9, 4, 12, 3, 'm', 0, 'o', 0, 'u', 0, 's', 0, 'e', 0};
+_Static_assert(sizeof REPORT_DESCRIPTOR == 50, "as the HID descriptor in mouse.file says");
 
+/* What the library keeps, and the room that it is lent for answers. */
 static struct nzg_device device;
-/* What its calls are lent: an image of FILE, and room for a report descriptor. */
-static uint8_t image[256], kept[64];
-static nzg_size image_len;
+static uint8_t kept[sizeof REPORT_DESCRIPTOR];
 
 /* A request that chapter 9 leaves to the class. The library has refused it, and takes this answer in place of that. False where it
  * stays refused. */
@@ -35,8 +31,7 @@ static bool answer_class(void) {
 
 static void serve(const struct hardware_event *event) {
     struct nzg_packet packet;
-    if (!nzg_device_serve(&device, image, image_len, kept, sizeof kept, &event->transaction, event->data, event->length, true, &packet))
-        packet.reply = NZG_SILENCE;
+    if (!nzg_device_serve(&device, mouse, MOUSE_LENGTH, kept, sizeof kept, &event->transaction, event->data, event->length, true, &packet)) packet.reply = NZG_SILENCE;
     if (event->transaction.stage == NZG_SETUP && !answer_class()) packet.reply = NZG_STALL;
     hardware_answer(&packet);
 }
@@ -51,14 +46,11 @@ static void move(void) {
 
 int main(void) {
     struct hardware_event event;
-    struct nzg_answer made = nzg_device_image(FILE, sizeof FILE, NZG_FULL, image, sizeof image);
-    if (made.status != NZG_DONE) return 1;
-    image_len = made.length;
     hardware_start();
     for (;;) {
         hardware_wait(&event);
         if (event.kind == HARDWARE_RESET) nzg_device_reset(&device);
-        if (event.kind == HARDWARE_ACKED) nzg_device_acked(&device, image, image_len);
+        if (event.kind == HARDWARE_ACKED) nzg_device_acked(&device, mouse, MOUSE_LENGTH);
         if (event.kind == HARDWARE_TRANSACTION) serve(&event);
         hardware_address(device.state.address);
         if (device.state.selected) move();

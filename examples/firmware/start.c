@@ -1,6 +1,5 @@
-/* What runs before main, and the library's memory: a device that is open keeps some 3 kB of it. */
-#define POOL 8192
-#include "pool.h"
+/* What runs before main. */
+#include <stdint.h>
 
 int main(void);
 void start(void);

@@ -1,8 +1,8 @@
-/* The same at the places of QEMU's virt, all of which is RAM: code for RISC-V takes half as much again. */
+/* The same at the places of QEMU's virt, all of which is RAM: code for RISC-V takes three quarters as much again. */
 ENTRY(start)
 MEMORY {
-    flash (rx) : ORIGIN = 0x80000000, LENGTH = 96K
-    ram (rwx) : ORIGIN = 0x80100000, LENGTH = 20K
+    flash (rx) : ORIGIN = 0x80000000, LENGTH = 24K
+    ram (rwx) : ORIGIN = 0x80100000, LENGTH = 4K
 }
 stack_top = ORIGIN(ram) + LENGTH(ram);
 SECTIONS {
@@ -10,6 +10,6 @@ SECTIONS {
     .data : { data_begin = .; *(.data*) *(.sdata*) . = ALIGN(4); data_end = .; } >ram AT >flash
     data_from = LOADADDR(.data);
     .bss : { bss_begin = .; *(.sbss*) *(.bss*) *(COMMON) . = ALIGN(4); bss_end = .; } >ram
-    ASSERT(stack_top - bss_end >= 8K, "nzg_device_open has 6 kB of stack at most, and main its own")
+    ASSERT(stack_top - bss_end >= 2K, "the library's calls have less than 1 kB of stack, and main its own")
     /DISCARD/ : { *(.comment*) *(.note*) *(.riscv.attributes) *(.eh_frame*) }
 }

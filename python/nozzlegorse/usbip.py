@@ -23,12 +23,13 @@ import threading
 from collections.abc import Iterator
 from dataclasses import dataclass
 
-from . import Fault, check, read, with_strings
+from . import Fault, read, with_strings
 from ._answers import Answers
 from ._drivers import wanted
 from ._links import Bridge, Feeder
 from ._owner import Later, Owner
 from ._plug import Pending, Plug
+from ._refusals import refusal
 from ._wire import SPEEDS, Client, Refused
 
 __all__ = ["Answers", "Bridge", "Client", "Later", "Owner", "Pending", "Plug", "Refused", "main"]
@@ -160,7 +161,7 @@ def _plug_in(bridge: Bridge, given: argparse.Namespace, it: Named, owner: type, 
         file = with_strings(data) if given.with_strings else data
         plug = Plug(file, mine, _speed(it.speed or given.first.speed, file), bus_id, bridge.tell)
     except Fault as fault:
-        raise ValueError(f"{it.name}: {fault}{_broken(file) if fault.name == 'Finding' else ''}") from None
+        raise ValueError(f"{it.name}: {refusal(file, fault)}") from None
     except ValueError as fault:
         raise ValueError(f"{it.name}: {fault}") from None
     plug.run, plug.is_quiet, plug.shows_all = bridge.worker(), given.quiet, given.data
@@ -170,12 +171,6 @@ def _plug_in(bridge: Bridge, given: argparse.Namespace, it: Named, owner: type, 
         for request, what in wanted(file).items() if given.with_strings else ():
             if not mine.has(request):
                 bridge.tell(f"{it.name}: a driver asks {request}, {what}, which a dump doesn't have: --answers")
-
-
-def _broken(file: bytes) -> str:
-    """The first rule of chapter 9 that a file breaks."""
-    it = check(file)[0]
-    return f", V{it.rule} at {it.place}: {it.message}"
 
 
 def _speed(named: str | None, file: bytes) -> str:

@@ -53,8 +53,8 @@ def compiled(source, target, out, *more):
     return out
 
 
-def object_of(text, target, room, guard=False, size=None):
-    """An object of the module's exports. Small code goes through LLVM's passes twice: the second time finds what the first left."""
+def object_of(text, target, room, guard=False, size=None, *more):
+    """An object of the module's exports, made with these more options. Small code goes through LLVM's passes twice: the second time finds what the first left."""
     size = SIZES[target] if size is None else size
     code, once, made = (f"{room}/{target}.{it}" for it in ("ll", "bc", "o"))
     unproved.write(code, lowered.Lowering(target, guard, size).module(text))
@@ -62,7 +62,7 @@ def object_of(text, target, room, guard=False, size=None):
     if size:
         run(*words, "-emit-llvm", code, "-o", once)
         os.replace(once, code)
-    run(*words, code, "-o", made)
+    run(*words, *more, code, "-o", made)
     os.remove(code)
     return made
 

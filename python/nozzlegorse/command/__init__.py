@@ -15,6 +15,7 @@ PROGRAMS = {
     "usbip": "devices for a real Linux host, which plugs them in by USB/IP",
     "bench": "tries other people's devices and hosts beside the proved ones",
     "usbfs": "reads and tests a device that is plugged in",
+    "image": "a device's image as a C file, for a microcontroller's flash",
     "page": "shows a file or a plugged device in the browser",
 }
 
