@@ -596,11 +596,6 @@ def format_words(d, codes):
 
 # What bytes begin as that holds others, by their first bytes.
 CONTAINERS = {
-    b"\xa1\xb2\xc3\xd4": "a pcap capture",
-    b"\xd4\xc3\xb2\xa1": "a pcap capture",
-    b"\xa1\xb2\x3c\x4d": "a pcap capture",
-    b"\x4d\x3c\xb2\xa1": "a pcap capture",
-    b"\n\r\r\n": "a pcapng capture",
     b"\x7fELF": "an ELF file",
     b"\x1f\x8b": "a gzip file",
 }

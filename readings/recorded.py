@@ -188,14 +188,24 @@ def frames_of_front(data):
     yield from ()
 
 
+PCAP = (b"\xa1\xb2\xc3\xd4", b"\xd4\xc3\xb2\xa1", b"\xa1\xb2\x3c\x4d", b"\x4d\x3c\xb2\xa1")
+PCAPNG = b"\x0a\x0d\x0d\x0a"
+
+
 def frames_of(data):
     if len(data) < 4:
         return None, frames_of_front(data)
-    if data[:4] == b"\x0a\x0d\x0d\x0a":
+    if data[:4] == PCAPNG:
         return "pcapng", frames_of_pcapng(data)
-    if data[:4] in (b"\xa1\xb2\xc3\xd4", b"\xd4\xc3\xb2\xa1", b"\xa1\xb2\x3c\x4d", b"\x4d\x3c\xb2\xa1"):
+    if data[:4] in PCAP:
         return "pcap", frames_of_pcap(data)
     return "text", frames_of_text(data)
+
+
+def begins(data):
+    """Whether bytes begin as a recording does: with the first four of a format, or a line of usbmon's text."""
+    line = re.match(rb"[0-9a-f]{4,16} \d+ [SCE] [ZICB][io]:\d+:\d+:\d+ [^\n]+\n", data[:512])
+    return data[:4] in (*PCAP, PCAPNG) or line is not None
 
 
 def event_of(link, order, data):

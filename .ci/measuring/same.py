@@ -7,6 +7,7 @@ import subprocess
 from playing import calls, examples
 from playing.row import Fault, rows_of
 from playing.run import Run, play
+from readings.recorded import begins
 
 # The words that it takes, as the program does.
 COMMANDS = [["show"], ["check"], ["build"], ["enumerate"], *(["enumerate", "--speed", it] for it in ("low", "full", "high"))]
@@ -14,8 +15,8 @@ OWN = [["decode"], ["describe"], ["hexadecimal"]]
 
 
 def is_taken(run):
-    """Whether plain Rust takes a run: it explains whole inputs alone, and no text that has their digits."""
-    is_whole = run.status == 0 and run.output and not run.output.startswith(b"hexadecimal text")
+    """Whether plain Rust takes a run: it explains whole inputs alone, and no text that has their digits and no recording."""
+    is_whole = run.status == 0 and run.output and not run.output.startswith(b"hexadecimal text") and not begins(run.data)
     is_explained = run.words == ["explain"] and is_whole
     return run.read is None and not run.terminal and (is_explained or run.words in COMMANDS or run.words[:1] in OWN)
 

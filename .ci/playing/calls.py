@@ -8,6 +8,7 @@ from playing.run import Run, ends_with
 
 sys.path.append(os.path.join(os.path.dirname(os.path.abspath(__file__)), "../.."))
 from readings.enumerating import named, word  # noqa: E402
+from readings.recorded import begins  # noqa: E402
 
 # These are asked of the libraries, by the program test_rows.
 OF_LIBRARIES = set(
@@ -17,9 +18,13 @@ OF_LIBRARIES = set(
 
 
 def usbdesc(row):
+    """A run, and of a recording that of `explain`, which writes what `capture` does without options."""
     words = row.words()
     place = words.index("<") if "<" in words else len(words)
-    yield Run(words[:place], change(row.text("|"), words[place + 1 :]), int(row.wanted()), row.text(">"), row.text("!"))
+    run = Run(words[:place], change(row.text("|"), words[place + 1 :]), int(row.wanted()), row.text(">"), row.text("!"))
+    yield run
+    if run.words == ["capture"] and begins(run.data):
+        yield run._replace(words=["explain"])
 
 
 def terminal(row):

@@ -56,7 +56,7 @@ TRIES = [
     ("COLUMNS=20 nozzlegorse --help", 0, ["usage: nozzlegorse"]),
     ("COLUMNS=20 nozzlegorse check --help", 0, ["--fail WHAT"]),
     ("COLUMNS=0 nozzlegorse list --sysfs $S", 0, ["usb1"]),
-    ("nozzlegorse explain capture.pcap", 2, ["capture.pcap: the bytes begin as a pcap capture (d4c3b2a1)", "Wireshark"]),
+    ("nozzlegorse explain capture.pcap", 2, ["capture.pcap: this is a recording; usbdesc explains it", "Wireshark"]),
     ("nozzlegorse check $(command -v bash)", 2, ["the bytes begin as an ELF file (7f454c46)", "objcopy -O binary"]),
     ("gzip < $T/mistakes/05-nep.bin | nozzlegorse show -", 2, ["-: the bytes begin as a gzip file (1f8b)", "gunzip"]),
     ("printf ':0400000012010002E7\\n' | nozzlegorse check -", 2, ["a record of Intel HEX", "objcopy -I ihex"]),

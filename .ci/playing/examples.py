@@ -127,11 +127,12 @@ def file_in(data, recording, device):
 
 
 def capture(name):
-    """A recording, with each option, and cut: a short one at each byte."""
+    """A recording, by `explain` too, with each option, and cut: a short one at each byte."""
     data = bytes_of(name)
     recording = recorded.Recording(data)
     status = recorded.status_of(recording)
-    yield Run(["capture"], data, status, bytes_of(name, ".said"))
+    for command in ("capture", "explain"):
+        yield Run([command], data, status, bytes_of(name, ".said"))
     yield Run(["capture", "--data"], data, status, bytes_of(name, ".bytes"))
     yield told_in(data, ["--brief"], with_data=False, brief=True)
     yield told_in(data, ["--from", "0.001", "--to", "93.5"], with_data=False, times=(10**6, 935 * 10**8))

@@ -1,7 +1,8 @@
 -- A capture file: parts, each of which says how the next is read. A part of pcap is the file header or a record, one of
 -- pcapng a block, one of text a line.
-use Rattle.std.specs.Prelude.{◌≡◌, ⊤, ℕ, List, [], ◌∷◌, ◌++◌, length, take, drop, min, Option, Some, None, Result, Ok, Err, IsOk, nat_lt, if◌then◌else◌}
+use Rattle.std.specs.Prelude.{◌≡◌, ⊤, ℕ, List, [], ◌∷◌, ◌++◌, length, take, drop, min, ◌||◌, ◌&&◌, Bool, Option, Some, None, is_some, Result, Ok, Err, IsOk, nat_lt, if◌then◌else◌}
 use Rattle.std.specs.List.{flat_map}
+use Rattle.std.specs.Result.{is_ok}
 use Rattle.usb_capture.specs.declared.content.Content.{Content}
 use Rattle.usb_capture.specs.declared.content.Content.TheVariants as says
 use Rattle.usb_capture.specs.declared.content.Head.{Head}
@@ -33,6 +34,10 @@ start = record { stage = Start; interfaces = [] }
 abbrev pub first_length : Option Writer → List ℕ → ℕ
 first_length (Some writer) b = 24
 first_length None b = if is_section b then block_length Little b else if is_text b then line_length b else 4
+
+-- bytes begin as a recording does: as a file of pcap, with a section of pcapng, or with a whole line of text, of 512 bytes at most
+abbrev pub begins_recording : List ℕ → Bool
+begins_recording b = is_some (writer_of b) || (is_section b || (is_text b && is_ok (line_content (take 512 b))))
 
 -- how many bytes the part has that begins with these, as far as they tell
 abbrev pub whole : Stage → List ℕ → ℕ

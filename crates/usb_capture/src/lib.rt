@@ -4,6 +4,7 @@
 //!   and hands out each [`Frame`] that is whole: its time, its link type and its bytes. Of a line of text it makes the frame
 //!   of link type 220 that says the same. It holds at most [`MOST_HELD`] bytes and what is said of interfaces, however long
 //!   the file is.
+//! - [`begins_recording`] says whether bytes begin as such a file does.
 //! - [`Event::of_frame`] reads what a frame says of a transfer, where its link type is that of usbmon or of USBPcap: whose
 //!   transfer it is, its setup packet, its status and its data.
 //! - [`ControlTransfers`] makes of these, one by one, the control transfers of all devices: what was asked, what was answered
@@ -87,4 +88,5 @@ pub use pcap::{Form, Precision, Writer};
 pub use reader::{CaptureReader, MOST_HELD, Step};
 pub use readings::Readings;
 pub use recorded_packet::RecordedPacket;
+pub use stage::begins_recording;
 pub use transaction::{DataPacket, Transaction};

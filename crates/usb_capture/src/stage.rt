@@ -1,6 +1,6 @@
 //! What a part of a capture file is.
 ghost use Rattle.std.specs.Prelude.{◌≡◌};
-ghost use Rattle.usb_capture.specs.Files.{content, first_content, first_length, record_head, whole};
+ghost use Rattle.usb_capture.specs.Files.{begins_recording, content, first_content, first_length, record_head, whole};
 ghost use Rattle.usb_capture.specs.UsbmonText.{is_text, line_content, line_length};
 
 use crate::block;
@@ -65,6 +65,21 @@ impl Stage {
             Stage::Lines => line_content(held),
         }
     }
+}
+
+/// Whether bytes begin as a recording does: with the magic number of a file of pcap, the type of a section header of pcapng, or a
+/// whole line of usbmon's text.
+///
+/// ```rust
+/// assert!(rt; begins_recording(&[0xd4, 0xc3, 0xb2, 0xa1]));
+/// assert!(rt; !begins_recording(b"12010002\n"));
+/// ```
+pub fn begins_recording(bytes: &[u8]) -> bool
+    ensures { result ≡ begins_recording bytes.now }
+{
+    Writer::of_magic(bytes).is_some()
+        || block::is_section(bytes)
+        || (is_text(bytes) && line_content(prefix(bytes, MOST_LINE)).is_ok())
 }
 
 /// How many bytes the first part has, of which four tell who wrote it.

@@ -1,26 +1,13 @@
--- Captures, programs, compressed bytes and images as text, which may hold descriptors that are not read out of them.
-use Rattle.std.specs.Prelude.{ℕ, zero, suc, ◌+◌, ◌*◌, ◌%◌, ◌==◌, ◌||◌, ◌&&◌, Bool, false, List, [], ◌∷◌, take, slice_index, Option, Some, None, if◌then◌else◌}
+-- Programs, compressed bytes and images as text, which may hold descriptors that are not read out of them.
+use Rattle.std.specs.Prelude.{ℕ, zero, suc, ◌+◌, ◌*◌, ◌%◌, ◌==◌, ◌&&◌, Bool, false, List, [], ◌∷◌, take, slice_index, Option, Some, None, if◌then◌else◌}
 use Rattle.hex.specs.Hex.{hex_digit_value}
 use Rattle.usb_explain.specs.declared.container.Container.{Container}
 use Rattle.usb_explain.specs.declared.container.Container.TheVariants as containers
 use Rattle.usb_text.specs.Shown.{Shown, Bytes}
 
-abbrev pub begins_with : ℕ → ℕ → ℕ → ℕ → List ℕ → Bool
-begins_with c d e f b = (slice_index b 0 == c) && (slice_index b 1 == d) && (slice_index b 2 == e) && (slice_index b 3 == f)
-
--- the magic number of microseconds or of nanoseconds, in either byte order (PCAP Capture File Format, draft-ietf-opsawg-pcap)
-abbrev pub is_pcap : List ℕ → Bool
-is_pcap b =
-    begins_with 0xa1 0xb2 0xc3 0xd4 b || begins_with 0xd4 0xc3 0xb2 0xa1 b
-    || begins_with 0xa1 0xb2 0x3c 0x4d b || begins_with 0x4d 0x3c 0xb2 0xa1 b
-
--- the type of a section header block, which is the same in either byte order (draft-ietf-opsawg-pcapng)
-abbrev pub is_pcapng : List ℕ → Bool
-is_pcapng b = begins_with 0x0a 0x0d 0x0d 0x0a b
-
 -- the magic number of an object file (System V ABI, chapter 4)
 abbrev pub is_elf : List ℕ → Bool
-is_elf b = begins_with 0x7f 0x45 0x4c 0x46 b
+is_elf b = (slice_index b 0 == 0x7f) && (slice_index b 1 == 0x45) && (slice_index b 2 == 0x4c) && (slice_index b 3 == 0x46)
 
 -- the identification of compressed bytes (RFC 1952, 2.3.1)
 abbrev pub is_gzip : List ℕ → Bool
@@ -56,15 +43,13 @@ is_record (c ∷ text) =
 -- what bytes begin as
 abbrev pub container_of : List ℕ → Option Container
 container_of b =
-    if is_pcap b then Some containers.Pcap
-    else if is_pcapng b then Some containers.Pcapng
-    else if is_elf b then Some containers.Elf
+    if is_elf b then Some containers.Elf
     else if is_gzip b then Some containers.Gzip
     else if is_record b then Some containers.IntelHex
     else None
 
 -- the bytes by which that is seen; none of text
 abbrev pub magic : Container → List ℕ → List Shown
+magic containers.Elf b = Bytes (take 4 b) ∷ []
 magic containers.Gzip b = Bytes (take 2 b) ∷ []
 magic containers.IntelHex b = []
-magic container b = Bytes (take 4 b) ∷ []

@@ -1,9 +1,9 @@
-//! Captures, programs, compressed bytes and images as text, by their first bytes. No descriptors are read out of them.
+//! Programs, compressed bytes and images as text, by their first bytes. No descriptors are read out of them.
 ghost use Rattle.std.specs.Prelude.{◌≡◌, ◌++◌, ◌∷◌, [], IsTrue, OnOk, take};
 ghost use Rattle.hex.specs.Hex.{hex_digit_value};
 ghost use Rattle.usb_text.specs.Shown.{Bytes, End, showing_all};
 ghost use Rattle.usb_text.specs.Written.{is_words};
-ghost use Rattle.usb_explain.specs.Containers.{adds_up, byte_of, container_of, is_elf, is_gzip, is_pcap, is_pcapng, is_record, magic};
+ghost use Rattle.usb_explain.specs.Containers.{adds_up, byte_of, container_of, is_elf, is_gzip, is_record, magic};
 
 use std::alloc::AllocError;
 use usb_text::Page;
@@ -11,10 +11,6 @@ use usb_text::Page;
 /// What bytes begin as that holds others.
 #[derive(Clone, Copy, Debug, PartialEq, Eq, Hash)]
 pub(crate) enum Container {
-    /// A capture as `tcpdump` writes it.
-    Pcap,
-    /// A capture as Wireshark writes it.
-    Pcapng,
     /// A program or an object file.
     Elf,
     /// Compressed bytes.
@@ -27,11 +23,7 @@ pub(crate) enum Container {
 pub(crate) fn container_of(bytes: &[u8]) -> Option<Container>
     ensures { result ≡ container_of bytes.now }
 {
-    if is_pcap(bytes) {
-        Some(Container::Pcap)
-    } else if is_pcapng(bytes) {
-        Some(Container::Pcapng)
-    } else if is_elf(bytes) {
+    if is_elf(bytes) {
         Some(Container::Elf)
     } else if is_gzip(bytes) {
         Some(Container::Gzip)
@@ -40,24 +32,6 @@ pub(crate) fn container_of(bytes: &[u8]) -> Option<Container>
     } else {
         None
     }
-}
-
-/// Whether the magic number of a capture is here, in either byte order.
-fn is_pcap(bytes: &[u8]) -> bool
-    ensures { result ≡ is_pcap bytes.now }
-{
-    match bytes {
-        [0xa1, 0xb2, 0xc3, 0xd4, ..] | [0xd4, 0xc3, 0xb2, 0xa1, ..] => true,
-        [0xa1, 0xb2, 0x3c, 0x4d, ..] | [0x4d, 0x3c, 0xb2, 0xa1, ..] => true,
-        _ => false,
-    }
-}
-
-/// Whether the type of a section header block is here.
-fn is_pcapng(bytes: &[u8]) -> bool
-    ensures { result ≡ is_pcapng bytes.now }
-{
-    matches!(bytes, [0x0a, 0x0d, 0x0d, 0x0a, ..])
 }
 
 /// Whether the magic number of an object file is here.
@@ -148,8 +122,6 @@ fn put_name<P: Page>(page: &mut P, container: Container, bytes: &[u8]) -> Result
     ensures { OnOk result (P.seen page.new ≡ showing_all P.showing (magic container bytes.now) (P.seen page.old)) }
 {
     match container {
-        Container::Pcap => put_magic(page, "a pcap capture", first(bytes, 4)),
-        Container::Pcapng => put_magic(page, "a pcapng capture", first(bytes, 4)),
         Container::Elf => put_magic(page, "an ELF file", first(bytes, 4)),
         Container::Gzip => put_magic(page, "a gzip file", first(bytes, 2)),
         Container::IntelHex => page.put("a record of Intel HEX"),

@@ -1,5 +1,5 @@
 -- What `explain` tells of its input, by its options.
-use Rattle.std.specs.Prelude.{◌≡◌, ℕ, List, not, Option, Some, None, option_map, if◌then◌else◌, codes, ◌⊎◌, Bool, true, false, ◌++◌, length, Ok, Err}
+use Rattle.std.specs.Prelude.{◌≡◌, ℕ, List, not, ◌&&◌, Option, Some, None, option_map, if◌then◌else◌, codes, ◌⊎◌, Bool, true, false, ◌++◌, length, Ok, Err}
 use Rattle.std.specs.Borrow.{Bor}
 use Rattle.std.specs.Str.{bytes_eq}
 use Rattle.usb_explain.specs.declared.manner.Manner.{Manner}
@@ -21,8 +21,12 @@ use Rattle.usb_text.specs.Output.{AppendsLess, Held}
 use Rattle.usb_text.specs.Shown.{Shown, ends}
 use Rattle.usb_hex.specs.Stops.{stop_line}
 use Rattle.usb_text.specs.Written.{AreLines}
-use Rattle.usb_tool.specs.Endings.{Extent, Fails, Refusal, Refuses, Telling, Told, Left}
+use Rattle.usb_capture.specs.Files.{begins_recording}
+use Rattle.usb_tool.specs.Captures.{CaptureDone, CaptureFails}
+use Rattle.usb_tool.specs.Endings.{Extent, Fails, Refusal, Refuses, Succeeds, Telling, Left, Writes}
 use Rattle.usb_tool.specs.Inputs.{OfInput}
+use Rattle.usb_tool.specs.declared.capturing.CaptureCommand.{CaptureCommand}
+use Rattle.usb_tool.specs.declared.capturing.CaptureCommand.TheVariants as commands
 use Rattle.usb_tool.specs.declared.fault.ToolFault.{ToolFault}
 use Rattle.usb_tool.specs.declared.fault.ToolFault.TheVariants as tools
 use Rattle.usb_text.specs.Numbers.{count}
@@ -174,13 +178,32 @@ RefusesText loose hex m b held holds fault =
     DoesWithText hex m b (λ manner heading bytes. RefusesAs loose manner heading bytes held holds fault)
     ⊎ (RefusesHex hex b fault × Keeps held holds)
 
--- all was read, at most what a file can have, and its explanation was written
+-- bytes are told as a recording where the options don't say what they are, and they begin as one does
+abbrev pub is_recording : Bool → Bool → List ℕ → Bool
+is_recording loose hex b = not loose && (not hex && begins_recording b)
+
+-- what `capture` writes where it has no option
+abbrev pub every_line : CaptureCommand
+every_line = commands.Lines (record { brief = false; «data» = false; device = None; from = None; to = None })
+
+-- what is done with bytes: `capture` tells of a recording, which they are all of, and others are explained
+abbrev pub DoesWithBytes : Bool → Bool → Bool → Manner → List ℕ → Held → Held → ℕ → Type 0
+DoesWithBytes true loose hex m b held holds status = (to : Left) × CaptureDone every_line (Some b) to held holds status
+DoesWithBytes false loose hex m b held holds status = Writes Appends (ReportsText loose hex m) b held holds status
+
+-- and how that fails
+abbrev pub RefusesBytes : Bool → Bool → Bool → Manner → Refusal
+RefusesBytes true loose hex m b held holds fault = (to : Left) × CaptureFails every_line (Some b) to held holds fault
+RefusesBytes false loose hex m b held holds fault = RefusesText loose hex m b held holds fault
+
+-- all was read, at most what a file can have, and what it is taken for was told
 abbrev pub Explained : Bool → Bool → Manner → Left → Left → Held → Held → ℕ → Type 0
-Explained loose hex m = Told FILE_LIMIT (ReportsText loose hex m)
+Explained loose hex m from to held holds status =
+    Succeeds FILE_LIMIT (λ b held holds. DoesWithBytes (is_recording loose hex b) loose hex m b held holds status) from to held holds
 
 -- how `explain` fails
 abbrev pub ExplainFails : Bool → Bool → Manner → Left → Left → Held → Held → ToolFault → Type 0
-ExplainFails loose hex m = Fails FILE_LIMIT (RefusesText loose hex m)
+ExplainFails loose hex m = Fails FILE_LIMIT (λ b. RefusesBytes (is_recording loose hex b) loose hex m b)
 
 -- no set, file or dump is hexadecimal text
 abbrev pub NoInputIsHexadecimal : Type 0

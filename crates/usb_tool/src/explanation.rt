@@ -6,12 +6,13 @@ ghost use Rattle.usb_text.specs.Output.{AppendsLess};
 ghost use Rattle.usb_hex.specs.Stops.{stop_line};
 ghost use Rattle.usb_explain.specs.Fragments.{fragment_lines};
 ghost use Rattle.usb_tool.specs.Endings.{Writes};
-ghost use Rattle.usb_tool.specs.Explains.{ExplainFails, Explained, NoInputIsHexadecimal, RefusesAs, RefusesText, RefusesToExplain, ReportsAs, ReportsExplanation, ReportsFragment, ReportsText, WritesAfter, WritesExplained, decoded_manner, hexadecimal_words};
+ghost use Rattle.usb_tool.specs.Explains.{ExplainFails, DoesWithBytes, Explained, NoInputIsHexadecimal, RefusesAs, RefusesBytes, RefusesText, RefusesToExplain, ReportsAs, ReportsExplanation, ReportsFragment, ReportsText, WritesAfter, WritesExplained, decoded_manner, hexadecimal_words, is_recording};
 ghost use Rattle.usb_tool.specs.inside.Telling.{CutsExplained, CutsFragment};
 
 use crate::fault::ToolFault;
 use crate::input::read_all;
 use crate::output::finish;
+use crate::recorded::{is_recording, tell_recording};
 use std::alloc::{AllocError, Global};
 use std::io::{Read, Write};
 use usb_explain::{Manner, explain, explain_fragment};
@@ -23,6 +24,8 @@ use usb_text::{OutFault, Text, put_count, write_all};
 /// Reads the input to its end, and writes what its descriptors mean, in words. The input is one configuration set, a
 /// descriptor file or a dump, as that of [`run_show`](crate::run_show) is, or the hexadecimal text of one, which the first
 /// line then says; `hex` demands that. Of a text that is none the first line says what stopped it. The number in `Ok` is 0, whatever is found.
+/// What begins as a recording does is told as [`run_capture`](crate::run_capture) tells it without options, with its number, unless
+/// `hex` demands a text.
 ///
 /// ```rust
 /// let mut input: &[u8] = &[9, 2, 9, 0, 0, 1, 0, 0x80, 0x32];
@@ -42,7 +45,7 @@ use usb_text::{OutFault, Text, put_count, write_all};
 /// `Set` with the fault of the whole input, and `Trailing` where it goes on after the set; else `File` with the
 /// fault of a file. What is before the fault is explained then. `Write` where the writer or its flush failed; a prefix
 /// of the text is written then, and may be all of it. `Memory` when out of memory; at least the last byte of the text is
-/// not written then.
+/// not written then. Of a recording those of [`run_capture`](crate::run_capture).
 pub fn run_explain<R: Read, W: Write>(
     alloc: Global,
     r: &mut R,
@@ -99,7 +102,25 @@ pub(crate) fn explain_as<R: Read, W: Write>(
     ensures err { IfErr result (ExplainFails loose hex manner (R.remaining r.old) (R.remaining r.new) (W.contents w.old) (W.contents w.new)) }
 {
     let bytes = read_all(alloc, r, FILE_LIMIT)?;
-    explain_text(alloc, &bytes, w, manner, hex, loose)
+    explain_all(alloc, &bytes, w, manner, hex, loose)
+}
+
+/// Tells of the recording that the bytes are, or explains them.
+fn explain_all<W: Write>(
+    alloc: Global,
+    bytes: &[u8],
+    w: &mut W,
+    manner: Manner,
+    hex: bool,
+    loose: bool,
+) -> Result<u8, ToolFault>
+    ensures done { IfOk result (DoesWithBytes (is_recording loose hex bytes.now) loose hex manner bytes.now (W.contents w.old) (W.contents w.new)) }
+    ensures err { IfErr result (RefusesBytes (is_recording loose hex bytes.now) loose hex manner bytes.now (W.contents w.old) (W.contents w.new)) }
+{
+    match is_recording(bytes, hex, loose) {
+        true => tell_recording(alloc, bytes, w),
+        false => explain_text(alloc, bytes, w, manner, hex, loose),
+    }
 }
 
 /// Writes the explanation of the bytes, or of those of which they are the hexadecimal text.

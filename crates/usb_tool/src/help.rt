@@ -158,6 +158,7 @@ Input:
   explained up to its fault.
   Or hexadecimal text, which no such input is: digits alone or as 0x09 and \\x09, with white
   space and commas, or as xxd, 'hexdump -C' and Wireshark write it. The first line says so.
+  Or a recording, of which it writes what 'capture' does, with its exit status.
   With '--loose' a fragment: descriptors one after another, of which no owner is asked for, as
   an interface with its endpoints, or a setup packet, which has eight bytes.
 

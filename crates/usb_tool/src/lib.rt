@@ -8,7 +8,8 @@
 //! (`specs/Commands.antt`). [`run_show_any`] and [`run_check_any`] take a set alone, a file or a dump, and
 //! [`run_build_commented`] a listing with comments. [`run_check_remarks`] writes remarks too (`specs/RemarkChecks.antt`).
 //! [`run_explain`] writes what the descriptors of any of these inputs
-//! mean, in words, also where it is the hexadecimal text of one (`specs/Explains.antt`). [`run_hex`] shows or checks the bytes
+//! mean, in words, also where it is the hexadecimal text of one, and what [`run_capture`] tells of a recording
+//! (`specs/Explains.antt`). [`run_hex`] shows or checks the bytes
 //! of such a text (`specs/HexInputs.antt`), and [`run_build_hex`] writes one (`specs/HexOutputs.antt`).
 //! [`run_capture`] tells of a recording of a bus, which may have any length, or writes the descriptors of one of its devices
 //! (`specs/Captures.antt`), by the options that [`capture_command`] reads (`specs/CaptureOptions.antt`).
@@ -63,6 +64,7 @@ mod meaning;
 mod numbers;
 mod output;
 mod program;
+mod recorded;
 mod reporting;
 mod result_line;
 mod settings;

@@ -5,12 +5,13 @@ from .. import Fault, explain, from_text
 
 # By how the words of `explain` go on after "the bytes begin as": what gets at the descriptors.
 _HINTS = {
-    "a pcap": "Wireshark copies a descriptor as a hex dump, which is taken",
     "an ELF": "objcopy -O binary -j SECTION writes the bytes of a section",
     "a gzip": "gunzip writes what it holds",
     "a record of Intel HEX": "objcopy -I ihex -O binary writes its bytes",
 }
 _BEGINS, _TEXT = "the bytes begin as ", "this is text"
+# The first bytes of pcap, of either byte order and clock, and of pcapng.
+_RECORDINGS = tuple(map(bytes.fromhex, ("a1b2c3d4", "d4c3b2a1", "a1b23c4d", "4d3cb2a1", "0a0d0d0a")))
 
 
 def lines_of(data: bytes) -> list[str]:
@@ -23,6 +24,8 @@ def lines_of(data: bytes) -> list[str]:
 
 def why(data: bytes, fault: Fault) -> str:
     """Why these bytes are none, in one line."""
+    if data.startswith(_RECORDINGS):
+        return "this is a recording; usbdesc explains it, and Wireshark copies a descriptor as a hex dump, which is taken"
     first, *looks = lines_of(data) or [str(fault)]
     if not looks:
         return first
