@@ -1,8 +1,9 @@
 """What tshark, the program and the second reading say of a recording: how many frames it has, and of each request the device, the
 bytes of the setup packet and how it ended.
 
-tshark dissects the setup packet of a header of usbmon that is a byte short, and calls the frame malformed; by the kernel's document
-there is none. Of packets it says which device each is of, but not which transfer is over: compared is where STALL came.
+tshark takes a setup packet where there is none by the documents: of a header of usbmon that is a byte short, in a frame that it calls
+malformed, and of one of USBPcap that is said to have less than 27 bytes, which it doesn't look at. Of packets it says which device each
+is of, but not which transfer is over: compared is where STALL came.
 """
 
 import re
@@ -26,8 +27,8 @@ class Frame:
         self.fields = {}
         for it in packet.iter("field"):
             self.fields.setdefault(it.get("name") or it.get("show"), (it.get("show"), it.get("value")))
-        is_malformed = any(it.get("name") == "_ws.malformed" for it in packet.iter("proto"))
-        self.setup = None if is_malformed else self.value("Setup Data")
+        is_short = any(it.get("name") == "_ws.malformed" for it in packet.iter("proto")) or int(self.shown("usb.usbpcap_header_len") or 27) < 27
+        self.setup = None if is_short else self.value("Setup Data")
 
     def shown(self, name):
         return self.fields.get(name, ("", ""))[0]
