@@ -197,6 +197,17 @@ def packets():
     yield "`write`, then `parse`", [a_byte("packet-read", LONGEST, 100, 1100, 1.2)]
 
 
+def recordings():
+    def told(name):
+        return [a_byte("capture", f"{EXAMPLES}/captures/{name}", 20, 120)]
+
+    yield "enumeration, usbmon by tcpdump", told("linux-gadget-acm.pcap")
+    yield "the same, usbmon's text", told("linux-gadget-acm.text")
+    yield "a disk, usbmon by QEMU", told("qemu-usb-storage.pcap")
+    yield "enumeration, packets", told("right-packets.pcap")
+    yield "packets with findings", told("wrong-packets.pcap")
+
+
 def hexadecimal():
     for form in ("array", "hexdump", "wireshark", "xxd"):
         yield f"keyboard, {form}", [a_byte("hexadecimal", f"{KEYBOARD}.{form}", 100, 1100)]
@@ -213,6 +224,7 @@ def tables():
     yield Table("walk", "Input", ["`nzg_next`"], list(walks()))
     yield Table("explanations", "Input", ["`explain`"], list(explanations()))
     yield Table("packets", "Work", ["1,024 bytes of data"], list(packets()))
+    yield Table("recordings", "Recording", ["`capture`"], list(recordings()))
     yield Table("hexadecimal", "Text", ["`parse`"], list(hexadecimal()))
 
 
