@@ -235,6 +235,15 @@ def moved():
     ]
 
 
+def misplaced():
+    """What wrong devices with packets do: ACK of data whose CRC is wrong, of a token whose CRC is, of a token before its data and of an ACK; and
+    the next data packet after an ACK that is damaged."""
+    setup, data = token("Setup", 0), sent("Data0", SETUP)
+    again = [token("In", 7), sent("Data1", DEVICE[:8]), packets.changed(ACK, [4]), token("In", 7), sent("Data0", DEVICE[8:16]), ACK]
+    whole = read(0, SETUP.hex(), DEVICE)
+    return [setup, packets.changed(data, [9]), ACK, packets.changed(setup, [20]), data, ACK, setup, ACK, data, *whole[:6], ACK, *whole[6:], *asked(7, SETUP.hex()), *again, FRAME]
+
+
 def captured(order, link, frames):
     """A record each, of which the second is earlier than the first."""
     times = [8, 7, *range(9, 7 + len(frames))]
@@ -274,6 +283,7 @@ FILES = {
     "right-packets.pcap": heard(294, right()),
     "wrong-packets.pcap": heard(288, wrong()),
     "in-turn.pcap": heard(288, in_turn()),
+    "misplaced-packets.pcap": heard(288, misplaced()),
     "links.pcapng": (links(), None),
     "short.text": (TEXT, None),
     "short-189.pcap": captured(">", 189, short_of_linux(">", 48)),
