@@ -47,7 +47,11 @@ impl Transfer {
 
     /// Whether bytes of the descriptor came that was asked for.
     fn gives(&self) -> bool {
-        self.is_get_descriptor() && self.ending == Ending::Done && !self.is_cut && self.data.len() > 1 && self.data[1] == self.setup[3]
+        self.is_get_descriptor()
+            && self.ending == Ending::Done
+            && !self.is_cut
+            && self.data.len() > 1
+            && self.data[1] == self.setup[3]
     }
 
     /// Whether all of it came.
@@ -57,7 +61,11 @@ impl Transfer {
 
     fn full_length(&self) -> usize {
         let is_set = matches!(self.setup[3], 2 | 7);
-        if is_set { usize::from(byte(&self.data, 2)) | usize::from(byte(&self.data, 3)) << 8 } else { byte(&self.data, 0).into() }
+        if is_set {
+            usize::from(byte(&self.data, 2)) | usize::from(byte(&self.data, 3)) << 8
+        } else {
+            byte(&self.data, 0).into()
+        }
     }
 }
 
@@ -114,7 +122,8 @@ impl Conversations {
     }
 
     fn findings(&self, it: &Transfer) -> u16 {
-        let mut found = u16::from(!matches!(it.ending, Ending::Unseen | Ending::Refused(_)) && it.length > it.asked().into());
+        let mut found =
+            u16::from(!matches!(it.ending, Ending::Unseen | Ending::Refused(_)) && it.length > it.asked().into());
         let is_status = it.setup == [0x80, 0, 0, 0, 0, 0, 2, 0] && it.device.1 > 0;
         found |= u16::from(it.ending == Ending::Stall && is_status) << 8;
         if !it.is_get_descriptor() {
@@ -139,7 +148,10 @@ impl Conversations {
         }
         let is_long = it.data.len() >= if matches!(kind, 2 | 7) { 4 } else { 1 };
         let is_first = kind == 1 && it.length == byte(&it.data, 7).into();
-        let is_other = matches!(kind, 1 | 2 | 3 | 6 | 7) && is_long && it.length as usize != it.full_length().min(it.asked().into()) && !is_first;
+        let is_other = matches!(kind, 1 | 2 | 3 | 6 | 7)
+            && is_long
+            && it.length as usize != it.full_length().min(it.asked().into())
+            && !is_first;
         let differs = it.data.iter().zip(before).any(|(one, other)| one != other);
         u16::from(is_other) << 2 | u16::from(differs) << 3
     }
@@ -148,7 +160,8 @@ impl Conversations {
         let (value, index, kind, at) = (it.value(), it.index(), it.setup[3], it.setup[2]);
         let said = |value| self.of(it.device, value, 0);
         let is_required = matches!(value, 0x100 | 0x200) && index == 0;
-        let is_counted = index == 0 && (kind == 2 && at > 0 && at < byte(said(0x100), 17) || kind == 7 && at < byte(said(0x600), 8));
+        let is_counted =
+            index == 0 && (kind == 2 && at > 0 && at < byte(said(0x100), 17) || kind == 7 && at < byte(said(0x600), 8));
         let is_named = if value == 0x300 {
             index == 0 && (14..17).any(|at| byte(said(0x100), at) > 0)
         } else {

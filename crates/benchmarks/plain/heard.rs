@@ -168,7 +168,8 @@ impl Going {
 
     fn takes(&mut self, it: &Transaction) {
         let Some((kind, bytes)) = &it.data else { return };
-        let is_of_data = (it.token == Token::In && self.reads()) || (it.token == Token::Out && !self.reads() && it.is_accepted());
+        let is_of_data =
+            (it.token == Token::In && self.reads()) || (it.token == Token::Out && !self.reads() && it.is_accepted());
         if is_of_data && *kind == self.toggle {
             self.toggle ^= DATA0 ^ DATA1;
             self.transfer.length += bytes.len() as u32;
@@ -199,7 +200,9 @@ impl Bus {
     pub fn take(&mut self, place: Place, packet: Option<&Packet>) -> Option<Transaction> {
         match (packet, &mut self.current) {
             (Some(Packet::Pre), _) => return None,
-            (Some(Packet::Data(pid, data)), Some(current)) if current.token != Token::Ping && current.data.is_none() => {
+            (Some(Packet::Data(pid, data)), Some(current))
+                if current.token != Token::Ping && current.data.is_none() =>
+            {
                 current.data = Some((*pid, data.to_vec()));
                 return None;
             }
@@ -230,7 +233,9 @@ impl Bus {
         let is_request = it.request().is_some();
         let going = self.going(it.address).filter(|_| !is_request).map(|at| &self.open[at]);
         let size = if it.address == 0 { 0 } else { usize::from(self.sizes[usize::from(it.address)]) };
-        let is_long = matches!(it.token, Token::In | Token::Out) && size > 0 && it.data.as_ref().is_some_and(|(_, bytes)| bytes.len() > size);
+        let is_long = matches!(it.token, Token::In | Token::Out)
+            && size > 0
+            && it.data.as_ref().is_some_and(|(_, bytes)| bytes.len() > size);
         let is_early = going.is_some_and(|going| {
             let is_short = going.reads() && going.transfer.length < going.transfer.asked().into();
             is_short && size > 0 && size <= going.last && it.handshake != Some(STALL) && going.is_status(it)

@@ -144,7 +144,15 @@ impl Recording {
             }
             let (time, length) = (frame.time, event.length);
             let data = event.data.to_vec();
-            let it = Transfer { device: event.device, time, setup, data, length, is_cut: frame.is_cut, ending: Ending::Unseen };
+            let it = Transfer {
+                device: event.device,
+                time,
+                setup,
+                data,
+                length,
+                is_cut: frame.is_cut,
+                ending: Ending::Unseen,
+            };
             self.open.push((event.id, it));
         } else if let Some(mut it) = earlier {
             it.data.extend_from_slice(event.data);
