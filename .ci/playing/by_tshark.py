@@ -2,8 +2,8 @@
 bytes of the setup packet and how it ended.
 
 tshark takes a setup packet where there is none by the documents: of a header of usbmon that is a byte short, in a frame that it calls
-malformed, and of one of USBPcap that is said to have less than 27 bytes, which it doesn't look at. Of packets it says which device each
-is of, but not which transfer is over: compared is where STALL came.
+malformed; of one of USBPcap that is said to have less than 27 bytes, which it doesn't look at; and after a SETUP whose CRC it calls
+wrong (USB 2.0, 8.7.1). Of packets it says which device each is of, but not which transfer is over: compared is where STALL came.
 """
 
 import re
@@ -49,7 +49,7 @@ class Requests:
     """The requests of frames that come one after another."""
 
     def __init__(self):
-        self.count, self.over, self.waiting = 0, [], {}
+        self.count, self.over, self.waiting, self.is_damaged = 0, [], {}, False
 
     def take(self, frame):
         self.count += 1
@@ -66,7 +66,8 @@ class Requests:
             self.finish(number, end)
 
     def take_packet(self, frame):
-        if frame.setup:
+        was_damaged, self.is_damaged = self.is_damaged, frame.shown("usbll.crc5.status") == "0"
+        if frame.setup and not was_damaged:
             address = frame.shown("usbll.dst").partition(".")[0]
             self.begin(address, f"0.{address}", frame.setup)
         elif frame.value("usbll.pid") == STALL:
