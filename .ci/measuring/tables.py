@@ -238,6 +238,8 @@ REASONS = [
         "checks",
         "A pass over the settings enters all interfaces before the rules are checked in the order of the bytes: 26 of 55 instructions a setting. A small file takes 105 to fill its tables with zeros. A table of 256 bytes less gains nothing.",
     ),
+    ("recordings, the same, usbmon's text", "Each word is looked for from the start of its line: that takes 170 of 406."),
+    ("recordings", "The reader takes some 500 instructions a frame, what observes and writes its lines 450. Nothing was tried yet."),
     ("transactions, status stage of a header", "The next set's decoder is filled with 380 zeros, and what was read is moved through memory."),
 ]
 
