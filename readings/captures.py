@@ -204,6 +204,52 @@ def links():
         enhanced("<", number, 10 * place, len(body), body) for place, (number, body) in enumerate(frames))
 
 
+SETUP = bytes.fromhex("8006000100001200")
+
+
+def short_of_linux(order, header):
+    """A transfer that usbmon saw with either of its headers, and one that is refused, each a frame that comes and one that goes."""
+    events = [("S", SETUP, -115, b""), ("C", None, 0, DEVICE), ("S", SETUP[:3] + b"\2" + SETUP[4:], -115, b""), ("C", None, -32, b"")]
+    frames = [monitored(order, letter, 5, setup, status, data, 18) for letter, setup, status, data in events]
+    return [frame[:header] + frame[64:] for frame in frames]
+
+
+def short_of_windows():
+    """One by USBPcap, with the frame of each stage; then a header that is a byte short, and one that says so."""
+    frames = [of_windows(0, 6, 0, 0, SETUP), of_windows(1, 6, 1, 0, DEVICE), of_windows(2, 6, 0, 0, b""), of_windows(3, 6, 1, 0, b"")]
+    return [*frames, of_windows(0, 6, 0, 0, SETUP)[:27], b"\x1a" + of_windows(0, 6, 0, 0, SETUP)[1:]]
+
+
+def short_of_sections(frames):
+    """The same frame type in two sections, one of either order, by interfaces in nanoseconds, where the second is earlier."""
+    clock = [option(order, 9, b"\x09") + option(order, 0, b"") for order in "<>"]
+    head, tail = (section(order) + interface(order, 288, 0, clock[place]) for place, order in enumerate("<>"))
+    return b"".join((head, *(enhanced("<", 0, 2000 + place, len(it), it) for place, it in enumerate(frames[:5])), tail, *(enhanced(">", 0, 1000, len(it), it) for it in frames[5:])))
+
+
+def moved():
+    """A device that is given another address while it has one, and refuses at both what it has."""
+    return [
+        *read(7, "8006000100001200", DEVICE), *ordered(7, "0005090000000000"), *read(9, "8006000200001900", SET), *refused(9, "8006000100001200"),
+        *refused(9, "8006000200001900"), token("In", 7), FRAME,
+    ]
+
+
+def misplaced():
+    """What wrong devices with packets do: ACK of data whose CRC is wrong, of a token whose CRC is, of a token before its data and of an ACK; and
+    the next data packet after an ACK that is damaged."""
+    setup, data = token("Setup", 0), sent("Data0", SETUP)
+    again = [token("In", 7), sent("Data1", DEVICE[:8]), packets.changed(ACK, [4]), token("In", 7), sent("Data0", DEVICE[8:16]), ACK]
+    whole = read(0, SETUP.hex(), DEVICE)
+    return [setup, packets.changed(data, [9]), ACK, packets.changed(setup, [20]), data, ACK, setup, ACK, data, *whole[:6], ACK, *whole[6:], *asked(7, SETUP.hex()), *again, FRAME]
+
+
+def captured(order, link, frames):
+    """A record each, of which the second is earlier than the first."""
+    times = [8, 7, *range(9, 7 + len(frames))]
+    return pcap(order, 0xA1B2C3D4, link, [(9, time, len(it), it) for time, it in zip(times, frames)]), [(f"9.{time:06}000", len(it), len(it), 0) for time, it in zip(times, frames)]
+
+
 TEXT = b"""ffff8801 2000000 S Ci:1:000:0 s 80 06 0100 0000 0040 64 <
 ffff8801 2000250 C Ci:1:000:0 0 18 = 12010002 00000008 34127856 00010102 0001
 ffff8801 1999000 S Co:1:000:0 s 00 05 0007 0000 0000 0
@@ -237,8 +283,15 @@ FILES = {
     "right-packets.pcap": heard(294, right()),
     "wrong-packets.pcap": heard(288, wrong()),
     "in-turn.pcap": heard(288, in_turn()),
+    "misplaced-packets.pcap": heard(288, misplaced()),
     "links.pcapng": (links(), None),
     "short.text": (TEXT, None),
+    "short-189.pcap": captured(">", 189, short_of_linux(">", 48)),
+    "short-220.pcap": captured("<", 220, short_of_linux("<", 64)),
+    "short-249.pcap": captured("<", 249, short_of_windows()),
+    "short-288.pcapng": (short_of_sections(read(5, "8006000100000800", DEVICE[:8])), None),
+    "short-293.pcap": captured(">", 293, read(5, "8006000100000800", DEVICE[:8])),
+    "other-address.pcap": heard(294, moved()),
 }
 
 

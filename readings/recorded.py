@@ -1,12 +1,10 @@
 """What `usbdesc capture` has to say of recordings, read once more from the formats' documents. It shares no code with the crates.
 
-    recorded FILE..           writes FILE's lines to FILE.said, and with bytes to FILE.bytes
-    recorded --compare FILE.. asks tshark for the number of frames, the requests and their statuses, and says where it differs
+    recorded FILE..    writes FILE's lines to FILE.said, and with bytes to FILE.bytes
 """
 
 import re
 import struct
-import subprocess
 import sys
 
 from readings import packets
@@ -653,24 +651,7 @@ def said(data, with_data=True, brief=False, device=None, times=(None, None)):
             yield f"no device    {counted(count, 'finding')}" if one is None else device_line(one, kept, count)
 
 
-def compare(path):
-    """Where tshark reads other control transfers of link types 189, 220 and 249."""
-    fields = ["frame.number", "usb.urb_type", "usb.bmRequestType", "usb.setup.bRequest", "usb.urb_status", "usb.transfer_type", "usb.endpoint_address"]
-    words = ["tshark", "-r", path, "-T", "fields", *(word for field in fields for word in ("-e", field))]
-    rows = [line.split("\t") for line in subprocess.run(words, capture_output=True, check=True).stdout.decode().splitlines()]
-    with open(path, "rb") as file:
-        recording = Recording(file.read())
-    asked = sum(1 for row in rows if row[2] and int(row[6] or "0", 16) & 0x7F == 0)
-    mine = len(recording.over) + len(recording.open)
-    if len(rows) != recording.count or asked != mine:
-        print(f"{path}: tshark has {len(rows)} frames and {asked} requests, and not {recording.count} and {mine}")
-        return 1
-    return 0
-
-
 if __name__ == "__main__":
-    if sys.argv[1:2] == ["--compare"]:
-        sys.exit(max(map(compare, sys.argv[2:])))
     for name in sys.argv[1:]:
         with open(name, "rb") as read:
             data = read.read()

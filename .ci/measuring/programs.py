@@ -13,7 +13,7 @@ import unproved  # noqa: E402
 from measuring import lowering  # noqa: E402
 
 FOLDER = "crates/benchmarks"
-LINE = "benchmarks: usb_explain usb_hex usb_bus usb_host usb_device usb_fields usb_wire usb_file usb_set anyhow"
+LINE = "benchmarks: usb_capture_lines usb_explain usb_hex usb_bus usb_host usb_device usb_fields usb_wire usb_file usb_set anyhow"
 # As the proved program is built: one module for all, and for the same processor.
 FLAGS = ["--edition", "2024", "-O", "-C", "codegen-units=1", "-C", f"target-cpu={lowering.CPU}"]
 

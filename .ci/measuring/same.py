@@ -15,10 +15,12 @@ OWN = [["decode"], ["describe"], ["hexadecimal"]]
 
 
 def is_taken(run):
-    """Whether plain Rust takes a run: it explains whole inputs alone, and no text that has their digits and no recording."""
+    """Whether plain Rust takes a run: it explains whole inputs alone, and no text that has their digits and no recording, and tells of
+    recordings without a fault, of which it writes nothing."""
     is_whole = run.status == 0 and run.output and not run.output.startswith(b"hexadecimal text") and not begins(run.data)
     is_explained = run.words == ["explain"] and is_whole
-    return run.read is None and not run.terminal and (is_explained or run.words in COMMANDS or run.words[:1] in OWN)
+    is_told = run.words == ["capture"] and run.status != 3
+    return run.read is None and not run.terminal and (is_explained or is_told or run.words in COMMANDS or run.words[:1] in OWN)
 
 
 def wanted_runs():

@@ -197,6 +197,17 @@ def packets():
     yield "`write`, then `parse`", [a_byte("packet-read", LONGEST, 100, 1100, 1.2)]
 
 
+def recordings():
+    def told(name):
+        return [a_byte("capture", f"{EXAMPLES}/captures/{name}", 20, 120)]
+
+    yield "enumeration, usbmon by tcpdump", told("linux-gadget-acm.pcap")
+    yield "the same, usbmon's text", told("linux-gadget-acm.text")
+    yield "a disk, usbmon by QEMU", told("qemu-usb-storage.pcap")
+    yield "enumeration, packets", told("right-packets.pcap")
+    yield "packets with findings", told("wrong-packets.pcap")
+
+
 def hexadecimal():
     for form in ("array", "hexdump", "wireshark", "xxd"):
         yield f"keyboard, {form}", [a_byte("hexadecimal", f"{KEYBOARD}.{form}", 100, 1100)]
@@ -213,6 +224,7 @@ def tables():
     yield Table("walk", "Input", ["`nzg_next`"], list(walks()))
     yield Table("explanations", "Input", ["`explain`"], list(explanations()))
     yield Table("packets", "Work", ["1,024 bytes of data"], list(packets()))
+    yield Table("recordings", "Recording", ["`capture`"], list(recordings()))
     yield Table("hexadecimal", "Text", ["`parse`"], list(hexadecimal()))
 
 
@@ -226,6 +238,8 @@ REASONS = [
         "checks",
         "A pass over the settings enters all interfaces before the rules are checked in the order of the bytes: 26 of 55 instructions a setting. A small file takes 105 to fill its tables with zeros. A table of 256 bytes less gains nothing.",
     ),
+    ("recordings, the same, usbmon's text", "Each word is looked for from the start of its line: that takes 170 of 406."),
+    ("recordings", "The reader takes some 500 instructions a frame, what observes and writes its lines 450. Nothing was tried yet."),
     ("transactions, status stage of a header", "The next set's decoder is filled with 380 zeros, and what was read is moved through memory."),
 ]
 

@@ -2,20 +2,24 @@
 //! `.ci/benchmarks`. Out of memory it ends, as plain Rust does.
 //!
 //! The words are the count of rounds, the name of a work, and perhaps of how many copies of a set it is; or one of
-//! `show`, `check`, `build`, `explain`, `enumerate`, `enumerate --speed SPEED`, `decode`, `describe`, `hexadecimal` and `walk`,
+//! `show`, `check`, `build`, `explain`, `enumerate`, `enumerate --speed SPEED`, `decode`, `describe`, `hexadecimal`, `capture` and `walk`,
 //! which write what comes of it. The input is standard input.
 
 mod assembly;
 mod bus;
+mod conversation;
 mod device;
 mod explain;
 mod file;
+mod frames;
+mod heard;
 mod hexadecimal;
 mod host;
 mod listing;
 mod names;
 mod numbers;
 mod packet;
+mod recording;
 mod rules;
 mod set;
 mod speed;
@@ -128,6 +132,11 @@ fn walk(input: &[u8]) -> Written {
     Ok((format!("{count} descriptors, sum {sum:x}\n").into_bytes(), 0))
 }
 
+fn capture(input: &[u8]) -> Written {
+    let told = recording::tell(input, works::PIECE).map_err(|(why, at)| format!("capture fault {why} at {at}"))?;
+    Ok((told.0, told.1.into()))
+}
+
 fn measure(rounds: &str, name: &str, copies: &str, input: &[u8]) -> Written {
     let number = |word: &str| word.parse().map_err(|_| format!("no number {word}"));
     let count = works::run(name, input, number(copies)?, number(rounds)?)?;
@@ -147,6 +156,7 @@ fn write(words: &[&str], input: &[u8]) -> Written {
         ["describe"] => describe(input),
         ["hexadecimal"] => hexadecimal(input),
         ["walk"] => walk(input),
+        ["capture"] => capture(input),
         [rounds, name] => measure(rounds, name, "1", input),
         [rounds, name, copies] => measure(rounds, name, copies, input),
         _ => Err("no such words".into()),

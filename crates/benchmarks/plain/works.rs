@@ -9,10 +9,14 @@ use crate::hexadecimal;
 use crate::host::{Action, Heard, Host, Limits, Transfer, Write};
 use crate::listing::{list, list_set};
 use crate::packet;
+use crate::recording::tell;
 use crate::rules::check;
 use crate::set::{CONFIGURATION, Configuration, Decoder, OTHER_SPEED, SetFault, encode, read_set};
 use crate::walk;
 use std::hint::black_box;
+
+/// How many bytes of a recording are read at once.
+pub const PIECE: usize = 4096;
 
 type Result<T> = std::result::Result<T, String>;
 
@@ -77,6 +81,7 @@ pub fn run(name: &str, input: &[u8], copies: u32, rounds: u32) -> Result<usize> 
             })
         }
         "hexadecimal" => again(rounds, || black_box(hexadecimal::read(input)).map_or(0, |_| input.len())),
+        "capture" => again(rounds, || black_box(tell(input, PIECE)).map_or(0, |_| input.len())),
         "crc" => crc_again(input, rounds),
         "packet-written" => write_packets(input, false, rounds),
         "packet-read" => write_packets(input, true, rounds),

@@ -21,7 +21,7 @@ pub enum PacketFinding {
     SetupRefused,
     /// The toggle of a data packet is neither that of the next one nor that of one that may come again (8.5.3, 8.6).
     Toggle,
-    /// A data packet has more bytes than the device has said in bMaxPacketSize0 (8.5.3, 9.6.1).
+    /// A data packet has more bytes than the device has said in bMaxPacketSize0 (5.5.3, 9.6.1).
     Long,
     /// The status stage comes after fewer bytes than were asked for and a whole packet, where a shorter or an empty one has to come
     /// first (5.5.3, 8.5.3.2).

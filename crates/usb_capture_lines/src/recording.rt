@@ -43,7 +43,8 @@ pub enum DeviceFault {
 }
 
 /// Reads a recording to its end, and writes its lines as its bytes come. At last the writer is flushed. It answers whether
-/// something was found in the transfers of a device whose lines are wanted.
+/// something was found in the transfers and packets of a device whose lines are wanted; where those of all are, also in packets
+/// of none that is known.
 ///
 /// # Errors
 ///
