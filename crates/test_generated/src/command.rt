@@ -7,8 +7,8 @@ use usb_bus::Fate;
 use usb_fields::Speed;
 use usb_host::{Choice, Limits, NamedStrings};
 use usb_tool::{
-    EnumerateFlags, Look, Manner, Settings, ToolFault, run_build, run_build_commented, run_check,
-    run_check_any, run_enumerate, run_enumerate_with, run_explain, run_show, run_show_any,
+    EnumerateFlags, Enumeration, Look, Manner, Settings, ToolFault, run_build, run_build_commented,
+    run_check, run_check_any, run_enumerate, run_enumeration, run_explain, run_show, run_show_any,
 };
 
 /// How an input is explained.
@@ -134,8 +134,8 @@ impl Command {
             Command::Build => run_build(alloc, r, w),
             Command::BuildCommented => run_build_commented(alloc, r, w),
             Command::Enumerate => run_enumerate(alloc, r, w, limits, speed, fates),
-            Command::Log => run_enumerate_with(alloc, r, w, limits, speed, fates, LOGGED),
-            Command::Brief => run_enumerate_with(alloc, r, w, limits, speed, fates, BRIEF),
+            Command::Log => run_logged(alloc, r, w, settings, LOGGED),
+            Command::Brief => run_logged(alloc, r, w, settings, BRIEF),
         }
     }
 
@@ -152,4 +152,22 @@ impl Command {
         tally.add(self.word(), &answer)?;
         Ok(answer.output)
     }
+}
+
+/// Enumerates with these flags.
+fn run_logged<R: Read, W: Write>(
+    alloc: Global,
+    r: &mut R,
+    w: &mut W,
+    settings: &Settings,
+    flags: EnumerateFlags,
+) -> Result<u8, ToolFault> {
+    let enumeration = Enumeration {
+        limits: settings.limits,
+        speed: settings.speed,
+        fates: &settings.fates,
+        changes: &[],
+        flags,
+    };
+    run_enumeration(alloc, r, w, &enumeration).map(|end| end.status())
 }

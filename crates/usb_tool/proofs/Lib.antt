@@ -1,7 +1,7 @@
 pub mod Reading
 pub mod Intakes
 pub mod Refusals
-pub mod Taken
+pub mod Inputs
 pub mod Running
 pub mod Telling
 pub mod Written
@@ -11,5 +11,6 @@ pub mod LineLemmas
 pub mod NumberLemmas
 pub mod Hexadecimal
 pub mod Explained
-pub mod Remarking
+pub mod Works
+pub mod Builds
 pub mod PointLemmas

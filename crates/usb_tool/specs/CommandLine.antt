@@ -1,5 +1,5 @@
 -- What the words of a command line ask for.
-use Rattle.std.specs.Prelude.{◌≡◌, ◌≢◌, ◌&&◌, not, is_some, ℕ, List, [], ◌∷◌, ◌++◌, Bool, true, false, Option, Some, None, IfSome, codes, fold, map, option_map, pos, String, string_bytes}
+use Rattle.std.specs.Prelude.{◌≡◌, ◌||◌, is_some, ℕ, List, [], ◌∷◌, ◌++◌, Bool, true, false, Option, Some, None, IfSome, codes, fold, map, option_map, pos, String, string_bytes}
 use Rattle.std.specs.Str.{bytes_eq}
 use Rattle.std.specs.Borrow.{Bor}
 use Rattle.std.specs.Global.{Global}
@@ -7,14 +7,18 @@ use Rattle.clap.specs.Words.{App, Row, Rule, Text, first_of, new_app, new_rule, 
 use Rattle.clap.specs.declared.builder.action.ArgAction.TheVariants as actions
 use Rattle.clap.specs.declared.builder.value_parser.ValueParser.TheVariants as parsers
 use Rattle.usb_host.specs.Terms.{everything}
+use Rattle.usb_tool.specs.Builds.{no_building}
+use Rattle.usb_tool.specs.declared.building.Building.{Building}
 use Rattle.usb_tool.specs.declared.capturing.Capturing.{Capturing}
 use Rattle.usb_tool.specs.declared.checking.Checking.{Checking}
 use Rattle.usb_tool.specs.declared.choosing.Choosing.{Choosing}
+use Rattle.usb_tool.specs.declared.enumerating.Enumerating.{Enumerating}
 use Rattle.usb_tool.specs.declared.manner.Explaining.{Explaining}
 use Rattle.usb_tool.specs.declared.command_line.Line.{Line}
 use Rattle.usb_tool.specs.declared.command_line.Line.TheVariants as lines
 use Rattle.usb_tool.specs.declared.settings.EnumerateFlags.{EnumerateFlags}
 use Rattle.usb_tool.specs.declared.settings.Options.{Options}
+use Rattle.usb_tool.specs.declared.showing.Showing.{Showing}
 
 -- an option of this name, with one value
 abbrev pub valued_rule : Text → Rule
@@ -145,13 +149,14 @@ pub record IsChecking (o : Checking) (rows : List Row) : Type 0 where
   pub remarks : o.remarks ≡ gives (codes "remarks") rows
   pub speed : text_of o.speed ≡ first_of (codes "speed") rows
 
--- neither remarks nor a speed were found
-abbrev pub finds_alone : List Row → Bool
-finds_alone rows = not (gives (codes "remarks") rows) && not (is_some (first_of (codes "speed") rows))
+-- the flags of `show` and of `build` are those that were found
+pub record IsShowing (o : Showing) (rows : List Row) : Type 0 where
+  pub any : o.any ≡ gives (codes "any") rows
+  pub hex : o.hex ≡ gives (codes "hex") rows
 
--- bytes are read or their hexadecimal text, and those of any input or not
-abbrev pub ReadsBy : Bool → Bool → List Row → Type 0
-ReadsBy hex any rows = (gives (codes "hex") rows ≡ hex) × (gives (codes "any") rows ≡ any)
+pub record IsBuilding (o : Building) (rows : List Row) : Type 0 where
+  pub comments : o.comments ≡ gives (codes "comments") rows
+  pub hex : o.hex ≡ gives (codes "hex") rows
 
 -- the text of each option is the one that was found for it
 pub record HasTexts (o : Options) (rows : List Row) : Type 0 where
@@ -180,38 +185,44 @@ pub record HasChoosing (o : Choosing) (rows : List Row) : Type 0 where
   pub strings : text_of o.strings ≡ first_of (codes "strings") rows
   pub other_speed : text_of o.other_speed ≡ first_of (codes "other-speed") rows
 
--- neither of them was found
-abbrev pub chooses_none : List Row → Bool
-chooses_none rows = not (is_some (first_of (codes "strings") rows)) && not (is_some (first_of (codes "other-speed") rows))
+-- the options of `enumerate` beside the texts are those that were found
+pub record IsEnumerating (o : Enumerating) (rows : List Row) : Type 0 where
+  pub flags : o.flags ≡ flags_of rows
+  pub damage : text_of o.damage ≡ first_of (codes "damage") rows
+  pub choosing : HasChoosing o.choosing rows
+
+-- one of them was given
+abbrev pub asks_more : Enumerating → Bool
+asks_more o =
+    o.flags.log || o.flags.brief || o.flags.packets || o.flags.with_strings || is_some o.damage || is_some o.choosing.strings
+    || is_some o.choosing.other_speed
+
+-- no option was given
+abbrev pub no_showing : Showing
+no_showing = record { any = false; hex = false }
+
+abbrev pub no_checking : Checking
+no_checking = record { any = false; hex = false; remarks = false; speed = None }
+
+abbrev pub no_enumerating : Enumerating
+no_enumerating = record { flags = no_flags; damage = None; choosing = record { strings = None; other_speed = None } }
 
 -- the subcommand of this name was found, and this holds of what was found for its options
 abbrev pub Finds : Text → (List Row → Type 0) → Option (Text × List Row) → Type 0
 Finds name has found = IsNamed name found × IfSome found (λ p. has p.1)
 
--- hexadecimal text is written or not, of a listing with comments or not
-abbrev pub WritesBy : Bool → Bool → List Row → Type 0
-WritesBy hex comments rows = (gives (codes "hex") rows ≡ hex) × (gives (codes "comments") rows ≡ comments)
-
 -- the line is what the subcommand that was found asks for
 abbrev pub Asks : Line → Option (Text × List Row) → Type 0
-Asks lines.Show = Finds (codes "show") (ReadsBy false false)
-Asks lines.Check = Finds (codes "check") (λ rows. (finds_alone rows ≡ true) × ReadsBy false false rows)
-Asks lines.Build = Finds (codes "build") (WritesBy false false)
-Asks (lines.Enumerate o) = Finds (codes "enumerate") (λ rows. HasTexts o rows × (flags_of rows ≡ no_flags) × (first_of (codes "damage") rows ≡ None) × (chooses_none rows ≡ true))
-Asks lines.ShowAny = Finds (codes "show") (ReadsBy false true)
-Asks lines.CheckAny = Finds (codes "check") (λ rows. (finds_alone rows ≡ true) × ReadsBy false true rows)
-Asks (lines.ShowHex any) = Finds (codes "show") (ReadsBy true any)
-Asks (lines.CheckHex any) = Finds (codes "check") (λ rows. (finds_alone rows ≡ true) × ReadsBy true any rows)
-Asks (lines.CheckRemarks o) = Finds (codes "check") (λ rows. (finds_alone rows ≡ false) × IsChecking o rows)
-Asks lines.BuildCommented = Finds (codes "build") (WritesBy false true)
-Asks (lines.BuildHex comments) = Finds (codes "build") (WritesBy true comments)
+Asks lines.Show = Finds (codes "show") (IsShowing no_showing)
+Asks lines.Check = Finds (codes "check") (IsChecking no_checking)
+Asks lines.Build = Finds (codes "build") (IsBuilding no_building)
+Asks (lines.Enumerate o) = Finds (codes "enumerate") (λ rows. HasTexts o rows × IsEnumerating no_enumerating rows)
+Asks (lines.ShowWith o) = Finds (codes "show") (λ rows. IsShowing o rows × ((o.any || o.hex) ≡ true))
+Asks (lines.CheckWith o) = Finds (codes "check") (λ rows. IsChecking o rows × ((o.any || o.hex || o.remarks || is_some o.speed) ≡ true))
+Asks (lines.BuildWith o) = Finds (codes "build") (λ rows. IsBuilding o rows × ((o.comments || o.hex) ≡ true))
+Asks (lines.EnumerateWith o others) = Finds (codes "enumerate") (λ rows. HasTexts o rows × IsEnumerating others rows × (asks_more others ≡ true))
 Asks (lines.Explain o) = Finds (codes "explain") (HasFlags o)
 Asks (lines.Capture o) = Finds (codes "capture") (HasCapturing o)
-Asks (lines.EnumerateWith o flags) = Finds (codes "enumerate") (λ rows. HasTexts o rows × (flags ≡ flags_of rows) × (flags ≢ no_flags) × (first_of (codes "damage") rows ≡ None) × (chooses_none rows ≡ true))
-Asks (lines.EnumerateDamaged o flags text) = Finds (codes "enumerate") (λ rows. HasTexts o rows × (flags ≡ flags_of rows) × (first_of (codes "damage") rows ≡ Some text.now) × (chooses_none rows ≡ true))
-Asks (lines.EnumerateChosen o flags damage choosing) =
-    Finds (codes "enumerate")
-    (λ rows. HasTexts o rows × (flags ≡ flags_of rows) × (text_of damage ≡ first_of (codes "damage") rows) × HasChoosing choosing rows × (chooses_none rows ≡ false))
 
 -- the words as clap sees them
 abbrev pub word_texts : List (String Global) → List Text

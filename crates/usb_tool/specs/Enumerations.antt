@@ -29,6 +29,7 @@ use Rattle.usb_bus.specs.Enumerate.{IsChosenEnumeration, Pair, chosen_pair}
 use Rattle.usb_bus.specs.Log.{IsLogFrom, WritesLogLessFrom}
 use Rattle.usb_bus.specs.LogOnWire.{IsWireLogFrom, WritesWireLogLessFrom}
 use Rattle.usb_tool.specs.EnumerationEnds.{end_of, end_status}
+use Rattle.usb_tool.specs.declared.enumeration.Enumeration.{Enumeration}
 use Rattle.usb_tool.specs.declared.enumeration_end.EnumerationEnd.{EnumerationEnd}
 use Rattle.usb_tool.specs.declared.enumeration_end.EnumerationEnd.TheVariants.{Refused}
 use Rattle.usb_tool.specs.Endings.{Fails, Succeeds, Left}
@@ -68,6 +69,16 @@ pub record Conditions : Type 0 where
 -- these conditions
 abbrev pub under : LimitView → Speed → List Fate → List BitChange → EnumerateFlags → Conditions
 under limits speed fates changes flags = record { limits = limits; speed = speed; fates = fates; changes = changes; flags = flags }
+
+abbrev pub conditions_of : Enumeration → Conditions
+conditions_of e = under e.limits e.speed e.fates.now e.changes.now e.flags
+
+-- of a device of this speed, and over a bus that changes no bits
+abbrev pub conditions_at : Speed → Enumeration → Conditions
+conditions_at speed e = under e.limits speed e.fates.now e.changes.now e.flags
+
+abbrev pub unchanged : Speed → Enumeration → Conditions
+unchanged speed e = under e.limits speed e.fates.now [] e.flags
 
 -- what is reported of a run with this outcome: after success its line and the listing of the file that was read, and else the
 -- line of its trouble

@@ -1,10 +1,9 @@
 pub mod Endings
 pub mod Faults
 pub mod Inputs
-pub mod HexInputs
-pub mod HexOutputs
-pub mod Commands
-pub mod RemarkChecks
+pub mod Works
+pub mod Builds
+pub mod WorkOptions
 pub mod EnumerationEnds
 pub mod Enumerations
 pub mod Explains
@@ -13,9 +12,11 @@ pub mod OptionValues
 pub mod Damages
 pub mod Settings
 pub mod Choosing
+pub mod Enumerating
 pub mod CaptureOptions
 pub mod Captures
 pub mod OptionFaults
 pub mod Numbers
+pub mod Outcomes
 pub mod Runs
 pub mod inside

@@ -2,15 +2,18 @@
 ghost use Rattle.std.specs.Prelude.{◌≡◌, IfOk, Some, codes};
 ghost use Rattle.clap.specs.Words.{fault_of, first_of, found_of, rows_of, subcommand_of, subcommand_rows_of};
 ghost use Rattle.clap.specs.Kinds.{FailsBy};
-ghost use Rattle.usb_tool.specs.CommandLine.{Asks, HasCapturing, HasChoosing, HasFlags, IsChecking, HasTexts, flags_of, gives, is_given, text_of, usbdesc_app, word_texts};
+ghost use Rattle.usb_tool.specs.CommandLine.{Asks, HasCapturing, HasChoosing, HasFlags, HasTexts, IsBuilding, IsChecking, IsEnumerating, IsShowing, asks_more, flags_of, gives, is_given, text_of, usbdesc_app, word_texts};
 ghost use Rattle.usb_tool.specs.inside.Taking.{NamesCommand};
 
+use crate::building::Building;
 use crate::capturing::Capturing;
 use crate::checking::Checking;
 use crate::choosing::Choosing;
 use crate::clap_command::usbdesc;
+use crate::enumerating::Enumerating;
 use crate::manner::Explaining;
 use crate::settings::{EnumerateFlags, Options};
+use crate::showing::Showing;
 use clap::{ArgMatches, Error};
 use std::alloc::Global;
 use usb_host::Choice;
@@ -26,31 +29,18 @@ pub enum Line<'a> {
     Build,
     /// What a host reads of a device that has the descriptors of the file that is the input.
     Enumerate(Options<'a>),
-    /// `show --any`: the listing of the set, the file or the dump that is the input.
-    ShowAny,
-    /// `check --any`: what breaks a rule in the set, the file or the dump that is the input.
-    CheckAny,
-    /// `show --hex`: the listing of what has the input as its hexadecimal text; as of `--any` where this says so.
-    ShowHex(bool),
-    /// `check --hex`: what breaks a rule in what has the input as its hexadecimal text; as of `--any` where this says so.
-    CheckHex(bool),
-    /// `check --remarks`, with its other options: what breaks a rule in the input, and what is remarked of it.
-    CheckRemarks(Checking<'a>),
-    /// `build --comments`: the bytes of the file whose listing, with comments, is the input.
-    BuildCommented,
-    /// `build --hex`: the same bytes as hexadecimal text; of a listing with comments where this says so.
-    BuildHex(bool),
+    /// `show` with at least one of its flags.
+    ShowWith(Showing),
+    /// `check` with at least one of its options.
+    CheckWith(Checking<'a>),
+    /// `build` with at least one of its flags.
+    BuildWith(Building),
+    /// `enumerate` with at least one of the options beside these.
+    EnumerateWith(Options<'a>, Enumerating<'a>),
     /// What the descriptors of the input mean, in words.
     Explain(Explaining<'a>),
     /// What a recording says, in lines, or the descriptors of one of its devices.
     Capture(Capturing<'a>),
-    /// `enumerate` with at least one of these flags.
-    EnumerateWith(Options<'a>, EnumerateFlags),
-    /// `enumerate --damage`, with this text and with any of these flags.
-    EnumerateDamaged(Options<'a>, EnumerateFlags, &'a str),
-    /// `enumerate` with at least one of the options that say what is asked for, with any of these flags and with the text of
-    /// `--damage`, if it is given.
-    EnumerateChosen(Options<'a>, EnumerateFlags, Option<&'a str>, Choosing<'a>),
 }
 
 /// What the words ask for, of which the first is the program's name.
@@ -105,13 +95,20 @@ fn line_of<'a>(matches: &ArgMatches<'a>) -> Line<'a>
 fn show_of<'a>(matches: &ArgMatches<'a>) -> Line<'a>
     ensures { Asks result (Some (codes "show", rows_of (found_of matches.now))) }
 {
-    let any = has_flag(matches, "any");
-    if has_flag(matches, "hex") {
-        Line::ShowHex(any)
-    } else if any {
-        Line::ShowAny
+    let showing = showing_of(matches);
+    if showing.any || showing.hex {
+        Line::ShowWith(showing)
     } else {
         Line::Show
+    }
+}
+
+fn showing_of(matches: &ArgMatches<'_>) -> Showing
+    ensures { IsShowing result (rows_of (found_of matches.now)) }
+{
+    Showing {
+        any: has_flag(matches, "any"),
+        hex: has_flag(matches, "hex"),
     }
 }
 
@@ -119,12 +116,8 @@ fn check_of<'a>(matches: &ArgMatches<'a>) -> Line<'a>
     ensures { Asks result (Some (codes "check", rows_of (found_of matches.now))) }
 {
     let checking = checking_of(matches);
-    if checking.remarks || checking.speed.is_some() {
-        Line::CheckRemarks(checking)
-    } else if checking.hex {
-        Line::CheckHex(checking.any)
-    } else if checking.any {
-        Line::CheckAny
+    if checking.any || checking.hex || checking.remarks || checking.speed.is_some() {
+        Line::CheckWith(checking)
     } else {
         Line::Check
     }
@@ -144,13 +137,20 @@ fn checking_of<'a>(matches: &ArgMatches<'a>) -> Checking<'a>
 fn build_of<'a>(matches: &ArgMatches<'a>) -> Line<'a>
     ensures { Asks result (Some (codes "build", rows_of (found_of matches.now))) }
 {
-    let comments = has_flag(matches, "comments");
-    if has_flag(matches, "hex") {
-        Line::BuildHex(comments)
-    } else if comments {
-        Line::BuildCommented
+    let building = building_of(matches);
+    if building.comments || building.hex {
+        Line::BuildWith(building)
     } else {
         Line::Build
+    }
+}
+
+fn building_of(matches: &ArgMatches<'_>) -> Building
+    ensures { IsBuilding result (rows_of (found_of matches.now)) }
+{
+    Building {
+        comments: has_flag(matches, "comments"),
+        hex: has_flag(matches, "hex"),
     }
 }
 
@@ -158,19 +158,37 @@ fn enumerate_of<'a>(matches: &ArgMatches<'a>) -> Line<'a>
     ensures { Asks result (Some (codes "enumerate", rows_of (found_of matches.now))) }
 {
     let options = options_of(matches);
-    let flags = flags_of(matches);
-    let damage = damage_of(matches);
-    let choosing = choosing_of(matches);
-    if choosing.strings.is_some() || choosing.other_speed.is_some() {
-        return Line::EnumerateChosen(options, flags, damage, choosing);
+    let enumerating = enumerating_of(matches);
+    if asks_more(&enumerating) {
+        Line::EnumerateWith(options, enumerating)
+    } else {
+        Line::Enumerate(options)
     }
-    match damage {
-        Some(text) => Line::EnumerateDamaged(options, flags, text),
-        None if flags.log || flags.brief || flags.packets || flags.with_strings => {
-            Line::EnumerateWith(options, flags)
-        }
-        None => Line::Enumerate(options),
+}
+
+fn enumerating_of<'a>(matches: &ArgMatches<'a>) -> Enumerating<'a>
+    ensures { IsEnumerating result (rows_of (found_of matches.now)) }
+{
+    Enumerating {
+        flags: flags_of(matches),
+        damage: damage_of(matches),
+        choosing: choosing_of(matches),
     }
+}
+
+/// Whether one of these options was given.
+fn asks_more(enumerating: &Enumerating<'_>) -> bool
+    ensures { result ≡ asks_more enumerating.now }
+{
+    let flags = enumerating.flags;
+    let choosing = enumerating.choosing;
+    flags.log
+        || flags.brief
+        || flags.packets
+        || flags.with_strings
+        || enumerating.damage.is_some()
+        || choosing.strings.is_some()
+        || choosing.other_speed.is_some()
 }
 
 fn explain_of<'a>(matches: &ArgMatches<'a>) -> Line<'a>
