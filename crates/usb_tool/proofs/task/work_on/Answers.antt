@@ -20,11 +20,11 @@ returns-clause-worked g c =
     let t = c.args.task in
     let b = c.args.input.items in
     let told = work_told t b c.in_ok-bytes.bytes.items c.in_ok-taken.taken c.in_ok-bytes.ensures.ok (subst (form_of t.taken c.in_ok-taken.taken) c.deref.ensures.value c.in_ok-taken.ensures.ok) in
-    all_written (work_extent t.work) (TellsWork t) b _ _ told _ _ _ (subst (λ (s : List ℕ). IfOk _ (EndsWith (work_text t.work c.in_ok-taken.taken s) (work_status t.work c.in_ok-taken.taken s) _ _)) c.deref-2.ensures.value c.write.ensures.ok)
+    all_written (work_extent t.work) (TellsWork t) b _ _ told _ _ _ (subst (λ (s : List ℕ). IfOk c.write.result (EndsWith (work_text t.work c.in_ok-taken.taken s) (work_status t.work c.in_ok-taken.taken s) (g.W.Write.contents c.args.w.now) (g.W.Write.contents c.write.new.w))) c.deref-2.ensures.value c.write.ensures.ok)
 
 pub returns-clause-err : goal.returns-clause-err
 returns-clause-err g c =
     let t = c.args.task in
     let b = c.args.input.items in
     let told = work_told t b c.in_ok-bytes.bytes.items c.in_ok-taken.taken c.in_ok-bytes.ensures.ok (subst (form_of t.taken c.in_ok-taken.taken) c.deref.ensures.value c.in_ok-taken.ensures.ok) in
-    not_written (work_extent t.work) (TellsWork t) b _ _ told _ _ (RefusesWork t) _ (subst (λ (s : List ℕ). IfErr _ (IsCut (work_extent t.work) (work_text t.work c.in_ok-taken.taken s) _ _)) c.deref-2.ensures.value c.write.ensures.err)
+    not_written (work_extent t.work) (TellsWork t) b _ _ told _ _ (RefusesWork t) _ (subst (λ (s : List ℕ). IfErr c.write.result (IsCut (work_extent t.work) (work_text t.work c.in_ok-taken.taken s) (g.W.Write.contents c.args.w.now) (g.W.Write.contents c.write.new.w))) c.deref-2.ensures.value c.write.ensures.err)
