@@ -8,7 +8,7 @@ use Rattle.usb_listing.specs.declared.fault.ListWhy.TheVariants as lists
 use Rattle.usb_listing.specs.declared.laws.TheConstants.{LISTING_LIMIT}
 use Rattle.usb_text.specs.Output.{Held}
 use Rattle.usb_text.proofs.Pages.{keeps_refl}
-use Rattle.usb_tool.specs.Builds.{BuildAsFails, FaultyBy, ListsBytes, RefusesListing, TellsBuilt, listed_text, written_as}
+use Rattle.usb_tool.specs.Builds.{BuildFails, FaultyBy, ListsBytes, RefusesListing, TellsBuilt, listed_text, written_as}
 use Rattle.usb_tool.specs.Endings.{AppendsNone, Left, ReadsAll, Refuses}
 use Rattle.usb_tool.specs.Faults.{fault_of_list, list_fault_by_why}
 use Rattle.usb_tool.specs.declared.building.Building.{Building}
@@ -18,7 +18,7 @@ use Rattle.usb_tool.proofs.Reading.{when_err}
 -- a text that lists no file
 pub not_built : (o : Building) (from to : Left) (held : Held) (text : List ℕ) (read : ReadsAll LISTING_LIMIT from to text)
     (e : ListFault) (r : Result ℕ ToolFault) → IsErrAnd r (λ fault. fault ≡ fault_of_list e) → (e.why ≢ lists.Memory → FaultyBy o.comments text e.line e.why)
-    → IfErr r (BuildAsFails o from to held held)
+    → IfErr r (BuildFails o from to held held)
 not_built o from to held text read e r is shown =
     when_err r _ _ is (inr (record { bytes = text; read = read; refused = by e.why refl }))
   where

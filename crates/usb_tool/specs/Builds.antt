@@ -69,28 +69,13 @@ RefusesListing comments text held holds (faults.List fault) = FaultyBy comments 
 RefusesListing comments text held holds fault = ⊥
 
 -- all was read, and the bytes of the file that it lists were written
-abbrev pub BuiltAs : Building → Left → Left → Held → Held → ℕ → Type 0
-BuiltAs o = Told LISTING_LIMIT (TellsBuilt o)
+abbrev pub Built : Building → Left → Left → Held → Held → ℕ → Type 0
+Built o = Told LISTING_LIMIT (TellsBuilt o)
 
 -- how `build` fails: a prefix of that was written where a write failed, and else nothing
-abbrev pub BuildAsFails : Building → Left → Left → Held → Held → ToolFault → Type 0
-BuildAsFails o = Fails LISTING_LIMIT (Refuses AppendsNone (TellsBuilt o) (RefusesListing o.comments))
+abbrev pub BuildFails : Building → Left → Left → Held → Held → ToolFault → Type 0
+BuildFails o = Fails LISTING_LIMIT (Refuses AppendsNone (TellsBuilt o) (RefusesListing o.comments))
 
--- without an option, and with comments
+-- without an option
 abbrev pub no_building : Building
 no_building = record { comments = false; hex = false }
-
-abbrev pub with_comments : Building
-with_comments = record { comments = true; hex = false }
-
-abbrev pub Built : Left → Left → Held → Held → ℕ → Type 0
-Built = BuiltAs no_building
-
-abbrev pub BuildFails : Left → Left → Held → Held → ToolFault → Type 0
-BuildFails = BuildAsFails no_building
-
-abbrev pub BuiltCommented : Left → Left → Held → Held → ℕ → Type 0
-BuiltCommented = BuiltAs with_comments
-
-abbrev pub BuildCommentedFails : Left → Left → Held → Held → ToolFault → Type 0
-BuildCommentedFails = BuildAsFails with_comments

@@ -11,7 +11,6 @@ use Rattle.usb_tool.specs.Builds.{no_building}
 use Rattle.usb_tool.specs.declared.building.Building.{Building}
 use Rattle.usb_tool.specs.declared.capturing.Capturing.{Capturing}
 use Rattle.usb_tool.specs.declared.checking.Checking.{Checking}
-use Rattle.usb_tool.specs.declared.choosing.Choosing.{Choosing}
 use Rattle.usb_tool.specs.declared.enumerating.Enumerating.{Enumerating}
 use Rattle.usb_tool.specs.declared.manner.Explaining.{Explaining}
 use Rattle.usb_tool.specs.declared.command_line.Line.{Line}
@@ -180,22 +179,18 @@ flags_of rows = record {
 abbrev pub no_flags : EnumerateFlags
 no_flags = record { log = false; brief = false; packets = false; with_strings = false; choice = everything }
 
--- the options that say what is asked for
-pub record HasChoosing (o : Choosing) (rows : List Row) : Type 0 where
-  pub strings : text_of o.strings ≡ first_of (codes "strings") rows
-  pub other_speed : text_of o.other_speed ≡ first_of (codes "other-speed") rows
-
 -- the options of `enumerate` beside the texts are those that were found
 pub record IsEnumerating (o : Enumerating) (rows : List Row) : Type 0 where
   pub flags : o.flags ≡ flags_of rows
   pub damage : text_of o.damage ≡ first_of (codes "damage") rows
-  pub choosing : HasChoosing o.choosing rows
+  pub strings : text_of o.strings ≡ first_of (codes "strings") rows
+  pub other_speed : text_of o.other_speed ≡ first_of (codes "other-speed") rows
 
 -- one of them was given
 abbrev pub asks_more : Enumerating → Bool
 asks_more o =
-    o.flags.log || o.flags.brief || o.flags.packets || o.flags.with_strings || is_some o.damage || is_some o.choosing.strings
-    || is_some o.choosing.other_speed
+    o.flags.log || o.flags.brief || o.flags.packets || o.flags.with_strings || is_some o.damage || is_some o.strings
+    || is_some o.other_speed
 
 -- no option was given
 abbrev pub no_showing : Showing
@@ -205,7 +200,7 @@ abbrev pub no_checking : Checking
 no_checking = record { any = false; hex = false; remarks = false; speed = None }
 
 abbrev pub no_enumerating : Enumerating
-no_enumerating = record { flags = no_flags; damage = None; choosing = record { strings = None; other_speed = None } }
+no_enumerating = record { flags = no_flags; damage = None; strings = None; other_speed = None }
 
 -- the subcommand of this name was found, and this holds of what was found for its options
 abbrev pub Finds : Text → (List Row → Type 0) → Option (Text × List Row) → Type 0

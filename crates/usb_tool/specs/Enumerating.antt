@@ -5,7 +5,6 @@ use Rattle.usb_tool.specs.Choosing.{IsChosen, RefusesChoosing}
 use Rattle.usb_tool.specs.Damages.{RefusesSaid, damage_said}
 use Rattle.usb_tool.specs.Enumerations.{Conditions, under}
 use Rattle.usb_tool.specs.Settings.{IsSettledUnless, RefusesUnless, flag_alone}
-use Rattle.usb_tool.specs.declared.choosing.Choosing.{Choosing}
 use Rattle.usb_tool.specs.declared.enumerating.Enumerating.{Enumerating}
 use Rattle.usb_tool.specs.declared.enumerating.EnumerationSettings.{EnumerationSettings}
 use Rattle.usb_tool.specs.declared.settings.EnumerateFlags.{EnumerateFlags}
@@ -19,14 +18,14 @@ conditions_by s = under s.settings.limits s.settings.speed s.settings.fates.item
 
 -- the settings are those that the options come to
 pub record IsEnumerationSettled (o : Options) (e : Enumerating) (s : EnumerationSettings) : Type 0 where
-  pub chosen : IsChosen e.choosing s.flags.choice
+  pub chosen : IsChosen e s.flags.choice
   pub flags : s.flags ≡ record e.flags { choice = s.flags.choice }
   pub settled : IsSettledUnless (flag_alone e.flags) o s.settings
   pub changes : damage_said e.damage ≡ Some s.changes.items
 
 -- the options choose what is asked for, and the others with the flags come to settings
-abbrev pub Chooses : Choosing → Type 0
-Chooses choosing = (choice : Choice) × IsChosen choosing choice
+abbrev pub Chooses : Enumerating → Type 0
+Chooses e = (choice : Choice) × IsChosen e choice
 
 abbrev pub Settle : EnumerateFlags → Options → Type 0
 Settle flags o = (s : Settings) × IsSettledUnless (flag_alone flags) o s
@@ -34,6 +33,6 @@ Settle flags o = (s : Settings) × IsSettledUnless (flag_alone flags) o s
 -- why options are refused: the first of the choice, of these with the flags, and of damage that is at fault
 abbrev pub RefusesEnumerating : Options → Enumerating → SettingsFault → Type 0
 RefusesEnumerating o e fault =
-    RefusesChoosing e.choosing fault
-    ⊎ ((Chooses e.choosing × RefusesUnless (flag_alone e.flags) o fault)
-    ⊎ (Chooses e.choosing × Settle e.flags o × RefusesSaid (damage_said e.damage) fault))
+    RefusesChoosing e fault
+    ⊎ ((Chooses e × RefusesUnless (flag_alone e.flags) o fault)
+    ⊎ (Chooses e × Settle e.flags o × RefusesSaid (damage_said e.damage) fault))

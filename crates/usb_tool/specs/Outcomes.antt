@@ -41,18 +41,20 @@ outcome_status (outcomes.Refused fault) = settings_status fault
 abbrev pub ReportsLine : List ℕ → Held → Held → Type 0
 ReportsLine line errors told = AppendsFront errors told (line ++ 10 ∷ [])
 
+-- a line was written for a person, and for a program nothing
+abbrev pub ReportsMeaning : Audience → List ℕ → Held → Held → Type 0
+ReportsMeaning audiences.Program meaning errors told = Keeps errors told
+ReportsMeaning audiences.Person meaning errors told = ReportsLine meaning errors told
+
 -- a line was written, and for a person another one below it that says what it means
 abbrev pub ReportsLines : Audience → List ℕ → List ℕ → Held → Held → Type 0
-ReportsLines audiences.Program line meaning errors told = ReportsLine line errors told
-ReportsLines audiences.Person line meaning errors told =
-    (between : Held) × ReportsLine line errors between × ReportsLine meaning between told
+ReportsLines audience line meaning errors told = (between : Held) × ReportsLine line errors between × ReportsMeaning audience meaning between told
 
 -- after an enumeration a person is told what its end means, if that isn't success
 abbrev pub ReportsEnd : Audience → Bool → EnumerationEnd → Held → Held → Type 0
-ReportsEnd audiences.Program logged end errors told = Keeps errors told
-ReportsEnd audiences.Person logged ends.Success errors told = Keeps errors told
-ReportsEnd audiences.Person logged (ends.Refused fault) errors told = ReportsLine (refusal_meaning fault) errors told
-ReportsEnd audiences.Person logged (ends.Trouble trouble) errors told = ReportsLine (trouble_meaning logged trouble) errors told
+ReportsEnd audience logged ends.Success errors told = Keeps errors told
+ReportsEnd audience logged (ends.Refused fault) errors told = ReportsMeaning audience (refusal_meaning fault) errors told
+ReportsEnd audience logged (ends.Trouble trouble) errors told = ReportsMeaning audience (trouble_meaning logged trouble) errors told
 
 -- a fault has its line, and a command that did its work has none
 abbrev pub Reports : Audience → Outcome → Held → Held → Type 0

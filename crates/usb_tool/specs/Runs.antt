@@ -8,7 +8,7 @@ use Rattle.clap.specs.declared.error.kind.ErrorKind.{ErrorKind}
 use Rattle.clap.specs.declared.error.kind.ErrorKind.TheVariants as kinds
 use Rattle.usb_explain.specs.declared.manner.Manner.{Manner}
 use Rattle.usb_text.specs.Output.{AppendsFront, Held}
-use Rattle.usb_tool.specs.Builds.{BuildAsFails, BuiltAs, no_building}
+use Rattle.usb_tool.specs.Builds.{BuildFails, Built, no_building}
 use Rattle.usb_tool.specs.CaptureOptions.{IsCaptureCommand, RefusesCapturing}
 use Rattle.usb_tool.specs.Captures.{CaptureDone, CaptureFails}
 use Rattle.usb_tool.specs.CommandLine.{Asks, no_checking, no_enumerating, no_showing, usbdesc_app, word_texts}
@@ -100,7 +100,7 @@ abbrev pub build_hint : Bool → Hint
 build_hint comments = if comments then hints.Nothing else hints.Comments
 
 abbrev pub EndsBuild : Building → Course
-EndsBuild o = Ends (build_hint o.comments) (BuiltAs o) (BuildAsFails o)
+EndsBuild o = Ends (build_hint o.comments) (Built o) (BuildFails o)
 
 -- how `explain` ends: the option that is refused is a speed
 abbrev pub EndsExplanation : Explaining → Course

@@ -65,16 +65,7 @@ RefusesOptions o faults.Number = limits_said o ≡ None
 RefusesOptions o faults.Speed = IsSome (limits_said o) × (speed_said o ≡ None)
 RefusesOptions o faults.Fates = IsSome (limits_said o) × (IsSome (speed_said o) × IsSomeAnd o.fates (λ text. RefusesFates text.now letters.Letter))
 RefusesOptions o faults.Memory = IsSome (limits_said o) × (IsSome (speed_said o) × IsSomeAnd o.fates (λ text. RefusesFates text.now letters.Memory))
-RefusesOptions o faults.SpeedAlone = ⊥
-RefusesOptions o faults.BriefAlone = ⊥
-RefusesOptions o faults.Damages = ⊥
-RefusesOptions o faults.PacketsAlone = ⊥
-RefusesOptions o faults.Strings = ⊥
-RefusesOptions o faults.OtherSpeed = ⊥
-RefusesOptions o faults.FileBeside = ⊥
-RefusesOptions o faults.BriefBeside = ⊥
-RefusesOptions o faults.Device = ⊥
-RefusesOptions o faults.Time = ⊥
+RefusesOptions o fault = ⊥
 
 -- the fault of a flag that is for a log where none is asked for: lines of data are left out, or else packets are shown
 abbrev pub flag_alone : EnumerateFlags → Option SettingsFault

@@ -2,7 +2,6 @@
 use Rattle.std.specs.Prelude.{◌≡◌, ◌≢◌, ◌⊎◌, ℕ, Bool, if◌then◌else◌, List, [], ◌∷◌, ◌++◌, Option, true, codes}
 use Rattle.std.specs.Io.KnownBytes.{Keeps}
 use Rattle.usb_file_data.specs.declared.file.Input.{Input}
-use Rattle.usb_file_data.specs.declared.finding.Finding.{Finding}
 use Rattle.usb_file_data.specs.declared.laws.TheConstants.{FILE_LIMIT}
 use Rattle.usb_file_data.specs.FindingLine.{check_text, finding_lines}
 use Rattle.usb_file_data.specs.Findings.{found_in_order, input_findings}
@@ -50,10 +49,10 @@ shows_of forms.File = FileShows
 shows_of forms.SetOrFile = SetOrFileShows
 shows_of forms.Any = InputFaulty
 
--- 1 says that something is found
-abbrev pub check_status : List Finding → ℕ
-check_status [] = 0
-check_status (f ∷ found) = 1
+-- 1 says that there is something
+abbrev pub found_status : {A : Type 0} → List A → ℕ
+found_status [] = 0
+found_status (x ∷ found) = 1
 
 -- the lines of findings, and then those of the remarks on the descriptors of a device that ran at this speed, if it is known
 abbrev pub checked_lines : Option SetSpeed → Input → List ℕ → List ℕ
@@ -64,11 +63,6 @@ abbrev pub lines_or_none : List ℕ → List ℕ
 lines_or_none [] = codes "no findings" ++ 10 ∷ []
 lines_or_none (x ∷ lines) = x ∷ lines
 
--- 1 says that there are some
-abbrev pub lines_status : List ℕ → ℕ
-lines_status [] = 0
-lines_status (x ∷ lines) = 1
-
 -- what is made of an input that these bytes are: its listing, or what is found in it, with remarks or without
 abbrev pub work_text : Work → Input → List ℕ → List ℕ
 work_text works.List input b = input_lines input
@@ -78,8 +72,8 @@ work_text (works.Remark running) input b = lines_or_none (checked_lines running 
 -- the exit status then
 abbrev pub work_status : Work → Input → List ℕ → ℕ
 work_status works.List input b = 0
-work_status works.Check input b = check_status (input_findings input)
-work_status (works.Remark running) input b = lines_status (checked_lines running input b)
+work_status works.Check input b = found_status (input_findings input)
+work_status (works.Remark running) input b = found_status (checked_lines running input b)
 
 -- how much of it is written where memory is wanting: not all of a listing, and else nothing
 abbrev pub work_extent : Work → Extent
@@ -117,34 +111,12 @@ WorkFails t = Fails FILE_LIMIT (Refuses (work_extent t.work) (TellsWork t) (Refu
 abbrev pub task_of : Source → Taken → Work → Task
 task_of source taken work = record { source = source; taken = taken; work = work }
 
--- `show` lists a set or a file, and with `--any` a dump too
+-- without options `show` lists a set or a file, and `check` takes a file
 abbrev pub show_task : Task
 show_task = task_of sources.Bytes forms.SetOrFile works.List
 
-abbrev pub Shown : Left → Left → Held → Held → ℕ → Type 0
-Shown = Worked show_task
-
-abbrev pub ShowFails : Left → Left → Held → Held → ToolFault → Type 0
-ShowFails = WorkFails show_task
-
-abbrev pub ShownAny : Left → Left → Held → Held → ℕ → Type 0
-ShownAny = Worked (task_of sources.Bytes forms.Any works.List)
-
-abbrev pub ShowAnyFails : Left → Left → Held → Held → ToolFault → Type 0
-ShowAnyFails = WorkFails (task_of sources.Bytes forms.Any works.List)
-
--- `check` takes a file, and with `--any` a set or a dump too
-abbrev pub Checked : Left → Left → Held → Held → ℕ → Type 0
-Checked = Worked (task_of sources.Bytes forms.File works.Check)
-
-abbrev pub CheckFails : Left → Left → Held → Held → ToolFault → Type 0
-CheckFails = WorkFails (task_of sources.Bytes forms.File works.Check)
-
-abbrev pub CheckedAny : Left → Left → Held → Held → ℕ → Type 0
-CheckedAny = Worked (task_of sources.Bytes forms.Any works.Check)
-
-abbrev pub CheckAnyFails : Left → Left → Held → Held → ToolFault → Type 0
-CheckAnyFails = WorkFails (task_of sources.Bytes forms.Any works.Check)
+abbrev pub check_task : Task
+check_task = task_of sources.Bytes forms.File works.Check
 
 -- where something is found, the text of `check` with remarks is that without, and then come the remarks
 abbrev pub RemarksAddLines : Type 0

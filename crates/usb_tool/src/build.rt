@@ -1,7 +1,7 @@
 //! The command `build`.
 ghost use Rattle.std.specs.Prelude.{◌≢◌, IfErr, IfOk};
 ghost use Rattle.usb_listing.specs.declared.fault.ListWhy.TheVariants as whys;
-ghost use Rattle.usb_tool.specs.Builds.{BuildAsFails, BuildCommentedFails, BuildFails, Built, BuiltAs, BuiltCommented, FaultyBy, ListsBytes, hex_text, written_as};
+ghost use Rattle.usb_tool.specs.Builds.{BuildFails, Built, FaultyBy, ListsBytes, hex_text, no_building, written_as};
 ghost use Rattle.usb_tool.specs.Endings.{AppendsNone};
 ghost use Rattle.usb_tool.specs.inside.Telling.{EndsWith, IsCut};
 
@@ -30,39 +30,11 @@ use usb_listing::{LISTING_LIMIT, ListFault, assemble_bytes, assemble_bytes_comme
 /// flush failed; a prefix of the bytes is written then. `Memory` when out of memory, and nothing is
 /// written.
 pub fn run_build<R: Read, W: Write>(alloc: Global, r: &mut R, w: &mut W) -> Result<u8, ToolFault>
-    ensures built { IfOk result (Built (R.remaining r.old) (R.remaining r.new) (W.contents w.old) (W.contents w.new)) }
-    ensures err { IfErr result (BuildFails (R.remaining r.old) (R.remaining r.new) (W.contents w.old) (W.contents w.new)) }
+    ensures built { IfOk result (Built no_building (R.remaining r.old) (R.remaining r.new) (W.contents w.old) (W.contents w.new)) }
+    ensures err { IfErr result (BuildFails no_building (R.remaining r.old) (R.remaining r.new) (W.contents w.old) (W.contents w.new)) }
 {
     let building = Building {
         comments: false,
-        hex: false,
-    };
-    run_build_as(alloc, r, w, building)
-}
-
-/// Does what [`run_build`] does, and drops empty lines, those that begin with `#`, and a carriage return at the end of a
-/// line. The line of a fault is counted among all lines.
-///
-/// ```rust
-/// let mut listing: &[u8] = b"# a device\r\n\r\ndevice 0200 00 00 00 40 1234 5678 0100 00 00 00 00\r\n";
-/// let mut bytes = Vec::new(alloc);
-/// run_build_commented(alloc, &mut listing, &mut bytes)?;
-/// assert_eq!(rt; bytes.as_slice(), [18, 1, 0, 2, 0, 0, 0, 64, 0x34, 0x12, 0x78, 0x56, 0, 1, 0, 0, 0, 0]);
-/// ```
-///
-/// # Errors
-///
-/// Those of [`run_build`].
-pub fn run_build_commented<R: Read, W: Write>(
-    alloc: Global,
-    r: &mut R,
-    w: &mut W,
-) -> Result<u8, ToolFault>
-    ensures built { IfOk result (BuiltCommented (R.remaining r.old) (R.remaining r.new) (W.contents w.old) (W.contents w.new)) }
-    ensures err { IfErr result (BuildCommentedFails (R.remaining r.old) (R.remaining r.new) (W.contents w.old) (W.contents w.new)) }
-{
-    let building = Building {
-        comments: true,
         hex: false,
     };
     run_build_as(alloc, r, w, building)
@@ -86,8 +58,8 @@ pub fn run_build_as<R: Read, W: Write>(
     w: &mut W,
     building: Building,
 ) -> Result<u8, ToolFault>
-    ensures built { IfOk result (BuiltAs building (R.remaining r.old) (R.remaining r.new) (W.contents w.old) (W.contents w.new)) }
-    ensures err { IfErr result (BuildAsFails building (R.remaining r.old) (R.remaining r.new) (W.contents w.old) (W.contents w.new)) }
+    ensures built { IfOk result (Built building (R.remaining r.old) (R.remaining r.new) (W.contents w.old) (W.contents w.new)) }
+    ensures err { IfErr result (BuildFails building (R.remaining r.old) (R.remaining r.new) (W.contents w.old) (W.contents w.new)) }
 {
     let text = read_all(alloc, r, LISTING_LIMIT)?;
     let bytes = bytes_listed(alloc, &text, building.comments)?;

@@ -1,6 +1,6 @@
 //! The command `check`.
 ghost use Rattle.std.specs.Prelude.{IfErr, IfOk};
-ghost use Rattle.usb_tool.specs.Works.{CheckAnyFails, CheckFails, Checked, CheckedAny};
+ghost use Rattle.usb_tool.specs.Works.{WorkFails, Worked, check_task};
 
 use crate::fault::ToolFault;
 use crate::taken::Taken;
@@ -25,33 +25,8 @@ use std::io::{Read, Write};
 /// input. `Memory` when out of memory. Nothing is written then. `Write` where the writer or its flush failed; a prefix of
 /// the text is written then.
 pub fn run_check<R: Read, W: Write>(alloc: Global, r: &mut R, w: &mut W) -> Result<u8, ToolFault>
-    ensures checked { IfOk result (Checked (R.remaining r.old) (R.remaining r.new) (W.contents w.old) (W.contents w.new)) }
-    ensures err { IfErr result (CheckFails (R.remaining r.old) (R.remaining r.new) (W.contents w.old) (W.contents w.new)) }
+    ensures checked { IfOk result (Worked check_task (R.remaining r.old) (R.remaining r.new) (W.contents w.old) (W.contents w.new)) }
+    ensures err { IfErr result (WorkFails check_task (R.remaining r.old) (R.remaining r.new) (W.contents w.old) (W.contents w.new)) }
 {
     run_work(alloc, r, w, Task::of_bytes(Taken::File, Work::Check))
-}
-
-/// Does what [`run_check`] does of one configuration set, a descriptor file or a dump, as
-/// [`run_show_any`](crate::run_show_any) takes them.
-///
-/// ```rust
-/// let mut input: &[u8] = &[9, 2, 9, 0, 0, 1, 0, 0x80, 0x32];
-/// let mut lines = Vec::new(alloc);
-/// assert_eq!(rt; run_check_any(alloc, &mut input, &mut lines)?, 0);
-/// assert_eq!(rt; lines.as_slice(), b"no findings\n");
-/// ```
-///
-/// # Errors
-///
-/// Those of [`run_check`], and of a set `Set` with the fault of the whole input, and `Trailing` where it goes on after the
-/// set; nothing is written then.
-pub fn run_check_any<R: Read, W: Write>(
-    alloc: Global,
-    r: &mut R,
-    w: &mut W,
-) -> Result<u8, ToolFault>
-    ensures checked { IfOk result (CheckedAny (R.remaining r.old) (R.remaining r.new) (W.contents w.old) (W.contents w.new)) }
-    ensures err { IfErr result (CheckAnyFails (R.remaining r.old) (R.remaining r.new) (W.contents w.old) (W.contents w.new)) }
-{
-    run_work(alloc, r, w, Task::of_bytes(Taken::Any, Work::Check))
 }

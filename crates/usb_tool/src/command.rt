@@ -9,11 +9,10 @@ use crate::building::Building;
 use crate::capture::run_capture;
 use crate::capturing::{Capturing, capture_command};
 use crate::checking::Checking;
-use crate::choosing::Choosing;
 use crate::command_line::Line;
 use crate::enumerating::{Enumerating, enumeration_settings};
 use crate::enumeration::run_enumeration;
-use crate::explanation::explain_as;
+use crate::explanation::{Explanation, run_explain};
 use crate::manner::{Explaining, manner_of};
 use crate::meaning::Hint;
 use crate::outcome::Outcome;
@@ -130,10 +129,11 @@ fn explain<R: Read, W: Write>(
     ensures { EndsExplanation options.now (R.remaining r.old) (R.remaining r.new) (W.contents w.old) (W.contents w.new) result }
 {
     match manner_of(options) {
-        Ok(manner) => Outcome::of(
-            explain_as(alloc, r, w, manner, options.hex, options.loose),
-            Hint::Nothing,
-        ),
+        Ok(manner) => {
+            let (hex, loose) = (options.hex, options.loose);
+            let explanation = Explanation { manner, hex, loose };
+            Outcome::of(run_explain(alloc, r, w, explanation), Hint::Nothing)
+        }
         Err(fault) => Outcome::Refused(fault),
     }
 }
@@ -171,10 +171,8 @@ fn enumerate_plainly<R: Read, W: Write>(
             choice: Choice::everything(),
         },
         damage: None,
-        choosing: Choosing {
-            strings: None,
-            other_speed: None,
-        },
+        strings: None,
+        other_speed: None,
     };
     enumerate(alloc, options, &plain, r, w)
 }

@@ -1,14 +1,13 @@
 //! What the words of the command line ask for.
 ghost use Rattle.std.specs.Prelude.{◌≡◌, IfOk, Some, codes};
-ghost use Rattle.clap.specs.Words.{fault_of, first_of, found_of, rows_of, subcommand_of, subcommand_rows_of};
+ghost use Rattle.clap.specs.Words.{fault_of, found_of, rows_of, subcommand_of, subcommand_rows_of};
 ghost use Rattle.clap.specs.Kinds.{FailsBy};
-ghost use Rattle.usb_tool.specs.CommandLine.{Asks, HasCapturing, HasChoosing, HasFlags, HasTexts, IsBuilding, IsChecking, IsEnumerating, IsShowing, asks_more, flags_of, gives, is_given, text_of, usbdesc_app, word_texts};
+ghost use Rattle.usb_tool.specs.CommandLine.{Asks, HasCapturing, HasFlags, HasTexts, IsBuilding, IsChecking, IsEnumerating, IsShowing, asks_more, flags_of, gives, is_given, text_of, usbdesc_app, word_texts};
 ghost use Rattle.usb_tool.specs.inside.Taking.{NamesCommand};
 
 use crate::building::Building;
 use crate::capturing::Capturing;
 use crate::checking::Checking;
-use crate::choosing::Choosing;
 use crate::clap_command::usbdesc;
 use crate::enumerating::Enumerating;
 use crate::manner::Explaining;
@@ -85,9 +84,9 @@ fn line_of<'a>(matches: &ArgMatches<'a>) -> Line<'a>
         Some((name, options)) if name == "show" => show_of(options),
         Some((name, options)) if name == "check" => check_of(options),
         Some((name, options)) if name == "build" => build_of(options),
-        Some((name, options)) if name == "explain" => explain_of(options),
+        Some((name, options)) if name == "explain" => Line::Explain(explaining_of(options)),
         Some((name, options)) if name == "enumerate" => enumerate_of(options),
-        Some((name, options)) if name == "capture" => capture_of(options),
+        Some((name, options)) if name == "capture" => Line::Capture(capturing_of(options)),
         _ => unreachable!(),
     }
 }
@@ -171,8 +170,9 @@ fn enumerating_of<'a>(matches: &ArgMatches<'a>) -> Enumerating<'a>
 {
     Enumerating {
         flags: flags_of(matches),
-        damage: damage_of(matches),
-        choosing: choosing_of(matches),
+        damage: matches.get_str("damage"),
+        strings: matches.get_str("strings"),
+        other_speed: matches.get_str("other-speed"),
     }
 }
 
@@ -181,26 +181,13 @@ fn asks_more(enumerating: &Enumerating<'_>) -> bool
     ensures { result ≡ asks_more enumerating.now }
 {
     let flags = enumerating.flags;
-    let choosing = enumerating.choosing;
     flags.log
         || flags.brief
         || flags.packets
         || flags.with_strings
         || enumerating.damage.is_some()
-        || choosing.strings.is_some()
-        || choosing.other_speed.is_some()
-}
-
-fn explain_of<'a>(matches: &ArgMatches<'a>) -> Line<'a>
-    ensures { Asks result (Some (codes "explain", rows_of (found_of matches.now))) }
-{
-    Line::Explain(explaining_of(matches))
-}
-
-fn capture_of<'a>(matches: &ArgMatches<'a>) -> Line<'a>
-    ensures { Asks result (Some (codes "capture", rows_of (found_of matches.now))) }
-{
-    Line::Capture(capturing_of(matches))
+        || enumerating.strings.is_some()
+        || enumerating.other_speed.is_some()
 }
 
 fn capturing_of<'a>(matches: &ArgMatches<'a>) -> Capturing<'a>
@@ -242,15 +229,6 @@ fn flags_of(matches: &ArgMatches<'_>) -> EnumerateFlags
     }
 }
 
-fn choosing_of<'a>(matches: &ArgMatches<'a>) -> Choosing<'a>
-    ensures { HasChoosing result (rows_of (found_of matches.now)) }
-{
-    Choosing {
-        strings: matches.get_str("strings"),
-        other_speed: matches.get_str("other-speed"),
-    }
-}
-
 /// Whether the flag of this name was given.
 fn has_flag(matches: &ArgMatches<'_>, name: &str) -> bool
     ensures { result ≡ gives name.now (rows_of (found_of matches.now)) }
@@ -275,10 +253,4 @@ fn options_of<'a>(matches: &ArgMatches<'a>) -> Options<'a>
         attempts: matches.get_str("attempts"),
         fates: matches.get_str("fates"),
     }
-}
-
-fn damage_of<'a>(matches: &ArgMatches<'a>) -> Option<&'a str>
-    ensures { text_of result ≡ first_of (codes "damage") (rows_of (found_of matches.now)) }
-{
-    matches.get_str("damage")
 }

@@ -4,7 +4,7 @@ ghost use Rattle.usb_tool.specs.Damages.{RefusesSaid, damage_said};
 ghost use Rattle.usb_tool.specs.Enumerating.{IsEnumerationSettled, RefusesEnumerating, conditions_by};
 ghost use Rattle.usb_tool.specs.Enumerations.{conditions_of};
 
-use crate::choosing::{Choosing, choice_of};
+use crate::choosing::choice_of;
 use crate::damages::read_damages;
 use crate::enumeration::Enumeration;
 use crate::settings::{EnumerateFlags, Options, Settings, SettingsFault, settings_with};
@@ -18,8 +18,10 @@ pub struct Enumerating<'a> {
     pub flags: EnumerateFlags,
     /// The bits that change, or `None` where the words lack it.
     pub damage: Option<&'a str>,
-    /// What the host asks for.
-    pub choosing: Choosing<'a>,
+    /// What becomes of the strings: `needed`, `wanted` or `skipped`.
+    pub strings: Option<&'a str>,
+    /// Whether the other speed is asked for: `yes` or `no`.
+    pub other_speed: Option<&'a str>,
 }
 
 /// What an enumeration is given beside its file.
@@ -53,8 +55,7 @@ impl EnumerationSettings {
 /// ```rust
 /// let options = Options { speed: None, address: None, naks: None, attempts: None, fates: None };
 /// let flags = EnumerateFlags { log: false, brief: true, packets: false, with_strings: false, choice: Choice::everything() };
-/// let choosing = Choosing { strings: None, other_speed: None };
-/// let enumerating = Enumerating { flags, damage: Some("1:1"), choosing };
+/// let enumerating = Enumerating { flags, damage: Some("1:1"), strings: None, other_speed: None };
 /// assert_eq!(rt; enumeration_settings(alloc, &options, &enumerating).err(), Some(SettingsFault::BriefAlone));
 /// ```
 ///
@@ -69,7 +70,7 @@ pub fn enumeration_settings(
     ensures ok { IfOk result (IsEnumerationSettled options.now enumerating.now) }
     ensures err { IfErr result (RefusesEnumerating options.now enumerating.now) }
 {
-    let choice = choice_of(&enumerating.choosing)?;
+    let choice = choice_of(enumerating)?;
     let flags = enumerating.flags;
     let settings = settings_with(alloc, options, flags)?;
     let changes = changes_of(alloc, enumerating.damage)?;

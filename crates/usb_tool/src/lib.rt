@@ -3,12 +3,11 @@
 //! Three questions say what `show` and `check` do: where the bytes of the input come from ([`Source`]), what they are taken for
 //! ([`Taken`]), and what is made of them ([`Work`]). [`run_work`] does a [`Task`], which answers the three. Its contract speaks of
 //! the bytes that the reader has and of those that the writer gains, where the two state them: `specs/Works.antt` says what it
-//! does, fault by fault. [`run_show`], [`run_show_any`], [`run_check`] and [`run_check_any`] are tasks. What each line of a listing
-//! says is in the crate `usb_listing`.
+//! does, fault by fault. [`run_show`] and [`run_check`] are tasks. What each line of a listing says is in the crate `usb_listing`.
 //!
-//! [`run_build`] reads a listing and writes the bytes of its file, [`run_build_commented`] one with comments, and
-//! [`run_build_as`] writes hexadecimal text too (`specs/Builds.antt`). [`run_explain`] writes what the descriptors of any input
-//! mean, in words, also where it is hexadecimal text (`specs/Explains.antt`).
+//! [`run_build`] reads a listing and writes the bytes of its file, and [`run_build_as`] one with comments too, or hexadecimal
+//! text (`specs/Builds.antt`). [`run_explain`] writes what the descriptors of any input mean, in words, also where it is
+//! hexadecimal text, as an [`Explanation`] says (`specs/Explains.antt`).
 //! [`run_capture`] tells of a recording of a bus, which may have any length, or writes the descriptors of one of its devices
 //! (`specs/Captures.antt`), by the options that [`capture_command`] reads (`specs/CaptureOptions.antt`).
 //! [`run_enumerate`] enumerates a device that has the descriptors of a file, over a bus that loses
@@ -72,24 +71,25 @@ mod settings;
 mod show;
 mod showing;
 mod source;
+mod subject;
 mod taken;
 mod task;
 mod work;
 
 pub use audience::Audience;
-pub use build::{run_build, run_build_as, run_build_commented};
+pub use build::{run_build, run_build_as};
 pub use building::Building;
 pub use capture::run_capture;
 pub use capturing::{CaptureCommand, Capturing, capture_command};
-pub use check::{run_check, run_check_any};
+pub use check::run_check;
 pub use checking::Checking;
-pub use choosing::{Choosing, choice_of};
+pub use choosing::choice_of;
 pub use command_line::{Line, read_line};
 pub use damages::read_damages;
 pub use enumerating::{Enumerating, EnumerationSettings, enumeration_settings};
 pub use enumeration::{Enumeration, run_enumerate, run_enumeration};
 pub use enumeration_end::EnumerationEnd;
-pub use explanation::{no_input_is_hexadecimal_text, run_explain, run_explain_loose};
+pub use explanation::{Explanation, no_input_is_hexadecimal_text, run_explain};
 pub use fault::{ToolFault, verdict};
 pub use invocation::Invocation;
 pub use manner::{Explaining, manner_of, read_running_speed};
@@ -101,7 +101,7 @@ pub use settings::{
     EnumerateFlags, FatesFault, Options, Settings, SettingsFault, read_fates, read_speed,
     settings_of, settings_with,
 };
-pub use show::{run_show, run_show_any};
+pub use show::run_show;
 pub use showing::Showing;
 pub use source::Source;
 pub use taken::Taken;

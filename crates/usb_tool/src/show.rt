@@ -1,6 +1,6 @@
 //! The command `show`.
 ghost use Rattle.std.specs.Prelude.{IfErr, IfOk};
-ghost use Rattle.usb_tool.specs.Works.{ShowAnyFails, ShowFails, Shown, ShownAny};
+ghost use Rattle.usb_tool.specs.Works.{WorkFails, Worked, show_task};
 
 use crate::fault::ToolFault;
 use crate::taken::Taken;
@@ -29,28 +29,8 @@ use std::io::{Read, Write};
 /// of the listing is written then, and may be all of it. `Memory` when out of memory; at least the
 /// last byte of the listing is not written then.
 pub fn run_show<R: Read, W: Write>(alloc: Global, r: &mut R, w: &mut W) -> Result<u8, ToolFault>
-    ensures shown { IfOk result (Shown (R.remaining r.old) (R.remaining r.new) (W.contents w.old) (W.contents w.new)) }
-    ensures err { IfErr result (ShowFails (R.remaining r.old) (R.remaining r.new) (W.contents w.old) (W.contents w.new)) }
+    ensures shown { IfOk result (Worked show_task (R.remaining r.old) (R.remaining r.new) (W.contents w.old) (W.contents w.new)) }
+    ensures err { IfErr result (WorkFails show_task (R.remaining r.old) (R.remaining r.new) (W.contents w.old) (W.contents w.new)) }
 {
     run_work(alloc, r, w, Task::of_bytes(Taken::SetOrFile, Work::List))
-}
-
-/// Does what [`run_show`] does, and takes a dump too: the device descriptor and its configuration sets alone, without the
-/// strings that they name.
-///
-/// ```rust
-/// let mut input: &[u8] = &[18, 1, 0, 2, 0, 0, 0, 64, 0x34, 0x12, 0x78, 0x56, 0, 1, 1, 0, 0, 0];
-/// let mut lines = Vec::new(alloc);
-/// run_show_any(alloc, &mut input, &mut lines)?;
-/// assert_eq!(rt; lines.as_slice(), b"device 0200 00 00 00 40 1234 5678 0100 01 00 00 00\n");
-/// ```
-///
-/// # Errors
-///
-/// Those of [`run_show`].
-pub fn run_show_any<R: Read, W: Write>(alloc: Global, r: &mut R, w: &mut W) -> Result<u8, ToolFault>
-    ensures shown { IfOk result (ShownAny (R.remaining r.old) (R.remaining r.new) (W.contents w.old) (W.contents w.new)) }
-    ensures err { IfErr result (ShowAnyFails (R.remaining r.old) (R.remaining r.new) (W.contents w.old) (W.contents w.new)) }
-{
-    run_work(alloc, r, w, Task::of_bytes(Taken::Any, Work::List))
 }

@@ -4,7 +4,7 @@ ghost use Rattle.usb_file_data.specs.FindingLine.{check_text, finding_lines};
 ghost use Rattle.usb_file_data.specs.Findings.{input_findings};
 ghost use Rattle.usb_listing.specs.Listing.{input_lines};
 ghost use Rattle.usb_tool.specs.Endings.{AppendsNone};
-ghost use Rattle.usb_tool.specs.Works.{RemarksAddLines, check_status, checked_lines, lines_or_none, lines_status, work_extent, work_status, work_text};
+ghost use Rattle.usb_tool.specs.Works.{RemarksAddLines, checked_lines, lines_or_none, found_status, work_extent, work_status, work_text};
 ghost use Rattle.usb_tool.specs.inside.Telling.{EndsWith, IsCut, IsCutShort};
 
 use crate::fault::ToolFault;
@@ -60,23 +60,13 @@ fn write_listing<W: Write>(alloc: Global, input: &Input, w: &mut W) -> Result<u8
 
 /// Writes what is found in the input.
 fn write_findings<W: Write>(alloc: Global, input: &Input, w: &mut W) -> Result<u8, ToolFault>
-    ensures ok { IfOk result (EndsWith (check_text (input_findings input.now)) (check_status (input_findings input.now)) (W.contents w.old) (W.contents w.new)) }
+    ensures ok { IfOk result (EndsWith (check_text (input_findings input.now)) (found_status (input_findings input.now)) (W.contents w.old) (W.contents w.new)) }
     ensures err { IfErr result (IsCut AppendsNone (check_text (input_findings input.now)) (W.contents w.old) (W.contents w.new)) }
 {
     let found = check_input(alloc, input)?;
     let text = findings_text(alloc, &found)?;
     write_flushed(w, &text)?;
-    Ok(check_status(&found))
-}
-
-/// 1 where something was found.
-fn check_status(found: &[Finding]) -> u8
-    ensures { result ≡ check_status found.now }
-{
-    match found {
-        [] => 0,
-        _ => 1,
-    }
+    Ok(found_status(&found))
 }
 
 /// Writes what is found and remarked in the input.
@@ -87,12 +77,12 @@ fn write_remarks<W: Write>(
     w: &mut W,
     speed: Option<SetSpeed>,
 ) -> Result<u8, ToolFault>
-    ensures ok { IfOk result (EndsWith (lines_or_none (checked_lines speed input.now bytes.now)) (lines_status (checked_lines speed input.now bytes.now)) (W.contents w.old) (W.contents w.new)) }
+    ensures ok { IfOk result (EndsWith (lines_or_none (checked_lines speed input.now bytes.now)) (found_status (checked_lines speed input.now bytes.now)) (W.contents w.old) (W.contents w.new)) }
     ensures err { IfErr result (IsCut AppendsNone (lines_or_none (checked_lines speed input.now bytes.now)) (W.contents w.old) (W.contents w.new)) }
 {
     let lines = checked_lines(alloc, input, bytes, speed)?;
     write_flushed(w, lines_or_none(&lines))?;
-    Ok(lines_status(&lines))
+    Ok(found_status(&lines))
 }
 
 /// The lines of findings, and then those of remarks.
@@ -131,11 +121,11 @@ fn lines_or_none(lines: &[u8]) -> &[u8]
     }
 }
 
-/// 1 where there is a line.
-fn lines_status(lines: &[u8]) -> u8
-    ensures { result ≡ lines_status lines.now }
+/// 1 where there is something.
+fn found_status<T>(found: &[T]) -> u8
+    ensures { result ≡ found_status found.now }
 {
-    match lines {
+    match found {
         [] => 0,
         [_, ..] => 1,
     }

@@ -1,0 +1,14 @@
+use Rattle.std.proofs.Common.{◌∙◌, codes}
+use Rattle.clap.specs.Words.{found_of}
+use Rattle.clap.proofs.WalkLemmas.{first_value-rows}
+use Rattle.usb_tool.proofs.command_line.enumerating_of.Goals as goal
+
+pub returns : goal.returns
+returns c =
+    let found = found_of c.args.matches.now in
+    record {
+      flags = c.flags_of.ensures;
+      damage = c.get_str.ensures ∙ first_value-rows found (codes "damage");
+      strings = c.get_str-2.ensures ∙ first_value-rows found (codes "strings");
+      other_speed = c.get_str-3.ensures ∙ first_value-rows found (codes "other-speed");
+    }
