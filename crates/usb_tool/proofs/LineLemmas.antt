@@ -15,7 +15,7 @@ use Rattle.clap.specs.Simple.{Shape, argument_words, built, entered, help_shape,
 use Rattle.clap.specs.Faults.{check_fault, defaults_fault, entered_fault, other_fault, settle_fault, turn_fault, walk_fault, word_fault}
 use Rattle.clap.proofs.OnLiterals.{clap_on_literals}
 use Rattle.usb_tool.specs.CommandLine.{usbdesc_app}
-use Rattle.usb_tool.specs.inside.Taking.{NamesCommand}
+use Rattle.usb_tool.specs.inside.Parsing.{NamesCommand}
 
 pub usbdesc_simple : is_simple usbdesc_app ≡ true
 unfolding clap_on_literals

@@ -75,7 +75,3 @@ Built o = Told LISTING_LIMIT (TellsBuilt o)
 -- how `build` fails: a prefix of that was written where a write failed, and else nothing
 abbrev pub BuildFails : Building → Left → Left → Held → Held → ToolFault → Type 0
 BuildFails o = Fails LISTING_LIMIT (Refuses AppendsNone (TellsBuilt o) (RefusesListing o.comments))
-
--- without an option
-abbrev pub no_building : Building
-no_building = record { comments = false; hex = false }

@@ -7,7 +7,6 @@ use Rattle.clap.specs.Words.{App, Row, Rule, Text, first_of, new_app, new_rule, 
 use Rattle.clap.specs.declared.builder.action.ArgAction.TheVariants as actions
 use Rattle.clap.specs.declared.builder.value_parser.ValueParser.TheVariants as parsers
 use Rattle.usb_host.specs.Terms.{everything}
-use Rattle.usb_tool.specs.Builds.{no_building}
 use Rattle.usb_tool.specs.declared.building.Building.{Building}
 use Rattle.usb_tool.specs.declared.capturing.Capturing.{Capturing}
 use Rattle.usb_tool.specs.declared.checking.Checking.{Checking}
@@ -193,6 +192,9 @@ asks_more o =
     || is_some o.other_speed
 
 -- no option was given
+abbrev pub no_building : Building
+no_building = record { comments = false; hex = false }
+
 abbrev pub no_showing : Showing
 no_showing = record { any = false; hex = false }
 

@@ -3,7 +3,6 @@ use Rattle.std.specs.Prelude.{◌≡◌, ◌⊎◌, Some}
 use Rattle.usb_host.specs.declared.choice.Choice.{Choice}
 use Rattle.usb_tool.specs.Choosing.{IsChosen, RefusesChoosing}
 use Rattle.usb_tool.specs.Damages.{RefusesSaid, damage_said}
-use Rattle.usb_tool.specs.Enumerations.{Conditions, under}
 use Rattle.usb_tool.specs.Settings.{IsSettledUnless, RefusesUnless, flag_alone}
 use Rattle.usb_tool.specs.declared.enumerating.Enumerating.{Enumerating}
 use Rattle.usb_tool.specs.declared.enumerating.EnumerationSettings.{EnumerationSettings}
@@ -11,10 +10,6 @@ use Rattle.usb_tool.specs.declared.settings.EnumerateFlags.{EnumerateFlags}
 use Rattle.usb_tool.specs.declared.settings.Options.{Options}
 use Rattle.usb_tool.specs.declared.settings.Settings.{Settings}
 use Rattle.usb_tool.specs.declared.settings.SettingsFault.{SettingsFault}
-
--- the conditions of an enumeration with these settings
-abbrev pub conditions_by : EnumerationSettings → Conditions
-conditions_by s = under s.settings.limits s.settings.speed s.settings.fates.items s.changes.items s.flags
 
 -- the settings are those that the options come to
 pub record IsEnumerationSettled (o : Options) (e : Enumerating) (s : EnumerationSettings) : Type 0 where

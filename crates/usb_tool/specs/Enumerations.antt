@@ -29,6 +29,7 @@ use Rattle.usb_bus.specs.Enumerate.{IsChosenEnumeration, Pair, chosen_pair}
 use Rattle.usb_bus.specs.Log.{IsLogFrom, WritesLogLessFrom}
 use Rattle.usb_bus.specs.LogOnWire.{IsWireLogFrom, WritesWireLogLessFrom}
 use Rattle.usb_tool.specs.EnumerationEnds.{end_of, end_status}
+use Rattle.usb_tool.specs.declared.enumerating.EnumerationSettings.{EnumerationSettings}
 use Rattle.usb_tool.specs.declared.enumeration.Enumeration.{Enumeration}
 use Rattle.usb_tool.specs.declared.enumeration_end.EnumerationEnd.{EnumerationEnd}
 use Rattle.usb_tool.specs.declared.enumeration_end.EnumerationEnd.TheVariants.{Refused}
@@ -72,6 +73,9 @@ under limits speed fates changes flags = record { limits = limits; speed = speed
 
 abbrev pub conditions_of : Enumeration → Conditions
 conditions_of e = under e.limits e.speed e.fates.now e.changes.now e.flags
+
+abbrev pub conditions_by : EnumerationSettings → Conditions
+conditions_by s = under s.settings.limits s.settings.speed s.settings.fates.items s.changes.items s.flags
 
 -- of a device of this speed, and over a bus that changes no bits
 abbrev pub conditions_at : Speed → Enumeration → Conditions

@@ -6,6 +6,7 @@ pub mod Builds
 pub mod WorkOptions
 pub mod EnumerationEnds
 pub mod Enumerations
+pub mod Manners
 pub mod Explains
 pub mod CommandLine
 pub mod OptionValues

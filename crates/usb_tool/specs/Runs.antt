@@ -8,14 +8,15 @@ use Rattle.clap.specs.declared.error.kind.ErrorKind.{ErrorKind}
 use Rattle.clap.specs.declared.error.kind.ErrorKind.TheVariants as kinds
 use Rattle.usb_explain.specs.declared.manner.Manner.{Manner}
 use Rattle.usb_text.specs.Output.{AppendsFront, Held}
-use Rattle.usb_tool.specs.Builds.{BuildFails, Built, no_building}
+use Rattle.usb_tool.specs.Builds.{BuildFails, Built}
 use Rattle.usb_tool.specs.CaptureOptions.{IsCaptureCommand, RefusesCapturing}
 use Rattle.usb_tool.specs.Captures.{CaptureDone, CaptureFails}
-use Rattle.usb_tool.specs.CommandLine.{Asks, no_checking, no_enumerating, no_showing, usbdesc_app, word_texts}
+use Rattle.usb_tool.specs.CommandLine.{Asks, no_building, no_checking, no_enumerating, no_showing, usbdesc_app, word_texts}
 use Rattle.usb_tool.specs.Endings.{Failure, Left, Work}
-use Rattle.usb_tool.specs.Enumerating.{IsEnumerationSettled, RefusesEnumerating, conditions_by}
-use Rattle.usb_tool.specs.Enumerations.{Conditions, EnumerateFails, EnumeratedTo}
-use Rattle.usb_tool.specs.Explains.{ExplainFails, Explained, HasBadSpeed, IsManner}
+use Rattle.usb_tool.specs.Enumerating.{IsEnumerationSettled, RefusesEnumerating}
+use Rattle.usb_tool.specs.Enumerations.{Conditions, EnumerateFails, EnumeratedTo, conditions_by}
+use Rattle.usb_tool.specs.Explains.{ExplainFails, Explained}
+use Rattle.usb_tool.specs.Manners.{HasBadSpeed, IsManner}
 use Rattle.usb_tool.specs.Outcomes.{Reports, enumerate_hint, outcome_status}
 use Rattle.usb_tool.specs.WorkOptions.{IsCheckingTask, RefusesChecking, showing_task}
 use Rattle.usb_tool.specs.Works.{WorkFails, Worked}

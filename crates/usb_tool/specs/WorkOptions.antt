@@ -1,6 +1,6 @@
 -- What the options of `show` and `check` come to.
 use Rattle.std.specs.Prelude.{◌≡◌, Bool, true, false, Option, Some, None, IsSome, if◌then◌else◌}
-use Rattle.usb_tool.specs.Explains.{running_said}
+use Rattle.usb_tool.specs.Manners.{running_said}
 use Rattle.usb_tool.specs.Works.{task_of, taken_with}
 use Rattle.usb_tool.specs.declared.checking.Checking.{Checking}
 use Rattle.usb_tool.specs.declared.settings.SettingsFault.{SettingsFault}

@@ -2,3 +2,4 @@
 pub mod Taking
 pub mod Intake
 pub mod Telling
+pub mod Parsing

@@ -1,7 +1,8 @@
 //! The command `build`.
 ghost use Rattle.std.specs.Prelude.{◌≢◌, IfErr, IfOk};
 ghost use Rattle.usb_listing.specs.declared.fault.ListWhy.TheVariants as whys;
-ghost use Rattle.usb_tool.specs.Builds.{BuildFails, Built, FaultyBy, ListsBytes, hex_text, no_building, written_as};
+ghost use Rattle.usb_tool.specs.Builds.{BuildFails, Built, FaultyBy, ListsBytes, hex_text, written_as};
+ghost use Rattle.usb_tool.specs.CommandLine.{no_building};
 ghost use Rattle.usb_tool.specs.Endings.{AppendsNone};
 ghost use Rattle.usb_tool.specs.inside.Telling.{EndsWith, IsCut};
 

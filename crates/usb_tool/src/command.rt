@@ -11,7 +11,7 @@ use crate::capturing::{Capturing, capture_command};
 use crate::checking::Checking;
 use crate::command_line::Line;
 use crate::enumerating::{Enumerating, enumeration_settings};
-use crate::enumeration::run_enumeration;
+use crate::enumeration::{Enumeration, run_enumeration};
 use crate::explanation::{Explanation, run_explain};
 use crate::manner::{Explaining, manner_of};
 use crate::meaning::Hint;
@@ -19,6 +19,7 @@ use crate::outcome::Outcome;
 use crate::settings::{EnumerateFlags, Options};
 use crate::showing::Showing;
 use crate::task::{Task, run_work};
+use crate::work_options::{checking_task, showing_task};
 use std::alloc::Global;
 use std::io::{Read, Write};
 use usb_host::Choice;
@@ -69,14 +70,14 @@ pub(crate) fn carry_out<R: Read, W: Write>(
 fn show<R: Read, W: Write>(alloc: Global, options: Showing, r: &mut R, w: &mut W) -> Outcome
     ensures { EndsShow options (R.remaining r.old) (R.remaining r.new) (W.contents w.old) (W.contents w.new) result }
 {
-    work(alloc, options.task(), any_hint(options.any), r, w)
+    work(alloc, showing_task(options), any_hint(options.any), r, w)
 }
 
 /// Checks as the options say. What is wrong with them is reported before anything is read.
 fn check<R: Read, W: Write>(alloc: Global, options: &Checking<'_>, r: &mut R, w: &mut W) -> Outcome
     ensures { EndsCheck options.now (R.remaining r.old) (R.remaining r.new) (W.contents w.old) (W.contents w.new) result }
 {
-    match options.task() {
+    match checking_task(options) {
         Ok(task) => work(alloc, task, any_hint(options.any), r, w),
         Err(fault) => Outcome::Refused(fault),
     }
@@ -190,7 +191,7 @@ fn enumerate<R: Read, W: Write>(
 {
     match enumeration_settings(alloc, options, others) {
         Ok(settings) => {
-            let answer = run_enumeration(alloc, r, w, &settings.enumeration());
+            let answer = run_enumeration(alloc, r, w, &Enumeration::of(&settings));
             Outcome::of_enumeration(answer, settings.flags)
         }
         Err(fault) => Outcome::Refused(fault),

@@ -3,7 +3,7 @@ ghost use Rattle.std.specs.Prelude.{◌≡◌, IfOk, Some, codes};
 ghost use Rattle.clap.specs.Words.{fault_of, found_of, rows_of, subcommand_of, subcommand_rows_of};
 ghost use Rattle.clap.specs.Kinds.{FailsBy};
 ghost use Rattle.usb_tool.specs.CommandLine.{Asks, HasCapturing, HasFlags, HasTexts, IsBuilding, IsChecking, IsEnumerating, IsShowing, asks_more, flags_of, gives, is_given, text_of, usbdesc_app, word_texts};
-ghost use Rattle.usb_tool.specs.inside.Taking.{NamesCommand};
+ghost use Rattle.usb_tool.specs.inside.Parsing.{NamesCommand};
 
 use crate::building::Building;
 use crate::capturing::Capturing;

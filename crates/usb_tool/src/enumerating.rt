@@ -1,12 +1,10 @@
 //! What the options of `enumerate` mean.
 ghost use Rattle.std.specs.Prelude.{◌≡◌, IfErr, IfOk, Some};
 ghost use Rattle.usb_tool.specs.Damages.{RefusesSaid, damage_said};
-ghost use Rattle.usb_tool.specs.Enumerating.{IsEnumerationSettled, RefusesEnumerating, conditions_by};
-ghost use Rattle.usb_tool.specs.Enumerations.{conditions_of};
+ghost use Rattle.usb_tool.specs.Enumerating.{IsEnumerationSettled, RefusesEnumerating};
 
 use crate::choosing::choice_of;
 use crate::damages::read_damages;
-use crate::enumeration::Enumeration;
 use crate::settings::{EnumerateFlags, Options, Settings, SettingsFault, settings_with};
 use std::alloc::Global;
 use usb_bus::BitChange;
@@ -33,21 +31,6 @@ pub struct EnumerationSettings {
     pub changes: Vec<BitChange>,
     /// The flags, with what the host asks for.
     pub flags: EnumerateFlags,
-}
-
-impl EnumerationSettings {
-    /// What the enumeration is made under.
-    pub(crate) fn enumeration(&self) -> Enumeration<'_>
-        ensures { conditions_of result ≡ conditions_by self.now }
-    {
-        Enumeration {
-            limits: self.settings.limits,
-            speed: self.settings.speed,
-            fates: &self.settings.fates,
-            changes: &self.changes,
-            flags: self.flags,
-        }
-    }
 }
 
 /// The settings that the options give.

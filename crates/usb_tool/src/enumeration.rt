@@ -2,12 +2,13 @@
 ghost use Rattle.std.specs.Prelude.{◌≡◌, ◌≢◌, ◌++◌, [], IfErr, IfOk, false, true};
 ghost use Rattle.usb_listing.specs.Listing.{file_lines};
 ghost use Rattle.usb_tool.specs.CommandLine.{no_flags};
-ghost use Rattle.usb_tool.specs.Enumerations.{EnumerateFails, Enumerated, EnumeratedTo, IsNotTaken, IsTaken, RefusesToEnumerate, WritesResult, conditions_at, conditions_of, has_bytes, run_text, unchanged, under, refused_line, success_line, trouble_line};
+ghost use Rattle.usb_tool.specs.Enumerations.{EnumerateFails, Enumerated, EnumeratedTo, IsNotTaken, IsTaken, RefusesToEnumerate, WritesResult, conditions_at, conditions_by, conditions_of, has_bytes, run_text, unchanged, under, refused_line, success_line, trouble_line};
 ghost use Rattle.usb_tool.specs.EnumerationEnds.{end_of};
 ghost use Rattle.usb_tool.specs.declared.enumeration_end.EnumerationEnd.TheVariants.{Refused, Success, Trouble as TroubleEnd};
 ghost use Rattle.usb_tool.specs.inside.Telling.{BreaksRun, EndsWith, IsCutShort, MakesRun};
 ghost use Rattle.usb_file_data.specs.declared.fault.FileWhy.TheVariants as files;
 
+use crate::enumerating::EnumerationSettings;
 use crate::enumeration_end::EnumerationEnd;
 use crate::fault::ToolFault;
 use crate::input::read_all;
@@ -41,6 +42,21 @@ pub struct Enumeration<'a> {
     pub changes: &'a [BitChange],
     /// What is taken, written and asked for.
     pub flags: EnumerateFlags,
+}
+
+impl<'a> Enumeration<'a> {
+    /// What these settings say.
+    pub(crate) fn of(given: &'a EnumerationSettings) -> Enumeration<'a>
+        ensures { conditions_of result ≡ conditions_by given.entry.now }
+    {
+        Enumeration {
+            limits: given.settings.limits,
+            speed: given.settings.speed,
+            fates: &given.settings.fates,
+            changes: &given.changes,
+            flags: given.flags,
+        }
+    }
 }
 
 /// Reads a descriptor file to its end, and enumerates a device of this speed that has these descriptors, over a bus with

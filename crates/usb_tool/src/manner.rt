@@ -1,6 +1,6 @@
 //! How an input is to be explained.
 ghost use Rattle.std.specs.Prelude.{◌≡◌, IfErr, IfOk, None};
-ghost use Rattle.usb_tool.specs.Explains.{IsManner, HasBadSpeed, running_said, running_speed_of};
+ghost use Rattle.usb_tool.specs.Manners.{IsManner, HasBadSpeed, running_said, running_speed_of};
 ghost use Rattle.usb_tool.specs.declared.settings.SettingsFault.TheVariants.{Speed};
 
 use crate::settings::SettingsFault;
@@ -23,7 +23,7 @@ pub fn manner_of(explaining: &Explaining<'_>) -> Result<Manner, SettingsFault>
     ensures ok { IfOk result (IsManner explaining.now) }
     ensures err { IfErr result (λ fault. (fault ≡ Speed) × HasBadSpeed explaining.now) }
 {
-    let Some(speed) = speed_of(explaining.speed) else {
+    let Some(speed) = running_speed_said(explaining.speed) else {
         return Err(SettingsFault::Speed);
     };
     Ok(Manner {
@@ -39,7 +39,7 @@ pub fn manner_of(explaining: &Explaining<'_>) -> Result<Manner, SettingsFault>
 }
 
 /// The speed that is named, if one is; `None` where no speed has the name.
-pub(crate) fn speed_of(name: Option<&str>) -> Option<Option<SetSpeed>>
+pub fn running_speed_said(name: Option<&str>) -> Option<Option<SetSpeed>>
     ensures { result ≡ running_said name.entry }
 {
     match name {

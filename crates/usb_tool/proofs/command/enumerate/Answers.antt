@@ -1,7 +1,6 @@
 use Rattle.std.proofs.Common.{inl, subst}
 use Rattle.std.specs.Prelude.{IfErr, IfOk}
-use Rattle.usb_tool.specs.Enumerating.{conditions_by}
-use Rattle.usb_tool.specs.Enumerations.{Conditions, EnumerateFails, EnumeratedTo}
+use Rattle.usb_tool.specs.Enumerations.{Conditions, EnumerateFails, EnumeratedTo, conditions_by}
 use Rattle.usb_tool.proofs.Running.{enumeration_ends}
 use Rattle.usb_tool.proofs.command.enumerate.Goals as goal
 
@@ -15,7 +14,7 @@ returns-in-Ok g c =
       settings = c.in-Ok.settings;
       settled = c.in-Ok.ensures.ok;
       ended = enumeration_ends (conditions_by c.in-Ok.settings) _ from to held holds _
-          (subst (λ (k : Conditions). IfOk c.run_enumeration-answer.result (EnumeratedTo k from to held holds)) c.enumeration.ensures c.run_enumeration-answer.ensures.enumerated)
-          (subst (λ (k : Conditions). IfErr c.run_enumeration-answer.result (EnumerateFails k from to held holds)) c.enumeration.ensures c.run_enumeration-answer.ensures.err)
+          (subst (λ (k : Conditions). IfOk c.run_enumeration-answer.result (EnumeratedTo k from to held holds)) c.of.ensures c.run_enumeration-answer.ensures.enumerated)
+          (subst (λ (k : Conditions). IfErr c.run_enumeration-answer.result (EnumerateFails k from to held holds)) c.of.ensures c.run_enumeration-answer.ensures.err)
           c.of_enumeration.ensures;
     })
