@@ -12,8 +12,8 @@ use Rattle.usb_capture_lines.specs.declared.selection.Selection.{Selection}
 use Rattle.usb_text.specs.Output.{AppendsFront, Held}
 use Rattle.usb_tool.specs.Endings.{Extent, Failure, Left, Work}
 use Rattle.usb_tool.specs.Faults.{fault_of_device, fault_of_recording}
-use Rattle.usb_tool.specs.declared.capturing.CaptureCommand.{CaptureCommand}
-use Rattle.usb_tool.specs.declared.capturing.CaptureCommand.TheVariants as commands
+use Rattle.usb_tool.specs.declared.capture_options.CaptureCommand.{CaptureCommand}
+use Rattle.usb_tool.specs.declared.capture_options.CaptureCommand.TheVariants as commands
 use Rattle.usb_tool.specs.declared.fault.ToolFault.{ToolFault}
 use Rattle.usb_tool.specs.declared.fault.ToolFault.TheVariants as faults
 

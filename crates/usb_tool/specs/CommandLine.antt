@@ -6,16 +6,14 @@ use Rattle.std.specs.Global.{Global}
 use Rattle.clap.specs.Words.{App, Row, Rule, Text, first_of, new_app, new_rule, with_rule, with_subcommand}
 use Rattle.clap.specs.declared.builder.action.ArgAction.TheVariants as actions
 use Rattle.clap.specs.declared.builder.value_parser.ValueParser.TheVariants as parsers
-use Rattle.usb_host.specs.Terms.{everything}
 use Rattle.usb_tool.specs.declared.building.Building.{Building}
 use Rattle.usb_tool.specs.declared.capturing.Capturing.{Capturing}
 use Rattle.usb_tool.specs.declared.checking.Checking.{Checking}
 use Rattle.usb_tool.specs.declared.enumerating.Enumerating.{Enumerating}
-use Rattle.usb_tool.specs.declared.manner.Explaining.{Explaining}
+use Rattle.usb_tool.specs.declared.explaining.Explaining.{Explaining}
 use Rattle.usb_tool.specs.declared.command_line.Line.{Line}
 use Rattle.usb_tool.specs.declared.command_line.Line.TheVariants as lines
-use Rattle.usb_tool.specs.declared.settings.EnumerateFlags.{EnumerateFlags}
-use Rattle.usb_tool.specs.declared.settings.Options.{Options}
+use Rattle.usb_tool.specs.declared.options.Options.{Options}
 use Rattle.usb_tool.specs.declared.showing.Showing.{Showing}
 
 -- an option of this name, with one value
@@ -164,23 +162,12 @@ pub record HasTexts (o : Options) (rows : List Row) : Type 0 where
   pub attempts : text_of o.attempts ≡ first_of (codes "attempts") rows
   pub fates : text_of o.fates ≡ first_of (codes "fates") rows
 
--- the flags of `enumerate` that were found
-abbrev pub flags_of : List Row → EnumerateFlags
-flags_of rows = record {
-  log = gives (codes "log") rows;
-  brief = gives (codes "brief") rows;
-  packets = gives (codes "packets") rows;
-  with_strings = gives (codes "with-strings") rows;
-  choice = everything;
-}
-
--- none of them
-abbrev pub no_flags : EnumerateFlags
-no_flags = record { log = false; brief = false; packets = false; with_strings = false; choice = everything }
-
 -- the options of `enumerate` beside the texts are those that were found
 pub record IsEnumerating (o : Enumerating) (rows : List Row) : Type 0 where
-  pub flags : o.flags ≡ flags_of rows
+  pub log : o.log ≡ gives (codes "log") rows
+  pub brief : o.brief ≡ gives (codes "brief") rows
+  pub packets : o.packets ≡ gives (codes "packets") rows
+  pub with_strings : o.with_strings ≡ gives (codes "with-strings") rows
   pub damage : text_of o.damage ≡ first_of (codes "damage") rows
   pub strings : text_of o.strings ≡ first_of (codes "strings") rows
   pub other_speed : text_of o.other_speed ≡ first_of (codes "other-speed") rows
@@ -188,7 +175,7 @@ pub record IsEnumerating (o : Enumerating) (rows : List Row) : Type 0 where
 -- one of them was given
 abbrev pub asks_more : Enumerating → Bool
 asks_more o =
-    o.flags.log || o.flags.brief || o.flags.packets || o.flags.with_strings || is_some o.damage || is_some o.strings
+    o.log || o.brief || o.packets || o.with_strings || is_some o.damage || is_some o.strings
     || is_some o.other_speed
 
 -- no option was given
@@ -202,7 +189,7 @@ abbrev pub no_checking : Checking
 no_checking = record { any = false; hex = false; remarks = false; speed = None }
 
 abbrev pub no_enumerating : Enumerating
-no_enumerating = record { flags = no_flags; damage = None; strings = None; other_speed = None }
+no_enumerating = record { log = false; brief = false; packets = false; with_strings = false; damage = None; strings = None; other_speed = None }
 
 -- the subcommand of this name was found, and this holds of what was found for its options
 abbrev pub Finds : Text → (List Row → Type 0) → Option (Text × List Row) → Type 0

@@ -22,19 +22,19 @@ use Rattle.usb_tool.specs.WorkOptions.{IsCheckingTask, RefusesChecking, showing_
 use Rattle.usb_tool.specs.Works.{WorkFails, Worked}
 use Rattle.usb_tool.specs.declared.audience.Audience.{Audience}
 use Rattle.usb_tool.specs.declared.building.Building.{Building}
-use Rattle.usb_tool.specs.declared.capturing.CaptureCommand.{CaptureCommand}
+use Rattle.usb_tool.specs.declared.capture_options.CaptureCommand.{CaptureCommand}
 use Rattle.usb_tool.specs.declared.capturing.Capturing.{Capturing}
 use Rattle.usb_tool.specs.declared.checking.Checking.{Checking}
 use Rattle.usb_tool.specs.declared.command_line.Line.{Line}
 use Rattle.usb_tool.specs.declared.command_line.Line.TheVariants as lines
 use Rattle.usb_tool.specs.declared.enumerating.Enumerating.{Enumerating}
-use Rattle.usb_tool.specs.declared.enumerating.EnumerationSettings.{EnumerationSettings}
-use Rattle.usb_tool.specs.declared.manner.Explaining.{Explaining}
+use Rattle.usb_tool.specs.declared.enumerate_options.EnumerationSettings.{EnumerationSettings}
+use Rattle.usb_tool.specs.declared.explaining.Explaining.{Explaining}
 use Rattle.usb_tool.specs.declared.meaning.Hint.{Hint}
 use Rattle.usb_tool.specs.declared.meaning.Hint.TheVariants as hints
 use Rattle.usb_tool.specs.declared.outcome.Outcome.{Outcome}
 use Rattle.usb_tool.specs.declared.outcome.Outcome.TheVariants as outcomes
-use Rattle.usb_tool.specs.declared.settings.Options.{Options}
+use Rattle.usb_tool.specs.declared.options.Options.{Options}
 use Rattle.usb_tool.specs.declared.settings.SettingsFault.{SettingsFault}
 use Rattle.usb_tool.specs.declared.settings.SettingsFault.TheVariants.{Speed}
 use Rattle.usb_tool.specs.declared.showing.Showing.{Showing}

@@ -1,9 +1,9 @@
 //! The command `capture`.
 ghost use Rattle.std.specs.Prelude.{◌≡◌, IfErr, IfOk};
 ghost use Rattle.usb_tool.specs.Captures.{CaptureDone, CaptureFails, made_bytes};
-ghost use Rattle.usb_tool.specs.declared.capturing.CaptureCommand.TheVariants as commands;
+ghost use Rattle.usb_tool.specs.declared.capture_options.CaptureCommand.TheVariants as commands;
 
-use crate::capturing::CaptureCommand;
+use crate::capture_options::CaptureCommand;
 use crate::fault::{ToolFault, fault_of_device};
 use crate::output::write_flushed;
 use std::alloc::Global;

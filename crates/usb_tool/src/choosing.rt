@@ -9,8 +9,7 @@ use usb_host::{Choice, NamedStrings};
 /// What the options choose. An absent one is `needed`, or `yes`.
 ///
 /// ```rust
-/// let flags = EnumerateFlags { log: false, brief: false, packets: false, with_strings: false, choice: Choice::everything() };
-/// let enumerating = Enumerating { flags, damage: None, strings: Some("skipped"), other_speed: None };
+/// let enumerating = Enumerating { log: false, brief: false, packets: false, with_strings: false, damage: None, strings: Some("skipped"), other_speed: None };
 /// assert_eq!(rt; choice_of(&enumerating)?, Choice { strings: NamedStrings::Skipped, other_speed: true });
 /// ```
 ///

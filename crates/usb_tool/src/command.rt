@@ -7,22 +7,24 @@ ghost use Rattle.usb_tool.specs.Works.{WorkFails, Worked};
 use crate::build::run_build_as;
 use crate::building::Building;
 use crate::capture::run_capture;
-use crate::capturing::{Capturing, capture_command};
+use crate::capture_options::capture_command;
+use crate::capturing::Capturing;
 use crate::checking::Checking;
 use crate::command_line::Line;
-use crate::enumerating::{Enumerating, enumeration_settings};
+use crate::enumerate_options::enumeration_settings;
+use crate::enumerating::Enumerating;
 use crate::enumeration::{Enumeration, run_enumeration};
+use crate::explaining::Explaining;
 use crate::explanation::{Explanation, run_explain};
-use crate::manner::{Explaining, manner_of};
+use crate::manner::manner_of;
 use crate::meaning::Hint;
+use crate::options::Options;
 use crate::outcome::Outcome;
-use crate::settings::{EnumerateFlags, Options};
 use crate::showing::Showing;
 use crate::task::{Task, run_work};
 use crate::work_options::{checking_task, showing_task};
 use std::alloc::Global;
 use std::io::{Read, Write};
-use usb_host::Choice;
 
 /// Carries out what a line asks for.
 pub(crate) fn carry_out<R: Read, W: Write>(
@@ -164,13 +166,10 @@ fn enumerate_plainly<R: Read, W: Write>(
     ensures { EndsEnumeration options.now no_enumerating (R.remaining r.old) (R.remaining r.new) (W.contents w.old) (W.contents w.new) result }
 {
     let plain = Enumerating {
-        flags: EnumerateFlags {
-            log: false,
-            brief: false,
-            packets: false,
-            with_strings: false,
-            choice: Choice::everything(),
-        },
+        log: false,
+        brief: false,
+        packets: false,
+        with_strings: false,
         damage: None,
         strings: None,
         other_speed: None,

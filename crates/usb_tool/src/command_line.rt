@@ -2,7 +2,7 @@
 ghost use Rattle.std.specs.Prelude.{◌≡◌, IfOk, Some, codes};
 ghost use Rattle.clap.specs.Words.{fault_of, found_of, rows_of, subcommand_of, subcommand_rows_of};
 ghost use Rattle.clap.specs.Kinds.{FailsBy};
-ghost use Rattle.usb_tool.specs.CommandLine.{Asks, HasCapturing, HasFlags, HasTexts, IsBuilding, IsChecking, IsEnumerating, IsShowing, asks_more, flags_of, gives, is_given, text_of, usbdesc_app, word_texts};
+ghost use Rattle.usb_tool.specs.CommandLine.{Asks, HasCapturing, HasFlags, HasTexts, IsBuilding, IsChecking, IsEnumerating, IsShowing, asks_more, gives, is_given, text_of, usbdesc_app, word_texts};
 ghost use Rattle.usb_tool.specs.inside.Parsing.{NamesCommand};
 
 use crate::building::Building;
@@ -10,12 +10,11 @@ use crate::capturing::Capturing;
 use crate::checking::Checking;
 use crate::clap_command::usbdesc;
 use crate::enumerating::Enumerating;
-use crate::manner::Explaining;
-use crate::settings::{EnumerateFlags, Options};
+use crate::explaining::Explaining;
+use crate::options::Options;
 use crate::showing::Showing;
 use clap::{ArgMatches, Error};
 use std::alloc::Global;
-use usb_host::Choice;
 
 /// What a command line asks for.
 #[derive(Clone, Copy, Debug, PartialEq, Eq, Hash)]
@@ -169,7 +168,10 @@ fn enumerating_of<'a>(matches: &ArgMatches<'a>) -> Enumerating<'a>
     ensures { IsEnumerating result (rows_of (found_of matches.now)) }
 {
     Enumerating {
-        flags: flags_of(matches),
+        log: has_flag(matches, "log"),
+        brief: has_flag(matches, "brief"),
+        packets: has_flag(matches, "packets"),
+        with_strings: has_flag(matches, "with-strings"),
         damage: matches.get_str("damage"),
         strings: matches.get_str("strings"),
         other_speed: matches.get_str("other-speed"),
@@ -180,11 +182,10 @@ fn enumerating_of<'a>(matches: &ArgMatches<'a>) -> Enumerating<'a>
 fn asks_more(enumerating: &Enumerating<'_>) -> bool
     ensures { result ≡ asks_more enumerating.now }
 {
-    let flags = enumerating.flags;
-    flags.log
-        || flags.brief
-        || flags.packets
-        || flags.with_strings
+    enumerating.log
+        || enumerating.brief
+        || enumerating.packets
+        || enumerating.with_strings
         || enumerating.damage.is_some()
         || enumerating.strings.is_some()
         || enumerating.other_speed.is_some()
@@ -214,18 +215,6 @@ fn explaining_of<'a>(matches: &ArgMatches<'a>) -> Explaining<'a>
         loose: has_flag(matches, "loose"),
         formats: has_flag(matches, "formats"),
         speed: matches.get_str("speed"),
-    }
-}
-
-fn flags_of(matches: &ArgMatches<'_>) -> EnumerateFlags
-    ensures { result ≡ flags_of (rows_of (found_of matches.now)) }
-{
-    EnumerateFlags {
-        log: has_flag(matches, "log"),
-        brief: has_flag(matches, "brief"),
-        packets: has_flag(matches, "packets"),
-        with_strings: has_flag(matches, "with-strings"),
-        choice: Choice::everything(),
     }
 }
 

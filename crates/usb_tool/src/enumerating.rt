@@ -1,76 +1,21 @@
-//! What the options of `enumerate` mean.
-ghost use Rattle.std.specs.Prelude.{◌≡◌, IfErr, IfOk, Some};
-ghost use Rattle.usb_tool.specs.Damages.{RefusesSaid, damage_said};
-ghost use Rattle.usb_tool.specs.Enumerating.{IsEnumerationSettled, RefusesEnumerating};
+//! The other options of `enumerate`.
 
-use crate::choosing::choice_of;
-use crate::damages::read_damages;
-use crate::settings::{EnumerateFlags, Options, Settings, SettingsFault, settings_with};
-use std::alloc::Global;
-use usb_bus::BitChange;
-
-/// The options of `enumerate` beside [`Options`].
+/// The options of `enumerate` beside [`Options`](crate::Options): which flags are given, and the text of each other one, or
+/// `None` where the words lack it.
 #[derive(Clone, Copy, Debug, PartialEq, Eq, Hash)]
 pub struct Enumerating<'a> {
-    /// Its flags, which ask for everything.
-    pub flags: EnumerateFlags,
-    /// The bits that change, or `None` where the words lack it.
+    /// Whether a log of the transactions is asked for.
+    pub log: bool,
+    /// Whether its lines of data are left out.
+    pub brief: bool,
+    /// Whether it shows the bytes of each packet.
+    pub packets: bool,
+    /// Whether a dump is taken, with a text in each place that names a string.
+    pub with_strings: bool,
+    /// The bits that change.
     pub damage: Option<&'a str>,
     /// What becomes of the strings: `needed`, `wanted` or `skipped`.
     pub strings: Option<&'a str>,
     /// Whether the other speed is asked for: `yes` or `no`.
     pub other_speed: Option<&'a str>,
-}
-
-/// What an enumeration is given beside its file.
-#[derive(Debug, Drop)]
-pub struct EnumerationSettings {
-    /// What the host, the device and the bus are.
-    pub settings: Settings,
-    /// The bits that change.
-    pub changes: Vec<BitChange>,
-    /// The flags, with what the host asks for.
-    pub flags: EnumerateFlags,
-}
-
-/// The settings that the options give.
-///
-/// ```rust
-/// let options = Options { speed: None, address: None, naks: None, attempts: None, fates: None };
-/// let flags = EnumerateFlags { log: false, brief: true, packets: false, with_strings: false, choice: Choice::everything() };
-/// let enumerating = Enumerating { flags, damage: Some("1:1"), strings: None, other_speed: None };
-/// assert_eq!(rt; enumeration_settings(alloc, &options, &enumerating).err(), Some(SettingsFault::BriefAlone));
-/// ```
-///
-/// # Errors
-///
-/// Those of [`choice_of`], else those of [`settings_with`], and else those of [`read_damages`].
-pub fn enumeration_settings(
-    alloc: Global,
-    options: &Options<'_>,
-    enumerating: &Enumerating<'_>,
-) -> Result<EnumerationSettings, SettingsFault>
-    ensures ok { IfOk result (IsEnumerationSettled options.now enumerating.now) }
-    ensures err { IfErr result (RefusesEnumerating options.now enumerating.now) }
-{
-    let choice = choice_of(enumerating)?;
-    let flags = enumerating.flags;
-    let settings = settings_with(alloc, options, flags)?;
-    let changes = changes_of(alloc, enumerating.damage)?;
-    Ok(EnumerationSettings {
-        settings,
-        changes,
-        flags: EnumerateFlags { choice, ..flags },
-    })
-}
-
-/// The changes that the option names: none where it is absent.
-fn changes_of(alloc: Global, damage: Option<&str>) -> Result<Vec<BitChange>, SettingsFault>
-    ensures ok { IfOk result (λ changes. damage_said damage.entry ≡ Some changes.items) }
-    ensures err { IfErr result (RefusesSaid (damage_said damage.entry)) }
-{
-    match damage {
-        Some(text) => read_damages(alloc, text),
-        None => Ok(Vec::new(alloc)),
-    }
 }

@@ -1,14 +1,13 @@
 //! The command `enumerate`.
 ghost use Rattle.std.specs.Prelude.{◌≡◌, ◌≢◌, ◌++◌, [], IfErr, IfOk, false, true};
 ghost use Rattle.usb_listing.specs.Listing.{file_lines};
-ghost use Rattle.usb_tool.specs.CommandLine.{no_flags};
-ghost use Rattle.usb_tool.specs.Enumerations.{EnumerateFails, Enumerated, EnumeratedTo, IsNotTaken, IsTaken, RefusesToEnumerate, WritesResult, conditions_at, conditions_by, conditions_of, has_bytes, run_text, unchanged, under, refused_line, success_line, trouble_line};
+ghost use Rattle.usb_tool.specs.Enumerations.{EnumerateFails, Enumerated, EnumeratedTo, IsNotTaken, IsTaken, RefusesToEnumerate, WritesResult, conditions_at, conditions_by, conditions_of, has_bytes, no_flags, run_text, unchanged, under, refused_line, success_line, trouble_line};
 ghost use Rattle.usb_tool.specs.EnumerationEnds.{end_of};
 ghost use Rattle.usb_tool.specs.declared.enumeration_end.EnumerationEnd.TheVariants.{Refused, Success, Trouble as TroubleEnd};
 ghost use Rattle.usb_tool.specs.inside.Telling.{BreaksRun, EndsWith, IsCutShort, MakesRun};
 ghost use Rattle.usb_file_data.specs.declared.fault.FileWhy.TheVariants as files;
 
-use crate::enumerating::EnumerationSettings;
+use crate::enumerate_options::EnumerationSettings;
 use crate::enumeration_end::EnumerationEnd;
 use crate::fault::ToolFault;
 use crate::input::read_all;

@@ -3,6 +3,7 @@ ghost use Rattle.std.specs.Prelude.{◌≡◌, IfErr, IfOk, None};
 ghost use Rattle.usb_tool.specs.Manners.{IsManner, HasBadSpeed, running_said, running_speed_of};
 ghost use Rattle.usb_tool.specs.declared.settings.SettingsFault.TheVariants.{Speed};
 
+use crate::explaining::Explaining;
 use crate::settings::SettingsFault;
 use usb_explain::{Look, Manner};
 use usb_remarks::SetSpeed;
@@ -64,23 +65,4 @@ pub fn read_running_speed(name: &str) -> Option<SetSpeed>
         "super" => Some(SetSpeed::Super),
         _ => None,
     }
-}
-
-/// Which of the flags of `explain` are given, and the text of its speed.
-#[derive(Clone, Copy, Debug, PartialEq, Eq, Hash)]
-pub struct Explaining<'a> {
-    /// Whether the fields are left out.
-    pub brief: bool,
-    /// Whether the places are left out.
-    pub no_places: bool,
-    /// Whether characters beyond ASCII are written.
-    pub utf8: bool,
-    /// Whether the input has to be hexadecimal text.
-    pub hex: bool,
-    /// Whether it is explained as a fragment.
-    pub loose: bool,
-    /// Whether headings of formats have what tells them apart.
-    pub formats: bool,
-    /// The name of a speed, or `None` where the words lack it.
-    pub speed: Option<&'a str>,
 }

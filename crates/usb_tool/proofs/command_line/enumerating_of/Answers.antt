@@ -7,7 +7,10 @@ pub returns : goal.returns
 returns c =
     let found = found_of c.args.matches.now in
     record {
-      flags = c.flags_of.ensures;
+      log = c.has_flag.ensures;
+      brief = c.has_flag-2.ensures;
+      packets = c.has_flag-3.ensures;
+      with_strings = c.has_flag-4.ensures;
       damage = c.get_str.ensures ∙ first_value-rows found (codes "damage");
       strings = c.get_str-2.ensures ∙ first_value-rows found (codes "strings");
       other_speed = c.get_str-3.ensures ∙ first_value-rows found (codes "other-speed");

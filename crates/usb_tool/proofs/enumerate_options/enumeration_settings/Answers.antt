@@ -1,7 +1,7 @@
 use Rattle.std.proofs.Common.{inl, inr}
 use Rattle.usb_fields.proofs.Exits.{exit_err}
 use Rattle.usb_tool.specs.Enumerating.{RefusesEnumerating}
-use Rattle.usb_tool.proofs.enumerating.enumeration_settings.Goals as goal
+use Rattle.usb_tool.proofs.enumerate_options.enumeration_settings.Goals as goal
 
 pub returns-in_err-choice-clause-err : goal.returns-in_err-choice-clause-err
 returns-in_err-choice-clause-err c =
