@@ -11,7 +11,7 @@ use Rattle.usb_text.proofs.Pages.{keeps_refl}
 use Rattle.usb_tool.specs.Builds.{BuildFails, FaultyBy, ListsBytes, RefusesListing, TellsBuilt, listed_text, written_as}
 use Rattle.usb_tool.specs.Endings.{AppendsNone, Left, ReadsAll, Refuses}
 use Rattle.usb_tool.specs.Faults.{fault_of_list, list_fault_by_why}
-use Rattle.usb_tool.specs.declared.building.Building.{Building}
+use Rattle.usb_command_line.specs.declared.building.Building.{Building}
 use Rattle.usb_tool.specs.declared.fault.ToolFault.{ToolFault}
 use Rattle.usb_tool.proofs.Reading.{when_err}
 

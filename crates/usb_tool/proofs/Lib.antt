@@ -7,7 +7,6 @@ pub mod Telling
 pub mod Written
 pub mod FateLemmas
 pub mod DamageLemmas
-pub mod LineLemmas
 pub mod NumberLemmas
 pub mod Hexadecimal
 pub mod Explained

@@ -11,7 +11,7 @@ use Rattle.usb_listing.specs.Listing.{file_lines}
 use Rattle.usb_listing.specs.Listings.{ListFaulty}
 use Rattle.usb_text.specs.Output.{Held}
 use Rattle.usb_tool.specs.Endings.{AppendsNone, Fails, Left, Refusal, Refuses, Told}
-use Rattle.usb_tool.specs.declared.building.Building.{Building}
+use Rattle.usb_command_line.specs.declared.building.Building.{Building}
 use Rattle.usb_tool.specs.declared.fault.ToolFault.{ToolFault}
 use Rattle.usb_tool.specs.declared.fault.ToolFault.TheVariants as faults
 

@@ -5,10 +5,10 @@ use Rattle.usb_host.specs.declared.choice.Choice.{Choice}
 use Rattle.usb_tool.specs.Choosing.{IsChosen, RefusesChoosing}
 use Rattle.usb_tool.specs.Damages.{RefusesSaid, damage_said}
 use Rattle.usb_tool.specs.Settings.{IsSettledUnless, RefusesUnless, flag_alone}
-use Rattle.usb_tool.specs.declared.enumerating.Enumerating.{Enumerating}
+use Rattle.usb_command_line.specs.declared.enumerating.Enumerating.{Enumerating}
 use Rattle.usb_tool.specs.declared.enumerate_options.EnumerationSettings.{EnumerationSettings}
 use Rattle.usb_tool.specs.declared.settings.EnumerateFlags.{EnumerateFlags}
-use Rattle.usb_tool.specs.declared.options.Options.{Options}
+use Rattle.usb_command_line.specs.declared.options.Options.{Options}
 use Rattle.usb_tool.specs.declared.settings.Settings.{Settings}
 use Rattle.usb_tool.specs.declared.settings.SettingsFault.{SettingsFault}
 

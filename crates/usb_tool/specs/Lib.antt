@@ -8,7 +8,6 @@ pub mod EnumerationEnds
 pub mod Enumerations
 pub mod Manners
 pub mod Explains
-pub mod CommandLine
 pub mod OptionValues
 pub mod Damages
 pub mod Settings

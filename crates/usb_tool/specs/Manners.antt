@@ -5,7 +5,7 @@ use Rattle.std.specs.Str.{bytes_eq}
 use Rattle.usb_explain.specs.declared.manner.Manner.{Manner}
 use Rattle.usb_remarks.specs.declared.speed.SetSpeed.{SetSpeed}
 use Rattle.usb_remarks.specs.declared.speed.SetSpeed.TheVariants.{Low, Full, High, Super}
-use Rattle.usb_tool.specs.declared.explaining.Explaining.{Explaining}
+use Rattle.usb_command_line.specs.declared.explaining.Explaining.{Explaining}
 
 -- the speed of a name
 abbrev pub running_speed_of : List ℕ → Option SetSpeed

@@ -11,7 +11,7 @@ use Rattle.usb_text.specs.Output.{AppendsFront, Held}
 use Rattle.usb_tool.specs.Builds.{BuildFails, Built}
 use Rattle.usb_tool.specs.CaptureOptions.{IsCaptureCommand, RefusesCapturing}
 use Rattle.usb_tool.specs.Captures.{CaptureDone, CaptureFails}
-use Rattle.usb_tool.specs.CommandLine.{Asks, no_building, no_checking, no_enumerating, no_showing, usbdesc_app, word_texts}
+use Rattle.usb_command_line.specs.CommandLine.{Asks, no_building, no_checking, no_enumerating, no_showing, usbdesc_app, word_texts}
 use Rattle.usb_tool.specs.Endings.{Failure, Left, Work}
 use Rattle.usb_tool.specs.Enumerating.{IsEnumerationSettled, RefusesEnumerating}
 use Rattle.usb_tool.specs.Enumerations.{Conditions, EnumerateFails, EnumeratedTo, conditions_by}
@@ -21,23 +21,23 @@ use Rattle.usb_tool.specs.Outcomes.{Reports, enumerate_hint, outcome_status}
 use Rattle.usb_tool.specs.WorkOptions.{IsCheckingTask, RefusesChecking, showing_task}
 use Rattle.usb_tool.specs.Works.{WorkFails, Worked}
 use Rattle.usb_tool.specs.declared.audience.Audience.{Audience}
-use Rattle.usb_tool.specs.declared.building.Building.{Building}
+use Rattle.usb_command_line.specs.declared.building.Building.{Building}
 use Rattle.usb_tool.specs.declared.capture_options.CaptureCommand.{CaptureCommand}
-use Rattle.usb_tool.specs.declared.capturing.Capturing.{Capturing}
-use Rattle.usb_tool.specs.declared.checking.Checking.{Checking}
-use Rattle.usb_tool.specs.declared.command_line.Line.{Line}
-use Rattle.usb_tool.specs.declared.command_line.Line.TheVariants as lines
-use Rattle.usb_tool.specs.declared.enumerating.Enumerating.{Enumerating}
+use Rattle.usb_command_line.specs.declared.capturing.Capturing.{Capturing}
+use Rattle.usb_command_line.specs.declared.checking.Checking.{Checking}
+use Rattle.usb_command_line.specs.declared.command_line.Line.{Line}
+use Rattle.usb_command_line.specs.declared.command_line.Line.TheVariants as lines
+use Rattle.usb_command_line.specs.declared.enumerating.Enumerating.{Enumerating}
 use Rattle.usb_tool.specs.declared.enumerate_options.EnumerationSettings.{EnumerationSettings}
-use Rattle.usb_tool.specs.declared.explaining.Explaining.{Explaining}
+use Rattle.usb_command_line.specs.declared.explaining.Explaining.{Explaining}
 use Rattle.usb_tool.specs.declared.meaning.Hint.{Hint}
 use Rattle.usb_tool.specs.declared.meaning.Hint.TheVariants as hints
 use Rattle.usb_tool.specs.declared.outcome.Outcome.{Outcome}
 use Rattle.usb_tool.specs.declared.outcome.Outcome.TheVariants as outcomes
-use Rattle.usb_tool.specs.declared.options.Options.{Options}
+use Rattle.usb_command_line.specs.declared.options.Options.{Options}
 use Rattle.usb_tool.specs.declared.settings.SettingsFault.{SettingsFault}
 use Rattle.usb_tool.specs.declared.settings.SettingsFault.TheVariants.{Speed}
-use Rattle.usb_tool.specs.declared.showing.Showing.{Showing}
+use Rattle.usb_command_line.specs.declared.showing.Showing.{Showing}
 use Rattle.usb_tool.specs.declared.task.Task.{Task}
 
 -- the exit status of a line that is no command: 0 where it asks for help or the version, else 2

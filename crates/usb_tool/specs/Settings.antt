@@ -9,7 +9,7 @@ use Rattle.usb_tool.specs.OptionValues.{RefusesFates, fates_of, number_of, speed
 use Rattle.usb_tool.specs.declared.settings.FatesFault.{FatesFault}
 use Rattle.usb_tool.specs.declared.settings.FatesFault.TheVariants as letters
 use Rattle.usb_tool.specs.declared.settings.EnumerateFlags.{EnumerateFlags}
-use Rattle.usb_tool.specs.declared.options.Options.{Options}
+use Rattle.usb_command_line.specs.declared.options.Options.{Options}
 use Rattle.usb_tool.specs.declared.settings.Settings.{Settings}
 use Rattle.usb_tool.specs.declared.settings.SettingsFault.{SettingsFault}
 use Rattle.usb_tool.specs.declared.settings.SettingsFault.TheVariants as faults

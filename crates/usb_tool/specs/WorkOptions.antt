@@ -2,10 +2,10 @@
 use Rattle.std.specs.Prelude.{◌≡◌, Bool, true, false, Option, Some, None, IsSome, if◌then◌else◌}
 use Rattle.usb_tool.specs.Manners.{running_said}
 use Rattle.usb_tool.specs.Works.{task_of, taken_with}
-use Rattle.usb_tool.specs.declared.checking.Checking.{Checking}
+use Rattle.usb_command_line.specs.declared.checking.Checking.{Checking}
 use Rattle.usb_tool.specs.declared.settings.SettingsFault.{SettingsFault}
 use Rattle.usb_tool.specs.declared.settings.SettingsFault.TheVariants as faults
-use Rattle.usb_tool.specs.declared.showing.Showing.{Showing}
+use Rattle.usb_command_line.specs.declared.showing.Showing.{Showing}
 use Rattle.usb_tool.specs.declared.source.Source.{Source}
 use Rattle.usb_tool.specs.declared.source.Source.TheVariants.{Bytes, Hexadecimal}
 use Rattle.usb_tool.specs.declared.taken.Taken.TheVariants.{File, SetOrFile}

@@ -2,4 +2,3 @@
 pub mod Taking
 pub mod Intake
 pub mod Telling
-pub mod Parsing

@@ -2,17 +2,17 @@
 ghost use Rattle.std.specs.Prelude.{◌≢◌, IfErr, IfOk};
 ghost use Rattle.usb_listing.specs.declared.fault.ListWhy.TheVariants as whys;
 ghost use Rattle.usb_tool.specs.Builds.{BuildFails, Built, FaultyBy, ListsBytes, hex_text, written_as};
-ghost use Rattle.usb_tool.specs.CommandLine.{no_building};
+ghost use Rattle.usb_command_line.specs.CommandLine.{no_building};
 ghost use Rattle.usb_tool.specs.Endings.{AppendsNone};
 ghost use Rattle.usb_tool.specs.inside.Telling.{EndsWith, IsCut};
 
-use crate::building::Building;
 use crate::fault::ToolFault;
 use crate::hex_output::hex_text;
 use crate::input::read_all;
 use crate::output::write_flushed;
 use std::alloc::Global;
 use std::io::{Read, Write};
+use usb_command_line::Building;
 use usb_listing::{LISTING_LIMIT, ListFault, assemble_bytes, assemble_bytes_commented};
 
 /// Reads a listing of a descriptor file to its end, and writes the bytes of that file. The number in `Ok` is 0.

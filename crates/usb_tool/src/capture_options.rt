@@ -3,9 +3,9 @@ ghost use Rattle.std.specs.Prelude.{◌≡◌, ◌≤◌, ◌-◌, ◌*◌, ◌^
 ghost use Rattle.usb_tool.specs.CaptureOptions.{IsCaptureCommand, IsFileCommand, IsLinesCommand, IsSelected, RefusesCapturing, RefusesFile, RefusesSelecting, around_point, asks_lines, asks_transfers, device_number, device_of, device_said, fraction_of, time_of, time_said, whole_time};
 ghost use Rattle.usb_tool.specs.OptionValues.{number_of};
 
-use crate::capturing::Capturing;
 use crate::settings::SettingsFault;
 use usb_capture_lines::{DeviceAddress, Selection};
+use usb_command_line::Capturing;
 use usb_fields::byte_at;
 
 /// What `capture` writes.

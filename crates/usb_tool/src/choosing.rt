@@ -2,8 +2,8 @@
 ghost use Rattle.std.specs.Prelude.{◌≡◌, IfErr, IfOk};
 ghost use Rattle.usb_tool.specs.Choosing.{IsChosen, RefusesChoosing, other_speed_of, other_speed_said, strings_of, strings_said};
 
-use crate::enumerating::Enumerating;
 use crate::settings::SettingsFault;
+use usb_command_line::Enumerating;
 use usb_host::{Choice, NamedStrings};
 
 /// What the options choose. An absent one is `needed`, or `yes`.

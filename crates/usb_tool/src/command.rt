@@ -1,30 +1,25 @@
 //! What each command does and what it comes to.
 ghost use Rattle.std.specs.Prelude.{◌≡◌};
-ghost use Rattle.usb_tool.specs.CommandLine.{no_enumerating};
+ghost use Rattle.usb_command_line.specs.CommandLine.{no_enumerating};
 ghost use Rattle.usb_tool.specs.Runs.{Ends, EndsBuild, EndsCapture, EndsCheck, EndsEnumeration, EndsExplanation, EndsLine, EndsShow, any_hint, build_hint};
 ghost use Rattle.usb_tool.specs.Works.{WorkFails, Worked};
 
 use crate::build::run_build_as;
-use crate::building::Building;
 use crate::capture::run_capture;
 use crate::capture_options::capture_command;
-use crate::capturing::Capturing;
-use crate::checking::Checking;
-use crate::command_line::Line;
 use crate::enumerate_options::enumeration_settings;
-use crate::enumerating::Enumerating;
 use crate::enumeration::{Enumeration, run_enumeration};
-use crate::explaining::Explaining;
 use crate::explanation::{Explanation, run_explain};
 use crate::manner::manner_of;
 use crate::meaning::Hint;
-use crate::options::Options;
 use crate::outcome::Outcome;
-use crate::showing::Showing;
 use crate::task::{Task, run_work};
 use crate::work_options::{checking_task, showing_task};
 use std::alloc::Global;
 use std::io::{Read, Write};
+use usb_command_line::{
+    Building, Capturing, Checking, Enumerating, Explaining, Line, Options, Showing,
+};
 
 /// Carries out what a line asks for.
 pub(crate) fn carry_out<R: Read, W: Write>(

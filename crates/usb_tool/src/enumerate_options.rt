@@ -5,11 +5,10 @@ ghost use Rattle.usb_tool.specs.Enumerating.{IsEnumerationSettled, RefusesEnumer
 
 use crate::choosing::choice_of;
 use crate::damages::read_damages;
-use crate::enumerating::Enumerating;
-use crate::options::Options;
 use crate::settings::{EnumerateFlags, Settings, SettingsFault, settings_with};
 use std::alloc::Global;
 use usb_bus::BitChange;
+use usb_command_line::{Enumerating, Options};
 
 /// What an enumeration is given beside its file.
 #[derive(Debug, Drop)]

@@ -20,15 +20,13 @@
 //! [`ToolFault`] says why a command failed, and [`verdict`] gives the exit status. What a run does is `specs/Runs.antt`. Where
 //! its words could not be taken, [`refuse_words`] gives the line for standard error and the status.
 //!
-//! [`read_line`] asks `clap` what the words ask for. Its [`Line`] is a command, with a variant of its own where an option is
-//! given: [`Showing`], [`Checking`], [`Building`], [`Enumerating`], [`Explaining`] and [`Capturing`] have the options. Its
-//! contract is exact both ways: the line is that of `clap`'s function of the words, and each fault is `clap`'s own
-//! (`specs/CommandLine.antt`). What `show` and `check` do by their options is `specs/WorkOptions.antt`.
+//! What the words of a command line ask for is read in the crate `usb_command_line`. What `show` and `check` do by their options
+//! is `specs/WorkOptions.antt`.
 //! [`enumeration_settings`] makes the [`EnumerationSettings`] of all options of `enumerate` (`specs/Enumerating.antt`). Of
 //! these [`settings_of`] reads the texts of [`Options`], with what holds where one is absent, and [`settings_with`] refuses flags
 //! too (`specs/Settings.antt`). It reads the numbers, and [`read_speed`] and [`read_fates`] the other two
 //! (`specs/OptionValues.antt`). [`read_damages`] reads the bits that change (`specs/Damages.antt`), and [`choice_of`] what the host
-//! asks for (`specs/Choosing.antt`). [`manner_of`] says what the options of `explain` mean (`specs/Explains.antt`).
+//! asks for (`specs/Choosing.antt`). [`manner_of`] says what the options of `explain` mean (`specs/Manners.antt`).
 //!
 //! [`converse`] makes control transfers between a host and a device over a bus that loses packets and handshakes.
 //! It takes the description of the device (crate `usb_device`), how many NAKs the host retries, the requests
@@ -38,25 +36,17 @@
 
 mod audience;
 mod build;
-mod building;
 mod capture;
 mod capture_options;
-mod capturing;
 mod check;
-mod checking;
 mod choosing;
-mod clap_command;
 mod command;
-mod command_line;
 mod damages;
 mod enumerate_options;
-mod enumerating;
 mod enumeration;
 mod enumeration_end;
-mod explaining;
 mod explanation;
 mod fault;
-mod help;
 mod hex_output;
 mod input;
 mod intake;
@@ -65,7 +55,6 @@ mod lack_line;
 mod manner;
 mod meaning;
 mod numbers;
-mod options;
 mod outcome;
 mod output;
 mod program;
@@ -73,7 +62,6 @@ mod reporting;
 mod result_line;
 mod settings;
 mod show;
-mod showing;
 mod source;
 mod subject;
 mod taken;
@@ -83,27 +71,20 @@ mod work_options;
 
 pub use audience::Audience;
 pub use build::{run_build, run_build_as};
-pub use building::Building;
 pub use capture::run_capture;
 pub use capture_options::{CaptureCommand, capture_command};
-pub use capturing::Capturing;
 pub use check::run_check;
-pub use checking::Checking;
 pub use choosing::choice_of;
-pub use command_line::{Line, read_line};
 pub use damages::read_damages;
 pub use enumerate_options::{EnumerationSettings, enumeration_settings};
-pub use enumerating::Enumerating;
 pub use enumeration::{Enumeration, run_enumerate, run_enumeration};
 pub use enumeration_end::EnumerationEnd;
-pub use explaining::Explaining;
 pub use explanation::{Explanation, no_input_is_hexadecimal_text, run_explain};
 pub use fault::{ToolFault, verdict};
 pub use invocation::Invocation;
 pub use manner::{manner_of, read_running_speed, running_speed_said};
 pub use meaning::Hint;
 pub use numbers::numbers_are_those_of_the_tables;
-pub use options::Options;
 pub use outcome::Outcome;
 pub use program::{refuse_words, run, run_for};
 pub use settings::{
@@ -111,12 +92,14 @@ pub use settings::{
     settings_with,
 };
 pub use show::run_show;
-pub use showing::Showing;
 pub use source::Source;
 pub use taken::Taken;
 pub use task::{Task, run_work};
 pub use usb_bus::{BitChange, Fate, Reply, Run, Talk, converse, enumerate, laws};
 pub use usb_capture_lines::{DeviceAddress, Selection};
+pub use usb_command_line::{
+    Building, Capturing, Checking, Enumerating, Explaining, Line, Options, Showing, read_line,
+};
 pub use usb_explain::{Look, Manner};
 pub use usb_listing::LISTING_LIMIT;
 pub use usb_remarks::SetSpeed;

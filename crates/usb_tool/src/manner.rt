@@ -3,8 +3,8 @@ ghost use Rattle.std.specs.Prelude.{◌≡◌, IfErr, IfOk, None};
 ghost use Rattle.usb_tool.specs.Manners.{IsManner, HasBadSpeed, running_said, running_speed_of};
 ghost use Rattle.usb_tool.specs.declared.settings.SettingsFault.TheVariants.{Speed};
 
-use crate::explaining::Explaining;
 use crate::settings::SettingsFault;
+use usb_command_line::Explaining;
 use usb_explain::{Look, Manner};
 use usb_remarks::SetSpeed;
 

@@ -7,13 +7,13 @@ ghost use Rattle.usb_tool.specs.declared.audience.Audience.TheVariants.{Program}
 
 use crate::audience::Audience;
 use crate::command::carry_out;
-use crate::command_line::read_line;
 use crate::invocation::Invocation;
 use crate::reporting::tell;
 use clap::error::ErrorKind;
 use std::alloc::Global;
 use std::io;
 use std::io::{Read, Write};
+use usb_command_line::read_line;
 use usb_text::write_all;
 
 /// The line that goes to standard error where the words of the command line could not be taken, and the exit

@@ -6,10 +6,10 @@ ghost use Rattle.usb_tool.specs.declared.settings.SettingsFault.TheVariants as f
 ghost use Rattle.usb_tool.specs.Settings.{IsSettled, IsSettledUnless, RefusesOptions, RefusesUnless, byte_said, fates_said, flag_alone, limits_said, settings_fault_of, speed_said, word_said};
 ghost use Rattle.usb_tool.specs.OptionFaults.{settings_fault_number, settings_line, settings_status};
 
-use crate::options::Options;
 use std::alloc::{AllocError, AllocFailed, Global};
 use std::{error, fmt};
 use usb_bus::Fate;
+use usb_command_line::Options;
 use usb_fields::Speed;
 use usb_host::{Choice, Limits};
 

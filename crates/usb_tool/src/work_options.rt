@@ -2,14 +2,13 @@
 ghost use Rattle.std.specs.Prelude.{◌≡◌, IfErr, IfOk};
 ghost use Rattle.usb_tool.specs.WorkOptions.{IsCheckingTask, IsCheckingWork, RefusesChecking, showing_task};
 
-use crate::checking::Checking;
 use crate::manner::running_speed_said;
 use crate::settings::SettingsFault;
-use crate::showing::Showing;
 use crate::source::Source;
 use crate::taken::Taken;
 use crate::task::Task;
 use crate::work::Work;
+use usb_command_line::{Checking, Showing};
 
 /// What `show` does with its input.
 pub(crate) fn showing_task(options: Showing) -> Task
