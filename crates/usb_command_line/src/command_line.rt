@@ -83,9 +83,9 @@ fn line_of<'a>(matches: &ArgMatches<'a>) -> Line<'a>
         Some((name, options)) if name == "show" => show_of(options),
         Some((name, options)) if name == "check" => check_of(options),
         Some((name, options)) if name == "build" => build_of(options),
-        Some((name, options)) if name == "explain" => Line::Explain(explaining_of(options)),
+        Some((name, options)) if name == "explain" => explain_of(options),
         Some((name, options)) if name == "enumerate" => enumerate_of(options),
-        Some((name, options)) if name == "capture" => Line::Capture(capturing_of(options)),
+        Some((name, options)) if name == "capture" => capture_of(options),
         _ => unreachable!(),
     }
 }
@@ -189,6 +189,18 @@ fn asks_more(enumerating: &Enumerating<'_>) -> bool
         || enumerating.damage.is_some()
         || enumerating.strings.is_some()
         || enumerating.other_speed.is_some()
+}
+
+fn explain_of<'a>(matches: &ArgMatches<'a>) -> Line<'a>
+    ensures { Asks result (Some (codes "explain", rows_of (found_of matches.now))) }
+{
+    Line::Explain(explaining_of(matches))
+}
+
+fn capture_of<'a>(matches: &ArgMatches<'a>) -> Line<'a>
+    ensures { Asks result (Some (codes "capture", rows_of (found_of matches.now))) }
+{
+    Line::Capture(capturing_of(matches))
 }
 
 fn capturing_of<'a>(matches: &ArgMatches<'a>) -> Capturing<'a>
