@@ -1,11 +1,6 @@
 -- What `explain` tells of its input.
-use Rattle.std.specs.Prelude.{◌≡◌, ℕ, List, not, Option, Some, None, option_map, if◌then◌else◌, codes, ◌⊎◌, Bool, true, false, ◌++◌, length, Ok, Err}
-use Rattle.std.specs.Borrow.{Bor}
-use Rattle.std.specs.Str.{bytes_eq}
+use Rattle.std.specs.Prelude.{◌≡◌, ℕ, List, Option, if◌then◌else◌, codes, ◌⊎◌, Bool, true, false, ◌++◌, length, Ok, Err}
 use Rattle.usb_explain.specs.declared.manner.Manner.{Manner}
-use Rattle.usb_remarks.specs.declared.speed.SetSpeed.{SetSpeed}
-use Rattle.usb_remarks.specs.declared.speed.SetSpeed.TheVariants.{Low, Full, High, Super}
-use Rattle.usb_command_line.specs.declared.explaining.Explaining.{Explaining}
 use Rattle.std.specs.Io.KnownBytes.{Appends, Keeps}
 use Rattle.usb_explain.specs.Explanations.{explanation}
 use Rattle.usb_explain.specs.Fragments.{fragment_lines}

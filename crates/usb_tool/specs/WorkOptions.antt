@@ -1,5 +1,5 @@
 -- What the options of `show` and `check` come to.
-use Rattle.std.specs.Prelude.{◌≡◌, Bool, true, false, Option, Some, None, IsSome, if◌then◌else◌}
+use Rattle.std.specs.Prelude.{◌≡◌, Bool, true, false, Some, None, IsSome, if◌then◌else◌}
 use Rattle.usb_tool.specs.Manners.{running_said}
 use Rattle.usb_tool.specs.Works.{task_of, taken_with}
 use Rattle.usb_command_line.specs.declared.checking.Checking.{Checking}
