@@ -7,7 +7,7 @@ from . import sources
 
 
 # The libraries that aren't of the core; what is no library is a test program, but for the program itself.
-FLOORS = {"words": ["usb_names", "usb_text", "usb_hex", "usb_explain"], "doors": ["usb_tool", "nozzlegorse", "usb_c", "usbdesc"]}
+FLOORS = {"words": ["usb_names", "usb_text", "usb_hex", "usb_explain", "usb_command_line"], "doors": ["usb_tool", "nozzlegorse", "usb_c", "usbdesc"]}
 FLOOR_NAMES = ["tests", "doors", "words", "core"]
 
 

@@ -7,20 +7,45 @@ use usb_bus::Fate;
 use usb_fields::Speed;
 use usb_host::{Choice, Limits, NamedStrings};
 use usb_tool::{
-    EnumerateFlags, Look, Manner, Settings, ToolFault, run_build, run_build_commented, run_check,
-    run_check_any, run_enumerate, run_enumerate_with, run_explain, run_show, run_show_any,
+    Building, EnumerateFlags, Enumeration, Explanation, Look, Manner, Settings, Source, Taken, Task,
+    ToolFault, Work, run_build, run_build_as, run_check, run_enumerate, run_enumeration, run_explain,
+    run_show, run_work,
 };
 
 /// How an input is explained.
-const WHOLE: Manner = Manner {
-    look: Look {
-        brief: false,
-        places: true,
-        utf8: false,
-        formats: false,
+const WHOLE: Explanation = Explanation {
+    manner: Manner {
+        look: Look {
+            brief: false,
+            places: true,
+            utf8: false,
+            formats: false,
+        },
+        speed: None,
+        decoded: false,
     },
-    speed: None,
-    decoded: false,
+    hex: false,
+    loose: false,
+};
+
+/// The listing of a set, a file or a dump.
+const SHOW_ANY: Task = Task {
+    source: Source::Bytes,
+    taken: Taken::Any,
+    work: Work::List,
+};
+
+/// What is found in one.
+const CHECK_ANY: Task = Task {
+    source: Source::Bytes,
+    taken: Taken::Any,
+    work: Work::Check,
+};
+
+/// The bytes of a listing with comments.
+const COMMENTED: Building = Building {
+    comments: true,
+    hex: false,
 };
 
 /// A host that asks for everything.
@@ -127,15 +152,15 @@ impl Command {
         } = *settings;
         match self {
             Command::Show => run_show(alloc, r, w),
-            Command::ShowAny => run_show_any(alloc, r, w),
+            Command::ShowAny => run_work(alloc, r, w, SHOW_ANY),
             Command::Check => run_check(alloc, r, w),
-            Command::CheckAny => run_check_any(alloc, r, w),
-            Command::Explain => run_explain(alloc, r, w, WHOLE, false),
+            Command::CheckAny => run_work(alloc, r, w, CHECK_ANY),
+            Command::Explain => run_explain(alloc, r, w, WHOLE),
             Command::Build => run_build(alloc, r, w),
-            Command::BuildCommented => run_build_commented(alloc, r, w),
+            Command::BuildCommented => run_build_as(alloc, r, w, COMMENTED),
             Command::Enumerate => run_enumerate(alloc, r, w, limits, speed, fates),
-            Command::Log => run_enumerate_with(alloc, r, w, limits, speed, fates, LOGGED),
-            Command::Brief => run_enumerate_with(alloc, r, w, limits, speed, fates, BRIEF),
+            Command::Log => run_logged(alloc, r, w, settings, LOGGED),
+            Command::Brief => run_logged(alloc, r, w, settings, BRIEF),
         }
     }
 
@@ -152,4 +177,22 @@ impl Command {
         tally.add(self.word(), &answer)?;
         Ok(answer.output)
     }
+}
+
+/// Enumerates with these flags.
+fn run_logged<R: Read, W: Write>(
+    alloc: Global,
+    r: &mut R,
+    w: &mut W,
+    settings: &Settings,
+    flags: EnumerateFlags,
+) -> Result<u8, ToolFault> {
+    let enumeration = Enumeration {
+        limits: settings.limits,
+        speed: settings.speed,
+        fates: &settings.fates,
+        changes: &[],
+        flags,
+    };
+    run_enumeration(alloc, r, w, &enumeration).map(|end| end.status())
 }

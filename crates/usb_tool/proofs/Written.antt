@@ -7,7 +7,7 @@ use Rattle.std.specs.Io.KnownBytes.{Appends, Keeps}
 use Rattle.arrayvec.specs.ArrayString.{ArrayString}
 use Rattle.usb_text.specs.Output.{AppendsFront, AppendsLess, Held}
 use Rattle.usb_text.proofs.Pages.{appends_kept, front_whole, keeps_refl, less_is_front}
-use Rattle.usb_tool.specs.Runs.{ReportsLine}
+use Rattle.usb_tool.specs.Outcomes.{ReportsLine}
 use Rattle.usb_tool.specs.inside.Telling.{IsCutShort}
 use Rattle.usb_tool.specs.declared.fault.ToolFault.{ToolFault}
 use Rattle.usb_tool.specs.declared.fault.ToolFault.TheVariants as faults

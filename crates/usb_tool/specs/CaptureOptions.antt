@@ -5,9 +5,9 @@ use Rattle.std.specs.List.{after_first, before_first, position_or_len}
 use Rattle.usb_capture_lines.specs.declared.selection.DeviceAddress.{DeviceAddress}
 use Rattle.usb_capture_lines.specs.declared.selection.Selection.{Selection}
 use Rattle.usb_tool.specs.OptionValues.{number_of}
-use Rattle.usb_tool.specs.declared.capturing.CaptureCommand.{CaptureCommand}
-use Rattle.usb_tool.specs.declared.capturing.CaptureCommand.TheVariants.{Lines, File}
-use Rattle.usb_tool.specs.declared.capturing.Capturing.{Capturing}
+use Rattle.usb_tool.specs.declared.capture_options.CaptureCommand.{CaptureCommand}
+use Rattle.usb_tool.specs.declared.capture_options.CaptureCommand.TheVariants.{Lines, File}
+use Rattle.usb_command_line.specs.declared.capturing.Capturing.{Capturing}
 use Rattle.usb_tool.specs.declared.settings.SettingsFault.{SettingsFault}
 use Rattle.usb_tool.specs.declared.settings.SettingsFault.TheVariants as faults
 

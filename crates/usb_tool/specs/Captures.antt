@@ -1,5 +1,6 @@
 -- What `capture` tells of a recording, and what it makes of a device's descriptors.
-use Rattle.std.specs.Prelude.{◌≡◌, ◌⊎◌, ℕ, Bool, true, false, List, []}
+use Rattle.std.specs.Prelude.{◌≡◌, ◌⊎◌, ℕ, Bool, List, []}
+use Rattle.std.specs.Int.{from_bool}
 use Rattle.std.specs.Io.KnownBytes.{Appends, IsAtEnd, Keeps}
 use Rattle.usb_capture.specs.declared.device_file.DeviceFile.{DeviceFile}
 use Rattle.usb_capture.specs.declared.device_file.DeviceFile.TheVariants.{File, Dump}
@@ -11,8 +12,8 @@ use Rattle.usb_capture_lines.specs.declared.selection.Selection.{Selection}
 use Rattle.usb_text.specs.Output.{AppendsFront, Held}
 use Rattle.usb_tool.specs.Endings.{Extent, Failure, Left, Work}
 use Rattle.usb_tool.specs.Faults.{fault_of_device, fault_of_recording}
-use Rattle.usb_tool.specs.declared.capturing.CaptureCommand.{CaptureCommand}
-use Rattle.usb_tool.specs.declared.capturing.CaptureCommand.TheVariants as commands
+use Rattle.usb_tool.specs.declared.capture_options.CaptureCommand.{CaptureCommand}
+use Rattle.usb_tool.specs.declared.capture_options.CaptureCommand.TheVariants as commands
 use Rattle.usb_tool.specs.declared.fault.ToolFault.{ToolFault}
 use Rattle.usb_tool.specs.declared.fault.ToolFault.TheVariants as faults
 
@@ -40,16 +41,11 @@ pub record StopsRecording (s : Selection) (from to : Left) (held holds : Held) (
   pub is : fault ≡ fault_of_recording why
   pub stopped : RecordingStops s from to held holds why
 
--- status 1 says that something was found
-abbrev pub found_status : Bool → ℕ
-found_status true = 1
-found_status false = 0
-
--- all was read and told, with its status
+-- all was read and told, with status 1 where something was found
 pub record TellsRecording (s : Selection) (from to : Left) (held holds : Held) (status : ℕ) : Type 0 where
   pub found : Bool
   pub told : RecordingTold s from to held holds found
-  pub ended : status ≡ found_status found
+  pub ended : status ≡ from_bool found
 
 -- what `capture` does
 abbrev pub CaptureDone : CaptureCommand → Work

@@ -5,7 +5,7 @@ use Rattle.std.specs.Str.{bytes_eq}
 use Rattle.usb_host.specs.declared.choice.Choice.{Choice}
 use Rattle.usb_host.specs.declared.choice.NamedStrings.{NamedStrings}
 use Rattle.usb_host.specs.declared.choice.NamedStrings.TheVariants.{Needed, Wanted, Skipped}
-use Rattle.usb_tool.specs.declared.choosing.Choosing.{Choosing}
+use Rattle.usb_command_line.specs.declared.enumerating.Enumerating.{Enumerating}
 use Rattle.usb_tool.specs.declared.settings.SettingsFault.{SettingsFault}
 use Rattle.usb_tool.specs.declared.settings.SettingsFault.TheVariants as faults
 
@@ -35,12 +35,12 @@ other_speed_said None = Some true
 other_speed_said (Some name) = other_speed_of name.now
 
 -- the choice is what the options say
-pub record IsChosen (o : Choosing) (choice : Choice) : Type 0 where
+pub record IsChosen (o : Enumerating) (choice : Choice) : Type 0 where
   pub strings : strings_said o.strings ≡ Some choice.strings
   pub other_speed : other_speed_said o.other_speed ≡ Some choice.other_speed
 
 -- why the options are refused: the first of the two that says nothing
-abbrev pub RefusesChoosing : Choosing → SettingsFault → Type 0
+abbrev pub RefusesChoosing : Enumerating → SettingsFault → Type 0
 RefusesChoosing o faults.Strings = strings_said o.strings ≡ None
 RefusesChoosing o faults.OtherSpeed = IsSome (strings_said o.strings) × (other_speed_said o.other_speed ≡ None)
 RefusesChoosing o fault = ⊥

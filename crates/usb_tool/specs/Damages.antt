@@ -1,13 +1,9 @@
 -- What `--damage` and its value say.
-use Rattle.std.specs.Prelude.{◌≡◌, ◌⊎◌, ◌==◌, ◌&&◌, nat_lt, ℕ, List, [], ◌∷◌, ◌++◌, Option, Some, None, if◌then◌else◌, option_map, option_and_then}
+use Rattle.std.specs.Prelude.{◌≡◌, ◌==◌, ◌&&◌, nat_lt, ℕ, List, [], ◌∷◌, ◌++◌, Option, Some, None, if◌then◌else◌, option_map, option_and_then}
+use Rattle.std.specs.Borrow.{Bor}
 use Rattle.std.specs.List.{slice_split}
 use Rattle.usb_tool.specs.OptionValues.{number_of}
 use Rattle.usb_bus.specs.declared.wire.change.BitChange.{BitChange}
-use Rattle.usb_tool.specs.Settings.{IsSettledUnless, RefusesUnless, flag_alone}
-use Rattle.usb_tool.specs.declared.damages.DamageSettings.{DamageSettings}
-use Rattle.usb_tool.specs.declared.settings.EnumerateFlags.{EnumerateFlags}
-use Rattle.usb_tool.specs.declared.settings.Options.{Options}
-use Rattle.usb_tool.specs.declared.settings.Settings.{Settings}
 use Rattle.usb_tool.specs.declared.settings.SettingsFault.{SettingsFault}
 use Rattle.usb_tool.specs.declared.settings.SettingsFault.TheVariants as faults
 
@@ -61,15 +57,7 @@ abbrev pub AddsSaid : Option (List BitChange) → List BitChange → List BitCha
 AddsSaid None old new = ⊥
 AddsSaid (Some more) old new = new ≡ old ++ more
 
--- the settings are those that these options and flags come to, and the changes those of this text
-pub record IsDamageSettled (o : Options) (flags : EnumerateFlags) (text : List ℕ) (s : DamageSettings) : Type 0 where
-  pub settled : IsSettledUnless (flag_alone flags) o s.settings
-  pub changes : damages_of text ≡ Some s.changes.items
-
--- the flags and the options come to settings
-abbrev pub Settle : EnumerateFlags → Options → Type 0
-Settle flags o = (s : Settings) × IsSettledUnless (flag_alone flags) o s
-
--- why options are refused beside a text of damage: for the options and flags alone, and else for the text
-abbrev pub RefusesBeside : Options → EnumerateFlags → List ℕ → SettingsFault → Type 0
-RefusesBeside o flags text fault = RefusesUnless (flag_alone flags) o fault ⊎ (Settle flags o × RefusesDamages text fault)
+-- those of the option: none where it is absent
+abbrev pub damage_said : Option (Bor (List ℕ)) → Option (List BitChange)
+damage_said None = Some []
+damage_said (Some text) = damages_of text.now

@@ -22,6 +22,7 @@ use Rattle.usb_text.specs.declared.output.OutFault.{OutFault}
 use Rattle.usb_text.specs.declared.output.OutFault.TheVariants as outs
 use Rattle.usb_text.specs.Output.{AppendsFront, AppendsLess, Held}
 use Rattle.usb_host.specs.Limits.{LimitView}
+use Rattle.usb_host.specs.Terms.{everything}
 use Rattle.usb_bus.specs.declared.fate.Fate.{Fate}
 use Rattle.usb_bus.specs.declared.wire.change.BitChange.{BitChange}
 use Rattle.usb_bus.specs.DamagedRuns.{IsDamagedRunFrom}
@@ -29,6 +30,8 @@ use Rattle.usb_bus.specs.Enumerate.{IsChosenEnumeration, Pair, chosen_pair}
 use Rattle.usb_bus.specs.Log.{IsLogFrom, WritesLogLessFrom}
 use Rattle.usb_bus.specs.LogOnWire.{IsWireLogFrom, WritesWireLogLessFrom}
 use Rattle.usb_tool.specs.EnumerationEnds.{end_of, end_status}
+use Rattle.usb_tool.specs.declared.enumerate_options.EnumerationSettings.{EnumerationSettings}
+use Rattle.usb_tool.specs.declared.enumeration.Enumeration.{Enumeration}
 use Rattle.usb_tool.specs.declared.enumeration_end.EnumerationEnd.{EnumerationEnd}
 use Rattle.usb_tool.specs.declared.enumeration_end.EnumerationEnd.TheVariants.{Refused}
 use Rattle.usb_tool.specs.Endings.{Fails, Succeeds, Left}
@@ -68,6 +71,23 @@ pub record Conditions : Type 0 where
 -- these conditions
 abbrev pub under : LimitView → Speed → List Fate → List BitChange → EnumerateFlags → Conditions
 under limits speed fates changes flags = record { limits = limits; speed = speed; fates = fates; changes = changes; flags = flags }
+
+abbrev pub conditions_of : Enumeration → Conditions
+conditions_of e = under e.limits e.speed e.fates.now e.changes.now e.flags
+
+-- no flag was given, and all is asked for
+abbrev pub no_flags : EnumerateFlags
+no_flags = record { log = false; brief = false; packets = false; with_strings = false; choice = everything }
+
+abbrev pub conditions_by : EnumerationSettings → Conditions
+conditions_by s = under s.settings.limits s.settings.speed s.settings.fates.items s.changes.items s.flags
+
+-- of a device of this speed, and over a bus that changes no bits
+abbrev pub conditions_at : Speed → Enumeration → Conditions
+conditions_at speed e = under e.limits speed e.fates.now e.changes.now e.flags
+
+abbrev pub unchanged : Speed → Enumeration → Conditions
+unchanged speed e = under e.limits speed e.fates.now [] e.flags
 
 -- what is reported of a run with this outcome: after success its line and the listing of the file that was read, and else the
 -- line of its trouble

@@ -51,125 +51,61 @@ use Rattle.usb_tool.specs.declared.settings.SettingsFault.TheVariants as options
 abbrev pub AreNumbered : {A : Type 0} → (A → ℕ) → List A → Type 0
 AreNumbered number rows = map number rows ≡ range_with_len 1 (length rows)
 
--- why bytes are no descriptor of fixed length
-abbrev pub FieldNumbers : Type 0
-FieldNumbers = AreNumbered field_fault_number (fields.Length ∷ fields.Kind ∷ [])
-
--- why bytes are no string or language list, or units have no bytes
-abbrev pub UnitNumbers : Type 0
-UnitNumbers = AreNumbered unit_fault_number (units.Length ∷ units.Kind ∷ units.Odd ∷ units.TooLong ∷ units.Memory ∷ [])
-
--- why bytes are no set
-abbrev pub SetNumbers : Type 0
-SetNumbers =
-    AreNumbered set_number
-    (sets.HeaderLength ∷ sets.HeaderKind ∷ sets.Total ∷ sets.ItemLength ∷ sets.Over ∷ sets.Nested ∷ sets.ItemShort ∷ sets.Stray ∷ sets.Truncated ∷
-    sets.Memory ∷ [])
-
--- why a set has no bytes
-abbrev pub EncodeNumbers : Type 0
-EncodeNumbers = AreNumbered encode_number (encodes.Tail ∷ encodes.RawKind ∷ encodes.TooLong ∷ encodes.Memory ∷ [])
-
--- why bytes are no file
-abbrev pub FileNumbers : Type 0
-FileNumbers = (why : SetWhy) → AreNumbered file_number (files.Device ∷ files.Set why ∷ files.SetKind ∷ files.Qualifier ∷ files.Text ∷ files.Truncated ∷ files.Trailing ∷ files.Memory ∷ [])
-
--- why a file has no bytes
-abbrev pub WriteNumbers : Type 0
-WriteNumbers = AreNumbered write_number (writes.Count ∷ writes.Kind ∷ writes.Layout ∷ writes.Texts ∷ writes.Memory ∷ [])
-
--- why a text is no listing
-abbrev pub ListNumbers : Type 0
-ListNumbers = AreNumbered list_number (lists.Line ∷ lists.Word ∷ lists.Place ∷ lists.Field ∷ lists.TooLong ∷ lists.Missing ∷ lists.Memory ∷ [])
-
--- why a text was not written
-abbrev pub OutNumbers : Type 0
-OutNumbers = AreNumbered out_number (outs.Write ∷ outs.Memory ∷ [])
-
--- the rules of chapter 9
-abbrev pub RuleNumbers : Type 0
-RuleNumbers = AreNumbered rule_number (rules.V1 ∷ rules.V2 ∷ rules.V3 ∷ rules.V4 ∷ rules.V5 ∷ rules.V6 ∷ rules.V7 ∷ rules.V8 ∷ rules.V9 ∷ rules.V10 ∷ rules.V11 ∷ rules.V12 ∷ rules.V13 ∷ [])
-
--- why a device can't be made of descriptors
-abbrev pub DescriptionNumbers : Type 0
-DescriptionNumbers =
-    (finding : Finding) → AreNumbered description_number
-    (descriptions.Finding finding ∷ descriptions.Texts ∷ descriptions.Speed ∷ descriptions.Memory ∷ descriptions.Unwritable ∷ [])
-
--- why an owner's answer is not taken
-abbrev pub UnansweredNumbers : Type 0
-UnansweredNumbers = AreNumbered unanswered_number (unanswereds.Nothing ∷ unanswereds.Closed ∷ unanswereds.Shape ∷ unanswereds.Room ∷ [])
-
--- how a device under test differs
-abbrev pub DifferenceNumbers : Type 0
-DifferenceNumbers =
-    AreNumbered difference_number
-    (differences.Setup ∷ differences.Address ∷ differences.Toggle ∷ differences.Empty ∷ differences.Bytes ∷ differences.Stall ∷ differences.Refusal ∷
-    differences.Kind ∷ [])
-
--- what limits of a host are out of range
-abbrev pub LimitNumbers : Type 0
-LimitNumbers = AreNumbered limit_fault_number (limits.Address ∷ limits.Attempts ∷ [])
-
--- why a transfer or an enumeration failed
-abbrev pub WhyNumbers : Type 0
-WhyNumbers = AreNumbered why_number (whys.NoAnswer ∷ whys.Busy ∷ whys.Stalled ∷ whys.TooLong ∷ whys.Unexpected ∷ whys.Malformed ∷ whys.Memory ∷ [])
-
--- the remarks
-abbrev pub RemarkNumbers : Type 0
-RemarkNumbers =
-    (transfer : TransferType) (speed : SetSpeed) (range : IntervalRange) (found declared needed most due least interface transactions : ℕ) (sizes : PacketSizes) → AreNumbered remark_number
-    (remarks.Interval transfer speed range found ∷ remarks.Packet transfer speed sizes found ∷ remarks.ReservedMultiple ∷ remarks.PacketBits ∷
-    remarks.ReservedUsage ∷ remarks.TypeBits ∷ remarks.HighBits ∷ remarks.ReservedClass ∷ remarks.TotalLength declared found ∷
-    (remarks.Current needed most) ∷ remarks.FirstPacket speed sizes found ∷ remarks.Release ∷ remarks.NoSets ∷ remarks.UntoldAssociation ∷
-    (remarks.DefaultIsochronous found) ∷ remarks.EmptyPackets ∷ remarks.NoHidDescriptor ∷ remarks.LateHidDescriptor ∷ remarks.HidLength due found ∷
-    remarks.EmptyReport ∷ remarks.NoFunctionalHeader ∷ remarks.ShortFunctional least found ∷ remarks.OneDirection ∷ remarks.ForbiddenClass ∷
-    (remarks.MissingInterface interface) ∷ remarks.SmallMultiple transactions least found ∷ remarks.LateFunctional ∷ remarks.NoInterruptIn ∷
-    remarks.NoReport ∷ remarks.InterfaceClass ∷ remarks.LateAssociation ∷ remarks.OldQualifier found ∷ remarks.NoLanguage found ∷ remarks.EndedString ∷
-    remarks.ClassRelease ∷ remarks.NoAssociation ∷ remarks.OneSpeed speed ∷ remarks.DefaultInterrupt found ∷ remarks.ManyEndpoints ∷ [])
-
--- why a command failed
-abbrev pub ToolNumbers : Type 0
-ToolNumbers =
-    (file : FileFault) (list : ListFault) (set : SetFault) (at line column place : ℕ) (why : CaptureFault) (device : DeviceAddress) (lack : FileLack) → AreNumbered fault_number
-    (faults.Read ∷ faults.Write ∷ faults.TooLarge ∷ faults.File file ∷ faults.List list ∷ faults.Set set ∷ faults.Trailing at ∷ faults.Memory ∷
-    (faults.Hex line column) ∷ faults.Capture why place ∷ faults.Lack device lack ∷ [])
-
--- why bytes are no recording
-abbrev pub CaptureNumbers : Type 0
-CaptureNumbers =
-    AreNumbered capture_number
-    (captures.Magic ∷ captures.Order ∷ captures.Length ∷ captures.Trailer ∷ captures.Version ∷ captures.Long ∷ captures.Interfaces ∷ captures.Options ∷
-    captures.Interface ∷ captures.Data ∷ captures.Line ∷ captures.Memory ∷ [])
-
--- why letters are no fates
-abbrev pub FatesNumbers : Type 0
-FatesNumbers = AreNumbered fates_fault_number (letters.Letter ∷ letters.Memory ∷ [])
-
--- why options are refused; 6 is the number of none
-abbrev pub SettingsNumbers : Type 0
-SettingsNumbers =
-    map settings_fault_number (options.Number ∷ options.Speed ∷ options.Fates ∷ options.Memory ∷ options.SpeedAlone ∷ options.BriefAlone ∷ options.Damages ∷ options.PacketsAlone ∷ options.Strings ∷ options.OtherSpeed ∷ options.FileBeside ∷ options.BriefBeside ∷ options.Device ∷ options.Time ∷ [])
-    ≡ 1 ∷ 2 ∷ 3 ∷ 4 ∷ 5 ∷ 7 ∷ 8 ∷ 9 ∷ 10 ∷ 11 ∷ 12 ∷ 13 ∷ 14 ∷ 15 ∷ []
-
 -- All of them, so that two variants that change places in the code are refused.
 pub record NumbersAreThoseOfTheTables : Type 0 where
-  pub fields : FieldNumbers
-  pub units : UnitNumbers
-  pub sets : SetNumbers
-  pub encodes : EncodeNumbers
-  pub files : FileNumbers
-  pub writes : WriteNumbers
-  pub lists : ListNumbers
-  pub outs : OutNumbers
-  pub rules : RuleNumbers
-  pub descriptions : DescriptionNumbers
-  pub unanswereds : UnansweredNumbers
-  pub differences : DifferenceNumbers
-  pub limits : LimitNumbers
-  pub whys : WhyNumbers
-  pub remarks : RemarkNumbers
-  pub tools : ToolNumbers
-  pub captures : CaptureNumbers
-  pub fates : FatesNumbers
-  pub settings : SettingsNumbers
+  -- why bytes are no descriptor of fixed length
+  pub descriptor_faults : AreNumbered field_fault_number (fields.Length ∷ fields.Kind ∷ [])
+  -- why bytes are no string or language list, or units have no bytes
+  pub string_faults : AreNumbered unit_fault_number (units.Length ∷ units.Kind ∷ units.Odd ∷ units.TooLong ∷ units.Memory ∷ [])
+  -- why bytes are no set
+  pub set_faults : AreNumbered set_number
+      (sets.HeaderLength ∷ sets.HeaderKind ∷ sets.Total ∷ sets.ItemLength ∷ sets.Over ∷ sets.Nested ∷ sets.ItemShort ∷ sets.Stray ∷ sets.Truncated ∷
+      sets.Memory ∷ [])
+  -- why a set has no bytes
+  pub encode_faults : AreNumbered encode_number (encodes.Tail ∷ encodes.RawKind ∷ encodes.TooLong ∷ encodes.Memory ∷ [])
+  -- why bytes are no file
+  pub file_faults : (why : SetWhy) → AreNumbered file_number (files.Device ∷ files.Set why ∷ files.SetKind ∷ files.Qualifier ∷ files.Text ∷ files.Truncated ∷ files.Trailing ∷ files.Memory ∷ [])
+  -- why a file has no bytes
+  pub write_faults : AreNumbered write_number (writes.Count ∷ writes.Kind ∷ writes.Layout ∷ writes.Texts ∷ writes.Memory ∷ [])
+  -- why a text is no listing
+  pub listing_faults : AreNumbered list_number (lists.Line ∷ lists.Word ∷ lists.Place ∷ lists.Field ∷ lists.TooLong ∷ lists.Missing ∷ lists.Memory ∷ [])
+  -- why a text was not written
+  pub output_faults : AreNumbered out_number (outs.Write ∷ outs.Memory ∷ [])
+  -- the rules of chapter 9
+  pub chapter_9_rules : AreNumbered rule_number (rules.V1 ∷ rules.V2 ∷ rules.V3 ∷ rules.V4 ∷ rules.V5 ∷ rules.V6 ∷ rules.V7 ∷ rules.V8 ∷ rules.V9 ∷ rules.V10 ∷ rules.V11 ∷ rules.V12 ∷ rules.V13 ∷ [])
+  -- why a device can't be made of descriptors
+  pub description_faults : (finding : Finding) → AreNumbered description_number
+      (descriptions.Finding finding ∷ descriptions.Texts ∷ descriptions.Speed ∷ descriptions.Memory ∷ descriptions.Unwritable ∷ [])
+  -- why an owner's answer is not taken
+  pub unanswered_requests : AreNumbered unanswered_number (unanswereds.Nothing ∷ unanswereds.Closed ∷ unanswereds.Shape ∷ unanswereds.Room ∷ [])
+  -- how a device under test differs
+  pub device_differences : AreNumbered difference_number
+      (differences.Setup ∷ differences.Address ∷ differences.Toggle ∷ differences.Empty ∷ differences.Bytes ∷ differences.Stall ∷ differences.Refusal ∷
+      differences.Kind ∷ [])
+  -- what limits of a host are out of range
+  pub limit_faults : AreNumbered limit_fault_number (limits.Address ∷ limits.Attempts ∷ [])
+  -- why a transfer or an enumeration failed
+  pub transfer_faults : AreNumbered why_number (whys.NoAnswer ∷ whys.Busy ∷ whys.Stalled ∷ whys.TooLong ∷ whys.Unexpected ∷ whys.Malformed ∷ whys.Memory ∷ [])
+  -- the remarks
+  pub all_remarks : (transfer : TransferType) (speed : SetSpeed) (range : IntervalRange) (found declared needed most due least interface transactions : ℕ) (sizes : PacketSizes) → AreNumbered remark_number
+      (remarks.Interval transfer speed range found ∷ remarks.Packet transfer speed sizes found ∷ remarks.ReservedMultiple ∷ remarks.PacketBits ∷
+      remarks.ReservedUsage ∷ remarks.TypeBits ∷ remarks.HighBits ∷ remarks.ReservedClass ∷ remarks.TotalLength declared found ∷
+      (remarks.Current needed most) ∷ remarks.FirstPacket speed sizes found ∷ remarks.Release ∷ remarks.NoSets ∷ remarks.UntoldAssociation ∷
+      (remarks.DefaultIsochronous found) ∷ remarks.EmptyPackets ∷ remarks.NoHidDescriptor ∷ remarks.LateHidDescriptor ∷ remarks.HidLength due found ∷
+      remarks.EmptyReport ∷ remarks.NoFunctionalHeader ∷ remarks.ShortFunctional least found ∷ remarks.OneDirection ∷ remarks.ForbiddenClass ∷
+      (remarks.MissingInterface interface) ∷ remarks.SmallMultiple transactions least found ∷ remarks.LateFunctional ∷ remarks.NoInterruptIn ∷
+      remarks.NoReport ∷ remarks.InterfaceClass ∷ remarks.LateAssociation ∷ remarks.OldQualifier found ∷ remarks.NoLanguage found ∷ remarks.EndedString ∷
+      remarks.ClassRelease ∷ remarks.NoAssociation ∷ remarks.OneSpeed speed ∷ remarks.DefaultInterrupt found ∷ remarks.ManyEndpoints ∷ [])
+  -- why a command failed
+  pub tool_faults : (file : FileFault) (list : ListFault) (set : SetFault) (at line column place : ℕ) (why : CaptureFault) (device : DeviceAddress) (lack : FileLack) → AreNumbered fault_number
+      (faults.Read ∷ faults.Write ∷ faults.TooLarge ∷ faults.File file ∷ faults.List list ∷ faults.Set set ∷ faults.Trailing at ∷ faults.Memory ∷
+      (faults.Hex line column) ∷ faults.Capture why place ∷ faults.Lack device lack ∷ [])
+  -- why bytes are no recording
+  pub capture_faults : AreNumbered capture_number
+      (captures.Magic ∷ captures.Order ∷ captures.Length ∷ captures.Trailer ∷ captures.Version ∷ captures.Long ∷ captures.Interfaces ∷ captures.Options ∷
+      captures.Interface ∷ captures.Data ∷ captures.Line ∷ captures.Memory ∷ [])
+  -- why letters are no fates
+  pub fates_faults : AreNumbered fates_fault_number (letters.Letter ∷ letters.Memory ∷ [])
+  -- why options are refused; 6 is the number of none
+  pub settings_faults : map settings_fault_number (options.Number ∷ options.Speed ∷ options.Fates ∷ options.Memory ∷ options.SpeedAlone ∷ options.BriefAlone ∷ options.Damages ∷ options.PacketsAlone ∷ options.Strings ∷ options.OtherSpeed ∷ options.FileBeside ∷ options.BriefBeside ∷ options.Device ∷ options.Time ∷ [])
+      ≡ 1 ∷ 2 ∷ 3 ∷ 4 ∷ 5 ∷ 7 ∷ 8 ∷ 9 ∷ 10 ∷ 11 ∷ 12 ∷ 13 ∷ 14 ∷ 15 ∷ []

@@ -9,7 +9,7 @@ use Rattle.usb_tool.specs.OptionValues.{RefusesFates, fates_of, number_of, speed
 use Rattle.usb_tool.specs.declared.settings.FatesFault.{FatesFault}
 use Rattle.usb_tool.specs.declared.settings.FatesFault.TheVariants as letters
 use Rattle.usb_tool.specs.declared.settings.EnumerateFlags.{EnumerateFlags}
-use Rattle.usb_tool.specs.declared.settings.Options.{Options}
+use Rattle.usb_command_line.specs.declared.options.Options.{Options}
 use Rattle.usb_tool.specs.declared.settings.Settings.{Settings}
 use Rattle.usb_tool.specs.declared.settings.SettingsFault.{SettingsFault}
 use Rattle.usb_tool.specs.declared.settings.SettingsFault.TheVariants as faults
@@ -65,16 +65,7 @@ RefusesOptions o faults.Number = limits_said o ≡ None
 RefusesOptions o faults.Speed = IsSome (limits_said o) × (speed_said o ≡ None)
 RefusesOptions o faults.Fates = IsSome (limits_said o) × (IsSome (speed_said o) × IsSomeAnd o.fates (λ text. RefusesFates text.now letters.Letter))
 RefusesOptions o faults.Memory = IsSome (limits_said o) × (IsSome (speed_said o) × IsSomeAnd o.fates (λ text. RefusesFates text.now letters.Memory))
-RefusesOptions o faults.SpeedAlone = ⊥
-RefusesOptions o faults.BriefAlone = ⊥
-RefusesOptions o faults.Damages = ⊥
-RefusesOptions o faults.PacketsAlone = ⊥
-RefusesOptions o faults.Strings = ⊥
-RefusesOptions o faults.OtherSpeed = ⊥
-RefusesOptions o faults.FileBeside = ⊥
-RefusesOptions o faults.BriefBeside = ⊥
-RefusesOptions o faults.Device = ⊥
-RefusesOptions o faults.Time = ⊥
+RefusesOptions o fault = ⊥
 
 -- the fault of a flag that is for a log where none is asked for: lines of data are left out, or else packets are shown
 abbrev pub flag_alone : EnumerateFlags → Option SettingsFault

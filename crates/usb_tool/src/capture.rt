@@ -1,9 +1,9 @@
 //! The command `capture`.
 ghost use Rattle.std.specs.Prelude.{◌≡◌, IfErr, IfOk};
-ghost use Rattle.usb_tool.specs.Captures.{CaptureDone, CaptureFails, found_status, made_bytes};
-ghost use Rattle.usb_tool.specs.declared.capturing.CaptureCommand.TheVariants as commands;
+ghost use Rattle.usb_tool.specs.Captures.{CaptureDone, CaptureFails, made_bytes};
+ghost use Rattle.usb_tool.specs.declared.capture_options.CaptureCommand.TheVariants as commands;
 
-use crate::capturing::CaptureCommand;
+use crate::capture_options::CaptureCommand;
 use crate::fault::{ToolFault, fault_of_device};
 use crate::output::write_flushed;
 use std::alloc::Global;
@@ -62,18 +62,8 @@ fn tell<R: Read, W: Write>(
     ensures err { IfErr result (CaptureFails (commands.Lines selection) (R.remaining r.old) (R.remaining r.new) (W.contents w.old) (W.contents w.new)) }
 {
     match tell_recording(alloc, selection, r, w) {
-        Ok(found) => Ok(found_status(found)),
+        Ok(found) => Ok(u8::from(found)),
         Err(fault) => Err(ToolFault::from(fault)),
-    }
-}
-
-/// The status after something was found, or nothing.
-fn found_status(found: bool) -> u8
-    ensures { result ≡ found_status found }
-{
-    match found {
-        true => 1,
-        false => 0,
     }
 }
 

@@ -3,35 +3,27 @@ ghost use Rattle.std.specs.Prelude.{◌≡◌, IfErr, IfOk};
 ghost use Rattle.usb_tool.specs.Choosing.{IsChosen, RefusesChoosing, other_speed_of, other_speed_said, strings_of, strings_said};
 
 use crate::settings::SettingsFault;
+use usb_command_line::Enumerating;
 use usb_host::{Choice, NamedStrings};
 
-/// The options of `enumerate` that say what is asked for: the text of each one, or `None` where the words lack it.
-#[derive(Clone, Copy, Debug, PartialEq, Eq, Hash)]
-pub struct Choosing<'a> {
-    /// What becomes of the strings: `needed`, `wanted` or `skipped`.
-    pub strings: Option<&'a str>,
-    /// Whether the other speed is asked for: `yes` or `no`.
-    pub other_speed: Option<&'a str>,
-}
-
-/// What they choose. An absent one is `needed`, or `yes`.
+/// What the options choose. An absent one is `needed`, or `yes`.
 ///
 /// ```rust
-/// let choosing = Choosing { strings: Some("skipped"), other_speed: None };
-/// assert_eq!(rt; choice_of(&choosing)?, Choice { strings: NamedStrings::Skipped, other_speed: true });
+/// let enumerating = Enumerating { log: false, brief: false, packets: false, with_strings: false, damage: None, strings: Some("skipped"), other_speed: None };
+/// assert_eq!(rt; choice_of(&enumerating)?, Choice { strings: NamedStrings::Skipped, other_speed: true });
 /// ```
 ///
 /// # Errors
 ///
 /// [`SettingsFault::Strings`], and else [`SettingsFault::OtherSpeed`], where the text is none of these.
-pub fn choice_of(choosing: &Choosing<'_>) -> Result<Choice, SettingsFault>
-    ensures ok { IfOk result (IsChosen choosing.now) }
-    ensures err { IfErr result (RefusesChoosing choosing.now) }
+pub fn choice_of(enumerating: &Enumerating<'_>) -> Result<Choice, SettingsFault>
+    ensures ok { IfOk result (IsChosen enumerating.now) }
+    ensures err { IfErr result (RefusesChoosing enumerating.now) }
 {
-    let Some(strings) = strings_said(choosing.strings) else {
+    let Some(strings) = strings_said(enumerating.strings) else {
         return Err(SettingsFault::Strings);
     };
-    let Some(other_speed) = other_speed_said(choosing.other_speed) else {
+    let Some(other_speed) = other_speed_said(enumerating.other_speed) else {
         return Err(SettingsFault::OtherSpeed);
     };
     Ok(Choice {

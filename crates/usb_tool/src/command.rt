@@ -1,98 +1,108 @@
-//! What each command does and how it ends, but for `enumerate`.
+//! What each command does and what it comes to.
 ghost use Rattle.std.specs.Prelude.{◌≡◌};
-ghost use Rattle.usb_tool.specs.Runs.{EndsCapture, EndsChecking, EndsExplanation, EndsHex, EndsLine, EndsRemarks, any_hint, build_hint};
-ghost use Rattle.usb_tool.specs.declared.command_line.Line.TheVariants.{CheckAny};
+ghost use Rattle.usb_command_line.specs.CommandLine.{no_enumerating};
+ghost use Rattle.usb_tool.specs.Runs.{Ends, EndsBuild, EndsCapture, EndsCheck, EndsEnumeration, EndsExplanation, EndsLine, EndsShow, any_hint, build_hint};
+ghost use Rattle.usb_tool.specs.Works.{WorkFails, Worked};
 
-use crate::build::{run_build, run_build_commented};
+use crate::build::run_build_as;
 use crate::capture::run_capture;
-use crate::capturing::{Capturing, capture_command};
-use crate::check::{run_check, run_check_any};
-use crate::check_remarks::run_check_remarks;
-use crate::checking::{Checking, running_speed};
-use crate::command_line::Line;
-use crate::enumerating::{enumerate_chosen, enumerate_damaged, enumerate_plainly, enumerate_with};
-use crate::explanation::explain_as;
-use crate::hex_input::{HexCommand, run_hex};
-use crate::hex_output::run_build_hex;
-use crate::manner::{Explaining, manner_of};
+use crate::capture_options::capture_command;
+use crate::enumerate_options::enumeration_settings;
+use crate::enumeration::{Enumeration, run_enumeration};
+use crate::explanation::{Explanation, run_explain};
+use crate::manner::manner_of;
 use crate::meaning::Hint;
-use crate::reporting::{refuse, report};
-use crate::show::{run_show, run_show_any};
+use crate::outcome::Outcome;
+use crate::task::{Task, run_work};
+use crate::work_options::{checking_task, showing_task};
 use std::alloc::Global;
 use std::io::{Read, Write};
-use usb_remarks::SetSpeed;
+use usb_command_line::{
+    Building, Capturing, Checking, Enumerating, Explaining, Line, Options, Showing,
+};
 
 /// Carries out what a line asks for.
-#[tactic(auto, using(crate::proofs::Running::command_ends))]
-pub(crate) fn carry_out<R: Read, W: Write, E: Write>(
+pub(crate) fn carry_out<R: Read, W: Write>(
     alloc: Global,
     line: &Line<'_>,
-    person: bool,
     r: &mut R,
     w: &mut W,
-    e: &mut E,
-) -> u8
-    ensures { EndsLine person line.now (R.remaining r.old) (R.remaining r.new) (W.contents w.old) (W.contents w.new) (E.contents e.old) (E.contents e.new) result }
+) -> Outcome
+    ensures { EndsLine line.now (R.remaining r.old) (R.remaining r.new) (W.contents w.old) (W.contents w.new) result }
 {
     match line {
-        Line::Show => report(&run_show(alloc, r, w), person, Hint::Any, e),
-        Line::Check => report(&run_check(alloc, r, w), person, Hint::Any, e),
-        Line::Build => report(&run_build(alloc, r, w), person, Hint::Comments, e),
-        Line::Enumerate(options) => enumerate_plainly(alloc, options, person, r, w, e),
-        Line::ShowAny => report(&run_show_any(alloc, r, w), person, Hint::Explain, e),
-        Line::CheckAny => check_any(alloc, person, r, w, e),
-        Line::ShowHex(any) => hex_with(
-            alloc,
-            HexCommand::Show { any: *any },
-            *any,
-            person,
-            r,
-            w,
-            e,
-        ),
-        Line::CheckHex(any) => hex_with(
-            alloc,
-            HexCommand::Check { any: *any },
-            *any,
-            person,
-            r,
-            w,
-            e,
-        ),
-        Line::CheckRemarks(options) => check_with(alloc, options, person, r, w, e),
-        Line::BuildCommented => report(&run_build_commented(alloc, r, w), person, Hint::Nothing, e),
-        Line::BuildHex(comments) => report(
-            &run_build_hex(alloc, r, w, *comments),
-            person,
-            build_hint(*comments),
-            e,
-        ),
-        Line::Explain(options) => explain_with(alloc, options, person, r, w, e),
-        Line::Capture(options) => capture_with(alloc, options, person, r, w, e),
-        Line::EnumerateWith(options, flags) => enumerate_with(
-            alloc, options, *flags, person, r, w, e,
-        ),
-        Line::EnumerateDamaged(options, flags, text) => enumerate_damaged(
-            alloc, options, *flags, text, person, r, w, e,
-        ),
-        Line::EnumerateChosen(options, flags, damage, choosing) => enumerate_chosen(
-            alloc, options, *flags, *damage, choosing, person, r, w, e,
-        ),
+        Line::Show => {
+            let plain = Showing {
+                any: false,
+                hex: false,
+            };
+            show(alloc, plain, r, w)
+        }
+        Line::Check => {
+            let plain = Checking {
+                any: false,
+                hex: false,
+                remarks: false,
+                speed: None,
+            };
+            check(alloc, &plain, r, w)
+        }
+        Line::Build => {
+            let plain = Building {
+                comments: false,
+                hex: false,
+            };
+            build(alloc, plain, r, w)
+        }
+        Line::Enumerate(options) => enumerate_plainly(alloc, options, r, w),
+        Line::ShowWith(options) => show(alloc, *options, r, w),
+        Line::CheckWith(options) => check(alloc, options, r, w),
+        Line::BuildWith(options) => build(alloc, *options, r, w),
+        Line::EnumerateWith(options, others) => enumerate(alloc, options, others, r, w),
+        Line::Explain(options) => explain(alloc, options, r, w),
+        Line::Capture(options) => capture(alloc, options, r, w),
     }
 }
 
-/// Checks a set alone, a file or a dump.
-#[tactic(auto, using(crate::proofs::Running::command_ends))]
-fn check_any<R: Read, W: Write, E: Write>(
-    alloc: Global,
-    person: bool,
-    r: &mut R,
-    w: &mut W,
-    e: &mut E,
-) -> u8
-    ensures { EndsLine person CheckAny (R.remaining r.old) (R.remaining r.new) (W.contents w.old) (W.contents w.new) (E.contents e.old) (E.contents e.new) result }
+fn show<R: Read, W: Write>(alloc: Global, options: Showing, r: &mut R, w: &mut W) -> Outcome
+    ensures { EndsShow options (R.remaining r.old) (R.remaining r.new) (W.contents w.old) (W.contents w.new) result }
 {
-    report(&run_check_any(alloc, r, w), person, Hint::Explain, e)
+    work(alloc, showing_task(options), any_hint(options.any), r, w)
+}
+
+/// Checks as the options say. What is wrong with them is reported before anything is read.
+fn check<R: Read, W: Write>(alloc: Global, options: &Checking<'_>, r: &mut R, w: &mut W) -> Outcome
+    ensures { EndsCheck options.now (R.remaining r.old) (R.remaining r.new) (W.contents w.old) (W.contents w.new) result }
+{
+    match checking_task(options) {
+        Ok(task) => work(alloc, task, any_hint(options.any), r, w),
+        Err(fault) => Outcome::Refused(fault),
+    }
+}
+
+/// What to try where the input of `show` or `check` is at fault.
+fn any_hint(any: bool) -> Hint
+    ensures { result ≡ any_hint any }
+{
+    if any { Hint::Explain } else { Hint::Any }
+}
+
+/// Does what a task says.
+#[tactic(auto, using(crate::proofs::Running::command_ends))]
+fn work<R: Read, W: Write>(alloc: Global, task: Task, hint: Hint, r: &mut R, w: &mut W) -> Outcome
+    ensures { Ends hint (Worked task) (WorkFails task) (R.remaining r.old) (R.remaining r.new) (W.contents w.old) (W.contents w.new) result }
+{
+    Outcome::of(run_work(alloc, r, w, task), hint)
+}
+
+#[tactic(auto, using(crate::proofs::Running::command_ends))]
+fn build<R: Read, W: Write>(alloc: Global, options: Building, r: &mut R, w: &mut W) -> Outcome
+    ensures { EndsBuild options (R.remaining r.old) (R.remaining r.new) (W.contents w.old) (W.contents w.new) result }
+{
+    Outcome::of(
+        run_build_as(alloc, r, w, options),
+        build_hint(options.comments),
+    )
 }
 
 /// What to try where the input of `build` is at fault.
@@ -108,114 +118,76 @@ fn build_hint(comments: bool) -> Hint
 
 /// Explains as the options say. A speed that is none is reported before anything is read.
 #[tactic(auto, using(crate::proofs::Running::command_ends))]
-fn explain_with<R: Read, W: Write, E: Write>(
+fn explain<R: Read, W: Write>(
     alloc: Global,
     options: &Explaining<'_>,
-    person: bool,
     r: &mut R,
     w: &mut W,
-    e: &mut E,
-) -> u8
-    ensures { EndsExplanation person options.now (R.remaining r.old) (R.remaining r.new) (W.contents w.old) (W.contents w.new) (E.contents e.old) (E.contents e.new) result }
+) -> Outcome
+    ensures { EndsExplanation options.now (R.remaining r.old) (R.remaining r.new) (W.contents w.old) (W.contents w.new) result }
 {
     match manner_of(options) {
-        Ok(manner) => report(
-            &explain_as(alloc, r, w, manner, options.hex, options.loose),
-            person,
-            Hint::Nothing,
-            e,
-        ),
-        Err(fault) => refuse(fault, person, e),
+        Ok(manner) => {
+            let (hex, loose) = (options.hex, options.loose);
+            let explanation = Explanation { manner, hex, loose };
+            Outcome::of(run_explain(alloc, r, w, explanation), Hint::Nothing)
+        }
+        Err(fault) => Outcome::Refused(fault),
     }
 }
 
 /// Tells of a recording as the options say, which are refused before anything is read.
 #[tactic(auto, using(crate::proofs::Running::command_ends))]
-fn capture_with<R: Read, W: Write, E: Write>(
+fn capture<R: Read, W: Write>(
     alloc: Global,
     options: &Capturing<'_>,
-    person: bool,
     r: &mut R,
     w: &mut W,
-    e: &mut E,
-) -> u8
-    ensures { EndsCapture person options.now (R.remaining r.old) (R.remaining r.new) (W.contents w.old) (W.contents w.new) (E.contents e.old) (E.contents e.new) result }
+) -> Outcome
+    ensures { EndsCapture options.now (R.remaining r.old) (R.remaining r.new) (W.contents w.old) (W.contents w.new) result }
 {
     match capture_command(options) {
-        Ok(command) => report(&run_capture(alloc, r, w, command), person, Hint::Nothing, e),
-        Err(fault) => refuse(fault, person, e),
+        Ok(command) => Outcome::of(run_capture(alloc, r, w, command), Hint::Nothing),
+        Err(fault) => Outcome::Refused(fault),
     }
 }
 
-/// Carries out a command whose input is hexadecimal text.
-#[tactic(auto, using(crate::proofs::Running::command_ends))]
-fn hex_with<R: Read, W: Write, E: Write>(
+fn enumerate_plainly<R: Read, W: Write>(
     alloc: Global,
-    command: HexCommand,
-    any: bool,
-    person: bool,
+    options: &Options<'_>,
     r: &mut R,
     w: &mut W,
-    e: &mut E,
-) -> u8
-    ensures { EndsHex person any command (R.remaining r.old) (R.remaining r.new) (W.contents w.old) (W.contents w.new) (E.contents e.old) (E.contents e.new) result }
+) -> Outcome
+    ensures { EndsEnumeration options.now no_enumerating (R.remaining r.old) (R.remaining r.new) (W.contents w.old) (W.contents w.new) result }
 {
-    report(&run_hex(alloc, r, w, command), person, any_hint(any), e)
+    let plain = Enumerating {
+        log: false,
+        brief: false,
+        packets: false,
+        with_strings: false,
+        damage: None,
+        strings: None,
+        other_speed: None,
+    };
+    enumerate(alloc, options, &plain, r, w)
 }
 
-/// Checks as the options say. A speed that is none, or that is named without remarks, is reported before anything is read.
-fn check_with<R: Read, W: Write, E: Write>(
+/// Enumerates as the options say. What is wrong with them is reported before anything is read.
+#[tactic(auto, using(crate::proofs::Running::enumeration_ends))]
+fn enumerate<R: Read, W: Write>(
     alloc: Global,
-    options: &Checking<'_>,
-    person: bool,
+    options: &Options<'_>,
+    others: &Enumerating<'_>,
     r: &mut R,
     w: &mut W,
-    e: &mut E,
-) -> u8
-    ensures { EndsChecking person options.now (R.remaining r.old) (R.remaining r.new) (W.contents w.old) (W.contents w.new) (E.contents e.old) (E.contents e.new) result }
+) -> Outcome
+    ensures { EndsEnumeration options.now others.now (R.remaining r.old) (R.remaining r.new) (W.contents w.old) (W.contents w.new) result }
 {
-    match running_speed(options) {
-        Ok(speed) => check_remarks(alloc, options.hex, options.any, speed, person, r, w, e),
-        Err(fault) => refuse(fault, person, e),
+    match enumeration_settings(alloc, options, others) {
+        Ok(settings) => {
+            let answer = run_enumeration(alloc, r, w, &Enumeration::of(&settings));
+            Outcome::of_enumeration(answer, settings.flags)
+        }
+        Err(fault) => Outcome::Refused(fault),
     }
-}
-
-/// Writes remarks too.
-#[tactic(auto, using(crate::proofs::Running::command_ends))]
-fn check_remarks<R: Read, W: Write, E: Write>(
-    alloc: Global,
-    hex: bool,
-    any: bool,
-    speed: Option<SetSpeed>,
-    person: bool,
-    r: &mut R,
-    w: &mut W,
-    e: &mut E,
-) -> u8
-    ensures { EndsRemarks hex person any speed (R.remaining r.old) (R.remaining r.new) (W.contents w.old) (W.contents w.new) (E.contents e.old) (E.contents e.new) result }
-{
-    match hex {
-        true => hex_with(
-            alloc,
-            HexCommand::CheckRemarks { any, speed },
-            any,
-            person,
-            r,
-            w,
-            e,
-        ),
-        false => report(
-            &run_check_remarks(alloc, r, w, any, speed),
-            person,
-            any_hint(any),
-            e,
-        ),
-    }
-}
-
-/// What to try where the input of `show` or `check` is at fault.
-fn any_hint(any: bool) -> Hint
-    ensures { result ≡ any_hint any }
-{
-    if any { Hint::Explain } else { Hint::Any }
 }

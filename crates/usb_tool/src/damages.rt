@@ -1,46 +1,11 @@
 //! What the option `--damage` of `enumerate` says.
 ghost use Rattle.std.specs.Prelude.{◌≡◌, ◌<◌, ◌==◌, IfErr, IfOk, OnOk, map, option_map};
 ghost use Rattle.usb_tool.specs.OptionValues.{number_of};
-ghost use Rattle.usb_tool.specs.Damages.{AddsSaid, IsDamageSettled, RefusesBeside, RefusesDamages, RefusesSaid, bits_said, damages_of, entry_said, packet_said, parts_at, transaction_said};
+ghost use Rattle.usb_tool.specs.Damages.{AddsSaid, RefusesDamages, RefusesSaid, bits_said, damages_of, entry_said, packet_said, parts_at, transaction_said};
 
-use crate::settings::{EnumerateFlags, Options, Settings, SettingsFault, settings_with};
+use crate::settings::SettingsFault;
 use std::alloc::{AllocError, Global};
 use usb_bus::BitChange;
-
-/// What an enumeration is given beside its file, where bits change.
-#[derive(Debug, Drop)]
-pub struct DamageSettings {
-    /// What it is given where none do.
-    pub settings: Settings,
-    /// The bits that change.
-    pub changes: Vec<BitChange>,
-}
-
-/// The settings that the options give beside these flags, and the changes that a text names.
-///
-/// ```rust
-/// let options = Options { speed: None, address: None, naks: None, attempts: None, fates: None };
-/// let choice = Choice::everything();
-/// let flags = EnumerateFlags { log: false, brief: true, packets: false, with_strings: false, choice };
-/// assert_eq!(rt; damage_settings(alloc, &options, flags, "1:1").err(), Some(SettingsFault::BriefAlone));
-/// ```
-///
-/// # Errors
-///
-/// Those of [`settings_with`], and else those of [`read_damages`].
-pub fn damage_settings(
-    alloc: Global,
-    options: &Options<'_>,
-    flags: EnumerateFlags,
-    text: &str,
-) -> Result<DamageSettings, SettingsFault>
-    ensures ok { IfOk result (IsDamageSettled options.now flags text.now) }
-    ensures err { IfErr result (RefusesBeside options.now flags text.now) }
-{
-    let settings = settings_with(alloc, options, flags)?;
-    let changes = read_damages(alloc, text)?;
-    Ok(DamageSettings { settings, changes })
-}
 
 /// The changes of bits that a text names, in order. It has entries with a `;` between them. An entry is the number of a
 /// transaction and of a packet in it, both counted from 1, and the numbers of bits in that, counted from 0 and with a `,`

@@ -1,13 +1,13 @@
 //! The command `enumerate`.
 ghost use Rattle.std.specs.Prelude.{◌≡◌, ◌≢◌, ◌++◌, [], IfErr, IfOk, false, true};
 ghost use Rattle.usb_listing.specs.Listing.{file_lines};
-ghost use Rattle.usb_tool.specs.CommandLine.{no_flags};
-ghost use Rattle.usb_tool.specs.Enumerations.{EnumerateFails, Enumerated, EnumeratedTo, IsNotTaken, IsTaken, RefusesToEnumerate, WritesResult, has_bytes, run_text, under, refused_line, success_line, trouble_line};
+ghost use Rattle.usb_tool.specs.Enumerations.{EnumerateFails, Enumerated, EnumeratedTo, IsNotTaken, IsTaken, RefusesToEnumerate, WritesResult, conditions_at, conditions_by, conditions_of, has_bytes, no_flags, run_text, unchanged, under, refused_line, success_line, trouble_line};
 ghost use Rattle.usb_tool.specs.EnumerationEnds.{end_of};
 ghost use Rattle.usb_tool.specs.declared.enumeration_end.EnumerationEnd.TheVariants.{Refused, Success, Trouble as TroubleEnd};
 ghost use Rattle.usb_tool.specs.inside.Telling.{BreaksRun, EndsWith, IsCutShort, MakesRun};
 ghost use Rattle.usb_file_data.specs.declared.fault.FileWhy.TheVariants as files;
 
+use crate::enumerate_options::EnumerationSettings;
 use crate::enumeration_end::EnumerationEnd;
 use crate::fault::ToolFault;
 use crate::input::read_all;
@@ -27,6 +27,36 @@ use usb_file_data::FileFault;
 use usb_host::{Choice, Limits, Trouble};
 use usb_listing::list;
 use usb_text::write_all;
+
+/// What an enumeration is made under.
+#[derive(Clone, Copy, Debug)]
+pub struct Enumeration<'a> {
+    /// The limits of the host's retries, and the address that it gives.
+    pub limits: Limits,
+    /// The speed of the device.
+    pub speed: Speed,
+    /// What the bus does to each transaction; after the last one all arrives.
+    pub fates: &'a [Fate],
+    /// The bits that change on the bus.
+    pub changes: &'a [BitChange],
+    /// What is taken, written and asked for.
+    pub flags: EnumerateFlags,
+}
+
+impl<'a> Enumeration<'a> {
+    /// What these settings say.
+    pub(crate) fn of(given: &'a EnumerationSettings) -> Enumeration<'a>
+        ensures { conditions_of result ≡ conditions_by given.entry.now }
+    {
+        Enumeration {
+            limits: given.settings.limits,
+            speed: given.settings.speed,
+            fates: &given.settings.fates,
+            changes: &given.changes,
+            flags: given.flags,
+        }
+    }
+}
 
 /// Reads a descriptor file to its end, and enumerates a device of this speed that has these descriptors, over a bus with
 /// these fates. It writes a line of what came of that, and after success the listing of the file that the host has read.
@@ -66,12 +96,23 @@ pub fn run_enumerate<R: Read, W: Write>(
         with_strings: false,
         choice: Choice::everything(),
     };
-    run_enumerate_with(alloc, r, w, l, s, fates, flags)
+    let enumeration = Enumeration {
+        limits: l,
+        speed: s,
+        fates,
+        changes: &[],
+        flags,
+    };
+    match run_enumeration(alloc, r, w, &enumeration) {
+        Ok(end) => Ok(end.status()),
+        Err(fault) => Err(fault),
+    }
 }
 
-/// The same with these flags: where they say so a dump is taken too, and a log is written, of which a line for each bus
-/// reset, each transfer and each transaction comes before the result, as soon as it is done. A brief log has no lines of data. One that
-/// shows packets is of a bus of bytes.
+/// The same with all that an enumeration is made under, and answers how it has ended. Where the flags say so a dump is taken too, and
+/// a log is written, of which a line for each bus reset, each transfer and each transaction comes before the result, as soon as
+/// it is done. A brief log has no lines of data. One that shows packets, or over a bus that changes bits, is of a bus of bytes:
+/// it shows the packets in which bits change.
 ///
 /// ```rust
 /// let mut dump: &[u8] = &[18, 1, 0, 2, 0, 0, 0, 64, 0x34, 0x12, 0x78, 0x56, 0, 1, 1, 0, 0, 0];
@@ -79,7 +120,9 @@ pub fn run_enumerate<R: Read, W: Write>(
 /// let limits = Limits::new(1, 16, 3)?;
 /// let choice = Choice::everything();
 /// let flags = EnumerateFlags { log: false, brief: false, packets: false, with_strings: true, choice };
-/// assert_eq!(rt; run_enumerate_with(alloc, &mut dump, &mut lines, limits, Speed::Full, &[], flags)?, 1);
+/// let enumeration = Enumeration { limits, speed: Speed::Full, fates: &[], changes: &[], flags };
+/// let end = run_enumeration(alloc, &mut dump, &mut lines, &enumeration)?;
+/// assert_eq!(rt; end.status(), 1);
 /// // A device has a configuration.
 /// assert_eq!(rt; lines.as_slice(), b"refused 1 V10 main 0 0 0\n");
 /// ```
@@ -88,45 +131,17 @@ pub fn run_enumerate<R: Read, W: Write>(
 ///
 /// Those of [`run_enumerate`]. Where one comes within the log, the enumeration goes no further: the log was written up to
 /// a step, and of that step's lines a prefix, or nothing out of memory.
-pub fn run_enumerate_with<R: Read, W: Write>(
-    alloc: Global,
-    r: &mut R,
-    w: &mut W,
-    l: Limits,
-    s: Speed,
-    fates: &[Fate],
-    flags: EnumerateFlags,
-) -> Result<u8, ToolFault>
-    ensures enumerated { IfOk result (Enumerated (under l s fates.now [] flags) (R.remaining r.old) (R.remaining r.new) (W.contents w.old) (W.contents w.new)) }
-    ensures err { IfErr result (EnumerateFails (under l s fates.now [] flags) (R.remaining r.old) (R.remaining r.new) (W.contents w.old) (W.contents w.new)) }
-{
-    match run_enumeration(alloc, r, w, l, s, fates, &[], flags) {
-        Ok(end) => Ok(end.status()),
-        Err(fault) => Err(fault),
-    }
-}
-
-/// The same over a bus that changes these bits too, and answers how the enumeration has ended. A log shows the packets in which bits
-/// change.
-///
-/// # Errors
-///
-/// Those of [`run_enumerate_with`].
 pub fn run_enumeration<R: Read, W: Write>(
     alloc: Global,
     r: &mut R,
     w: &mut W,
-    l: Limits,
-    s: Speed,
-    fates: &[Fate],
-    changes: &[BitChange],
-    flags: EnumerateFlags,
+    enumeration: &Enumeration<'_>,
 ) -> Result<EnumerationEnd, ToolFault>
-    ensures enumerated { IfOk result (EnumeratedTo (under l s fates.now changes.now flags) (R.remaining r.old) (R.remaining r.new) (W.contents w.old) (W.contents w.new)) }
-    ensures err { IfErr result (EnumerateFails (under l s fates.now changes.now flags) (R.remaining r.old) (R.remaining r.new) (W.contents w.old) (W.contents w.new)) }
+    ensures enumerated { IfOk result (EnumeratedTo (conditions_of enumeration.now) (R.remaining r.old) (R.remaining r.new) (W.contents w.old) (W.contents w.new)) }
+    ensures err { IfErr result (EnumerateFails (conditions_of enumeration.now) (R.remaining r.old) (R.remaining r.new) (W.contents w.old) (W.contents w.new)) }
 {
     let bytes = read_all(alloc, r, FILE_LIMIT)?;
-    enumerate_bytes(alloc, bytes, w, l, s, fates, changes, flags)
+    enumerate_bytes(alloc, bytes, w, enumeration)
 }
 
 /// Writes what comes of the file that the bytes are, and flushes the writer. The bytes are let go as soon as they are read, and
@@ -135,18 +150,14 @@ fn enumerate_bytes<W: Write>(
     alloc: Global,
     bytes: Vec<u8>,
     w: &mut W,
-    l: Limits,
-    s: Speed,
-    fates: &[Fate],
-    changes: &[BitChange],
-    flags: EnumerateFlags,
+    enumeration: &Enumeration<'_>,
 ) -> Result<EnumerationEnd, ToolFault>
-    ensures ok { IfOk result (WritesResult (under l s fates.now changes.now flags) bytes.items (W.contents w.old) (W.contents w.new)) }
-    ensures err { IfErr result (RefusesToEnumerate (under l s fates.now changes.now flags) bytes.items (W.contents w.old) (W.contents w.new)) }
+    ensures ok { IfOk result (WritesResult (conditions_of enumeration.now) bytes.items (W.contents w.old) (W.contents w.new)) }
+    ensures err { IfErr result (RefusesToEnumerate (conditions_of enumeration.now) bytes.items (W.contents w.old) (W.contents w.new)) }
 {
-    let file = file_of(alloc, &bytes, flags.with_strings)?;
+    let file = file_of(alloc, &bytes, enumeration.flags.with_strings)?;
     drop(bytes);
-    let description = match Encoded::new(alloc, &file, s) {
+    let description = match Encoded::new(alloc, &file, enumeration.speed) {
         Ok(description) => description,
         Err(fault) => {
             if fault == DescriptionFault::Memory {
@@ -156,7 +167,7 @@ fn enumerate_bytes<W: Write>(
         }
     };
     drop(file);
-    let run = run_over(alloc, &description, l, fates, changes, flags, w)?;
+    let run = run_over(alloc, &description, enumeration, w)?;
     tell_run(alloc, &run, w)
 }
 
@@ -176,19 +187,16 @@ fn file_of(alloc: Global, bytes: &[u8], with_strings: bool) -> Result<Descriptor
 fn run_over<W: Write>(
     alloc: Global,
     d: &Encoded,
-    l: Limits,
-    fates: &[Fate],
-    changes: &[BitChange],
-    flags: EnumerateFlags,
+    enumeration: &Enumeration<'_>,
     w: &mut W,
 ) -> Result<Run, ToolFault>
-    ensures ok { IfOk result (MakesRun (under l d.now.speed fates.now changes.now flags) d.now.file (W.contents w.old) (W.contents w.new)) }
-    ensures err { IfErr result (BreaksRun (under l d.now.speed fates.now changes.now flags) d.now.file (W.contents w.old) (W.contents w.new)) }
+    ensures ok { IfOk result (MakesRun (conditions_at d.now.speed enumeration.now) d.now.file (W.contents w.old) (W.contents w.new)) }
+    ensures err { IfErr result (BreaksRun (conditions_at d.now.speed enumeration.now) d.now.file (W.contents w.old) (W.contents w.new)) }
 {
-    if has_bytes(changes, flags) {
-        run_on_the_wire(alloc, d, l, fates, changes, flags, w)
+    if has_bytes(enumeration.changes, enumeration.flags) {
+        run_on_the_wire(alloc, d, enumeration, w)
     } else {
-        run_losing(alloc, d, l, fates, flags, w)
+        run_losing(alloc, d, enumeration, w)
     }
 }
 
@@ -206,16 +214,20 @@ fn has_bytes(changes: &[BitChange], flags: EnumerateFlags) -> bool
 fn run_on_the_wire<W: Write>(
     alloc: Global,
     d: &Encoded,
-    l: Limits,
-    fates: &[Fate],
-    changes: &[BitChange],
-    flags: EnumerateFlags,
+    enumeration: &Enumeration<'_>,
     w: &mut W,
 ) -> Result<Run, ToolFault>
-    requires { has_bytes changes.now flags ≡ true }
-    ensures ok { IfOk result (MakesRun (under l d.now.speed fates.now changes.now flags) d.now.file (W.contents w.old) (W.contents w.new)) }
-    ensures err { IfErr result (BreaksRun (under l d.now.speed fates.now changes.now flags) d.now.file (W.contents w.old) (W.contents w.new)) }
+    requires { has_bytes enumeration.now.changes.now enumeration.now.flags ≡ true }
+    ensures ok { IfOk result (MakesRun (conditions_at d.now.speed enumeration.now) d.now.file (W.contents w.old) (W.contents w.new)) }
+    ensures err { IfErr result (BreaksRun (conditions_at d.now.speed enumeration.now) d.now.file (W.contents w.old) (W.contents w.new)) }
 {
+    let Enumeration {
+        limits,
+        fates,
+        changes,
+        flags,
+        ..
+    } = *enumeration;
     if flags.log {
         let logging = Logging {
             fates,
@@ -223,10 +235,10 @@ fn run_on_the_wire<W: Write>(
             brief: flags.brief,
             packets: flags.packets,
         };
-        let run = enumerate_on_the_wire_logged_with(alloc, d, l, flags.choice, logging, w)?;
+        let run = enumerate_on_the_wire_logged_with(alloc, d, limits, flags.choice, logging, w)?;
         Ok(run)
     } else {
-        Ok(enumerate_on_the_wire_with(alloc, d, l, flags.choice, fates, changes))
+        Ok(enumerate_on_the_wire_with(alloc, d, limits, flags.choice, fates, changes))
     }
 }
 
@@ -234,20 +246,24 @@ fn run_on_the_wire<W: Write>(
 fn run_losing<W: Write>(
     alloc: Global,
     d: &Encoded,
-    l: Limits,
-    fates: &[Fate],
-    flags: EnumerateFlags,
+    enumeration: &Enumeration<'_>,
     w: &mut W,
 ) -> Result<Run, ToolFault>
-    requires { flags.packets ≡ false }
-    ensures ok { IfOk result (MakesRun (under l d.now.speed fates.now [] flags) d.now.file (W.contents w.old) (W.contents w.new)) }
-    ensures err { IfErr result (BreaksRun (under l d.now.speed fates.now [] flags) d.now.file (W.contents w.old) (W.contents w.new)) }
+    requires { enumeration.now.flags.packets ≡ false }
+    ensures ok { IfOk result (MakesRun (unchanged d.now.speed enumeration.now) d.now.file (W.contents w.old) (W.contents w.new)) }
+    ensures err { IfErr result (BreaksRun (unchanged d.now.speed enumeration.now) d.now.file (W.contents w.old) (W.contents w.new)) }
 {
+    let Enumeration {
+        limits,
+        fates,
+        flags,
+        ..
+    } = *enumeration;
     if flags.log {
-        let run = enumerate_logged_with(alloc, d, l, flags.choice, fates, flags.brief, w)?;
+        let run = enumerate_logged_with(alloc, d, limits, flags.choice, fates, flags.brief, w)?;
         Ok(run)
     } else {
-        Ok(enumerate_with(alloc, d, l, flags.choice, fates))
+        Ok(enumerate_with(alloc, d, limits, flags.choice, fates))
     }
 }
 

@@ -3,7 +3,7 @@ ghost use Rattle.std.specs.Prelude.{◌≡◌, Some};
 ghost use Rattle.usb_tool.specs.Faults.{fault_line, fault_number, fault_of_device, fault_of_file, fault_of_input, fault_of_list, fault_of_output, fault_of_recording, fault_of_set, status_of};
 ghost use Rattle.usb_tool.specs.declared.fault.ToolFault.TheVariants.{Memory};
 ghost use Rattle.std.specs.Prelude.{IfSome};
-ghost use Rattle.usb_tool.specs.Runs.{ReportsLine};
+ghost use Rattle.usb_tool.specs.Outcomes.{ReportsLine};
 
 use crate::lack_line::LackLine;
 use arrayvec::ArrayString;

@@ -1,9 +1,10 @@
 //! How an input is to be explained.
 ghost use Rattle.std.specs.Prelude.{◌≡◌, IfErr, IfOk, None};
-ghost use Rattle.usb_tool.specs.Explains.{IsManner, HasBadSpeed, running_said, running_speed_of};
+ghost use Rattle.usb_tool.specs.Manners.{IsManner, HasBadSpeed, running_said, running_speed_of};
 ghost use Rattle.usb_tool.specs.declared.settings.SettingsFault.TheVariants.{Speed};
 
 use crate::settings::SettingsFault;
+use usb_command_line::Explaining;
 use usb_explain::{Look, Manner};
 use usb_remarks::SetSpeed;
 
@@ -23,7 +24,7 @@ pub fn manner_of(explaining: &Explaining<'_>) -> Result<Manner, SettingsFault>
     ensures ok { IfOk result (IsManner explaining.now) }
     ensures err { IfErr result (λ fault. (fault ≡ Speed) × HasBadSpeed explaining.now) }
 {
-    let Some(speed) = speed_of(explaining.speed) else {
+    let Some(speed) = running_speed_said(explaining.speed) else {
         return Err(SettingsFault::Speed);
     };
     Ok(Manner {
@@ -39,7 +40,7 @@ pub fn manner_of(explaining: &Explaining<'_>) -> Result<Manner, SettingsFault>
 }
 
 /// The speed that is named, if one is; `None` where no speed has the name.
-pub(crate) fn speed_of(name: Option<&str>) -> Option<Option<SetSpeed>>
+pub fn running_speed_said(name: Option<&str>) -> Option<Option<SetSpeed>>
     ensures { result ≡ running_said name.entry }
 {
     match name {
@@ -64,23 +65,4 @@ pub fn read_running_speed(name: &str) -> Option<SetSpeed>
         "super" => Some(SetSpeed::Super),
         _ => None,
     }
-}
-
-/// Which of the flags of `explain` are given, and the text of its speed.
-#[derive(Clone, Copy, Debug, PartialEq, Eq, Hash)]
-pub struct Explaining<'a> {
-    /// Whether the fields are left out.
-    pub brief: bool,
-    /// Whether the places are left out.
-    pub no_places: bool,
-    /// Whether characters beyond ASCII are written.
-    pub utf8: bool,
-    /// Whether the input has to be hexadecimal text.
-    pub hex: bool,
-    /// Whether it is explained as a fragment.
-    pub loose: bool,
-    /// Whether headings of formats have what tells them apart.
-    pub formats: bool,
-    /// The name of a speed, or `None` where the words lack it.
-    pub speed: Option<&'a str>,
 }

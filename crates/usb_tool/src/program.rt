@@ -1,15 +1,19 @@
 //! What the program does, from the words of its command line to its exit status.
 ghost use Rattle.std.specs.IoError.{error_kind};
-ghost use Rattle.std.specs.Prelude.{◌≡◌, false};
+ghost use Rattle.std.specs.Prelude.{◌≡◌};
 ghost use Rattle.usb_tool.specs.Faults.{words_line, words_status};
 ghost use Rattle.usb_tool.specs.Runs.{Answers, Runs, line_status};
+ghost use Rattle.usb_tool.specs.declared.audience.Audience.TheVariants.{Program};
 
+use crate::audience::Audience;
 use crate::command::carry_out;
-use crate::command_line::read_line;
+use crate::invocation::Invocation;
+use crate::reporting::tell;
 use clap::error::ErrorKind;
 use std::alloc::Global;
 use std::io;
 use std::io::{Read, Write};
+use usb_command_line::read_line;
 use usb_text::write_all;
 
 /// The line that goes to standard error where the words of the command line could not be taken, and the exit
@@ -57,36 +61,40 @@ pub fn run<R: Read, W: Write, E: Write>(
     w: &mut W,
     e: &mut E,
 ) -> u8
-    ensures { Runs false words.now (R.remaining r.old) (R.remaining r.new) (W.contents w.old) (W.contents w.new) (E.contents e.old) (E.contents e.new) result }
+    ensures { Runs Program words.now (R.remaining r.old) (R.remaining r.new) (W.contents w.old) (W.contents w.new) (E.contents e.old) (E.contents e.new) result }
 {
-    run_for(alloc, words, false, r, w, e)
+    let invocation = Invocation {
+        words,
+        audience: Audience::Program,
+    };
+    run_for(alloc, &invocation, r, w, e)
 }
 
-/// Does what [`run`] does, for a person at a terminal that is standard error, or not. For a person the line of a fault is followed
+/// Does what [`run`] does, for whoever reads standard error. For a person the line of a fault is followed
 /// by one that says what the fault means, and where the input is at fault which option or command to try; after an enumeration
 /// without success standard error has a line that says the same of that.
 ///
 /// ```rust
 /// let words = vec![in alloc; String::from_str(alloc, "usbdesc")?, String::from_str(alloc, "build")?]?;
+/// let invocation = Invocation { words: &words, audience: Audience::Person };
 /// let mut listing: &[u8] = b"usb\n";
 /// let (mut output, mut errors) = (Vec::new(alloc), Vec::new(alloc));
-/// assert_eq!(rt; run_for(alloc, &words, true, &mut listing, &mut output, &mut errors), 3);
+/// assert_eq!(rt; run_for(alloc, &invocation, &mut listing, &mut output, &mut errors), 3);
 /// assert_eq!(rt; errors.as_slice(), b"usbdesc: listing fault 2 line 1
 /// no known word; --comments drops comments and empty lines
 /// ");
 /// ```
 pub fn run_for<R: Read, W: Write, E: Write>(
     alloc: Global,
-    words: &[String],
-    person: bool,
+    invocation: &Invocation<'_>,
     r: &mut R,
     w: &mut W,
     e: &mut E,
 ) -> u8
-    ensures { Runs person words.now (R.remaining r.old) (R.remaining r.new) (W.contents w.old) (W.contents w.new) (E.contents e.old) (E.contents e.new) result }
+    ensures { Runs invocation.now.audience invocation.now.words.now (R.remaining r.old) (R.remaining r.new) (W.contents w.old) (W.contents w.new) (E.contents e.old) (E.contents e.new) result }
 {
-    match read_line(alloc, words) {
-        Ok(line) => carry_out(alloc, &line, person, r, w, e),
+    match read_line(alloc, invocation.words) {
+        Ok(line) => tell(carry_out(alloc, &line, r, w), invocation.audience, e),
         Err(error) => match error.to_string(alloc) {
             Ok(text) => tell_refusal(error.kind(), text.as_str(), w, e),
             Err(_) => tell_refusal(ErrorKind::OutOfMemory, NO_MEMORY, w, e),

@@ -9,6 +9,7 @@ ghost use Rattle.usb_tool.specs.OptionFaults.{settings_fault_number, settings_li
 use std::alloc::{AllocError, AllocFailed, Global};
 use std::{error, fmt};
 use usb_bus::Fate;
+use usb_command_line::Options;
 use usb_fields::Speed;
 use usb_host::{Choice, Limits};
 
@@ -117,21 +118,6 @@ impl<T: Drop> From<AllocFailed<T>> for FatesFault {
     fn from(_e: AllocFailed<T>) -> FatesFault {
         FatesFault::Memory
     }
-}
-
-/// The options of `enumerate` that have a value: the text of each one, or `None` where the words lack it.
-#[derive(Clone, Copy, Debug, PartialEq, Eq, Hash)]
-pub struct Options<'a> {
-    /// The name of a speed.
-    pub speed: Option<&'a str>,
-    /// The address that the device gets.
-    pub address: Option<&'a str>,
-    /// The number of NAKs without progress that a transfer retries.
-    pub naks: Option<&'a str>,
-    /// The number of attempts.
-    pub attempts: Option<&'a str>,
-    /// A letter for the fate of each transaction.
-    pub fates: Option<&'a str>,
 }
 
 /// The flags of `enumerate`: what it does beside, and what its host asks for.

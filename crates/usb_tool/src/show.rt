@@ -1,16 +1,13 @@
 //! The command `show`.
 ghost use Rattle.std.specs.Prelude.{IfErr, IfOk};
-ghost use Rattle.usb_tool.specs.Commands.{ShowAnyFails, ShowFails, Shown, ShownAny};
-ghost use Rattle.usb_tool.specs.inside.Telling.{EndsWith, IsCutShort};
-ghost use Rattle.usb_listing.specs.Listing.{input_lines};
+ghost use Rattle.usb_tool.specs.Works.{WorkFails, Worked, show_task};
 
 use crate::fault::ToolFault;
-use crate::input::{take_any, take_set_or_file};
-use crate::output::finish;
+use crate::taken::Taken;
+use crate::task::{Task, run_work};
+use crate::work::Work;
 use std::alloc::Global;
 use std::io::{Read, Write};
-use usb_file::Input;
-use usb_listing::list_input;
 
 /// Reads the input to its end, and writes its listing: a line for each descriptor, in the order of the
 /// input. The input is one configuration set where its second byte is 2 or 7, the type of a
@@ -32,41 +29,8 @@ use usb_listing::list_input;
 /// of the listing is written then, and may be all of it. `Memory` when out of memory; at least the
 /// last byte of the listing is not written then.
 pub fn run_show<R: Read, W: Write>(alloc: Global, r: &mut R, w: &mut W) -> Result<u8, ToolFault>
-    ensures shown { IfOk result (Shown (R.remaining r.old) (R.remaining r.new) (W.contents w.old) (W.contents w.new)) }
-    ensures err { IfErr result (ShowFails (R.remaining r.old) (R.remaining r.new) (W.contents w.old) (W.contents w.new)) }
+    ensures shown { IfOk result (Worked show_task (R.remaining r.old) (R.remaining r.new) (W.contents w.old) (W.contents w.new)) }
+    ensures err { IfErr result (WorkFails show_task (R.remaining r.old) (R.remaining r.new) (W.contents w.old) (W.contents w.new)) }
 {
-    let input = take_set_or_file(alloc, r)?;
-    show_input(alloc, &input, w)
-}
-
-/// Does what [`run_show`] does, and takes a dump too: the device descriptor and its configuration sets alone, without the
-/// strings that they name.
-///
-/// ```rust
-/// let mut input: &[u8] = &[18, 1, 0, 2, 0, 0, 0, 64, 0x34, 0x12, 0x78, 0x56, 0, 1, 1, 0, 0, 0];
-/// let mut lines = Vec::new(alloc);
-/// run_show_any(alloc, &mut input, &mut lines)?;
-/// assert_eq!(rt; lines.as_slice(), b"device 0200 00 00 00 40 1234 5678 0100 01 00 00 00\n");
-/// ```
-///
-/// # Errors
-///
-/// Those of [`run_show`].
-pub fn run_show_any<R: Read, W: Write>(alloc: Global, r: &mut R, w: &mut W) -> Result<u8, ToolFault>
-    ensures shown { IfOk result (ShownAny (R.remaining r.old) (R.remaining r.new) (W.contents w.old) (W.contents w.new)) }
-    ensures err { IfErr result (ShowAnyFails (R.remaining r.old) (R.remaining r.new) (W.contents w.old) (W.contents w.new)) }
-{
-    let input = take_any(alloc, r)?;
-    show_input(alloc, &input, w)
-}
-
-/// Writes the lines of an input, and flushes the writer.
-#[tactic(auto, using(crate::proofs::Written::flushed, crate::proofs::Written::not_flushed))]
-fn show_input<W: Write>(alloc: Global, input: &Input, w: &mut W) -> Result<u8, ToolFault>
-    ensures ok { IfOk result (EndsWith (input_lines input.now) 0 (W.contents w.old) (W.contents w.new)) }
-    ensures err { IfErr result (IsCutShort (input_lines input.now) (W.contents w.old) (W.contents w.new)) }
-{
-    list_input(alloc, input, w)?;
-    finish(w)?;
-    Ok(0)
+    run_work(alloc, r, w, Task::of_bytes(Taken::SetOrFile, Work::List))
 }

@@ -11,18 +11,24 @@ use std::io::IsTerminal;
 use std::process::ExitCode;
 use std::rt::Env;
 use std::{env, io};
-use usb_tool::{read_line, refuse_words, run_for};
+use usb_tool::{Audience, Invocation, read_line, refuse_words, run_for};
 
 fn main(rt: HostRuntime) -> ExitCode {
     let alloc = rt.alloc();
     let status = match words(&rt) {
         Ok(words) => {
-            let person = rt.stderr().is_terminal();
-            if person && lacks_input(alloc, &words, rt.stdin().is_terminal()) {
+            let audience = audience(rt.stderr().is_terminal());
+            if audience == Audience::Person
+                && lacks_input(alloc, &words, rt.stdin().is_terminal())
+            {
                 let _ = rt.eprintln("usbdesc reads standard input: usbdesc COMMAND < FILE");
             }
             let (mut r, mut w) = (rt.reader(), io::writer(&rt));
-            run_for(alloc, &words, person, &mut r, &mut w, &mut rt.stderr())
+            let invocation = Invocation {
+                words: &words,
+                audience,
+            };
+            run_for(alloc, &invocation, &mut r, &mut w, &mut rt.stderr())
         }
         Err(error) => {
             let (line, status) = refuse_words(&error);
@@ -31,6 +37,15 @@ fn main(rt: HostRuntime) -> ExitCode {
         }
     };
     ExitCode::from(status)
+}
+
+/// Who reads standard error, which is a terminal or not.
+fn audience(is_terminal: bool) -> Audience {
+    if is_terminal {
+        Audience::Person
+    } else {
+        Audience::Program
+    }
 }
 
 /// Whether a command would read a keyboard, or has a word too many that is no option, as the name of a file.

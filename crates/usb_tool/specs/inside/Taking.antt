@@ -1,21 +1,11 @@
 -- What a command takes its input for, before it tells anything of it.
-use Rattle.std.specs.Prelude.{◌⊎◌, List, Option, codes, ℕ}
-use Rattle.clap.specs.Words.{Row, Text}
-use Rattle.usb_tool.specs.CommandLine.{IsNamed}
+use Rattle.std.specs.Prelude.{◌⊎◌, List, ℕ}
 use Rattle.usb_file_data.specs.declared.file.Input.{Input}
 use Rattle.usb_file_data.specs.declared.laws.TheConstants.{FILE_LIMIT}
 use Rattle.usb_tool.specs.Endings.{Left, ReadFails, ReadsAll}
 use Rattle.usb_tool.specs.Inputs.{Faulty, Form, OfInput}
 use Rattle.usb_tool.specs.declared.fault.ToolFault.{ToolFault}
 use Rattle.usb_tool.specs.declared.fault.ToolFault.TheVariants as faults
-
--- What the functions that read the command line say to each other.
-
--- one of the program's subcommands was found
-abbrev pub NamesCommand : Option (Text × List Row) → Type 0
-NamesCommand found =
-    IsNamed (codes "show") found ⊎ (IsNamed (codes "check") found
-    ⊎ (IsNamed (codes "build") found ⊎ (IsNamed (codes "explain") found ⊎ (IsNamed (codes "enumerate") found ⊎ IsNamed (codes "capture") found))))
 
 -- all was read, at most what a file can have, and taken for this input
 pub record Takes (is : Form) (from to : Left) (input : Input) : Type 0 where

@@ -1,6 +1,6 @@
 use Rattle.std.proofs.Common.{[], true, false, refl}
 use Rattle.usb_text.proofs.Pages.{appends_nothing, keeps_refl}
-use Rattle.usb_tool.specs.Enumerations.{under}
+use Rattle.usb_tool.specs.Enumerations.{conditions_at}
 use Rattle.usb_tool.proofs.Telling.{run_is}
 use Rattle.usb_tool.proofs.enumeration.run_on_the_wire.Goals as goal
 
@@ -10,6 +10,6 @@ returns-else-flags-clause-ok g c =
     let held = g.W.Write.contents c.args.w.now in
     record {
       log = [];
-      enumerated = run_is true false (under c.args.l c.args.d.now.speed c.args.fates.now c.args.changes.now c.args.flags) c.args.d.now.file c.enumerate_on_the_wire_with.result [] c.requires c.if-flags.false (c.enumerate_on_the_wire_with.ensures.run, refl);
+      enumerated = run_is true false (conditions_at c.args.d.now.speed c.args.enumeration.now) c.args.d.now.file c.enumerate_on_the_wire_with.result [] c.requires c.if-flags.false (c.enumerate_on_the_wire_with.ensures.run, refl);
       written = appends_nothing held held (keeps_refl held);
     }

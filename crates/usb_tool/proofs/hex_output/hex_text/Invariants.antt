@@ -1,5 +1,5 @@
 use Rattle.std.proofs.Common.{◌≡◌, ◌≤◌, ◌++◌, length}
-use Rattle.usb_tool.specs.HexOutputs.{hex_from, hex_text}
+use Rattle.usb_tool.specs.Builds.{hex_from, hex_text}
 use Rattle.usb_tool.proofs.hex_output.hex_text.Given as goal
 
 -- what is written so far, and what is to come

@@ -3,7 +3,7 @@ use Rattle.usb_file_data.specs.FileFaults.{ReadRefused}
 use Rattle.usb_tool.specs.Inputs.{SetOrFileShows}
 use Rattle.usb_tool.specs.inside.Intake.{IsIntake}
 use Rattle.usb_tool.proofs.Reading.{when_err}
-use Rattle.usb_tool.proofs.Taken.{no_file}
+use Rattle.usb_tool.proofs.Inputs.{no_file}
 use Rattle.usb_tool.proofs.intake.Intake.finish.Goals as goal
 
 pub returns-in_err-read_file-in-File-clause-err : goal.returns-in_err-read_file-in-File-clause-err

@@ -1,0 +1,6 @@
+use Rattle.std.proofs.Common.{◌∙◌}
+use Rattle.usb_tool.proofs.NumberLemmas.{parses_number}
+use Rattle.usb_tool.proofs.capture_options.number.Goals as goal
+
+pub returns : goal.returns
+returns c = c.ok.ensures.value ∙ parses_number 32 c.args.text.now c.parse.result c.parse.ensures.value.0

@@ -1,6 +1,0 @@
-use Rattle.std.proofs.Common.{◌∙◌}
-use Rattle.usb_tool.proofs.NumberLemmas.{parses_number}
-use Rattle.usb_tool.proofs.capturing.short_number.Goals as goal
-
-pub returns : goal.returns
-returns c = c.ok.ensures.value ∙ parses_number 16 c.args.text.now c.parse.result c.parse.ensures.value.0

@@ -1,5 +1,0 @@
-use Rattle.std.proofs.Common.{inl}
-use Rattle.usb_tool.proofs.enumerating.enumerate_damaged.Goals as goal
-
-pub returns-in-Ok : goal.returns-in-Ok
-returns-in-Ok g c = inl (record { settings = c.in-Ok.damaged; settled = c.in-Ok.ensures.ok; ended = c.enumerate_under.ensures })

@@ -1,7 +1,0 @@
-use Rattle.usb_tool.proofs.Reading.{when_err}
-use Rattle.usb_tool.proofs.Explained.{cut_fragment}
-use Rattle.usb_tool.proofs.explanation.explain_loose.Goals as goal
-
-pub returns-in_err-flush_fragment-clause-err : goal.returns-in_err-flush_fragment-clause-err
-returns-in_err-flush_fragment-clause-err g c =
-    when_err _ _ _ c.from_residual.ensures.1 (cut_fragment c.args.manner c.args.heading.now c.args.bytes.now _ _ _ c.in_err-flush_fragment.ensures.err)
