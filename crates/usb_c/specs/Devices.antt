@@ -1,5 +1,5 @@
 -- What calls do to a device that C holds as numbers, beside an image and a room that it lends.
-use Rattle.std.specs.Prelude.{◌≡◌, ℕ, Bool, true, false, List, length, take, Option, Some, None}
+use Rattle.std.specs.Prelude.{◌≡◌, ℕ, Bool, true, false, List, length, Option, Some, None}
 use Rattle.usb_fields.specs.Packets.{Sent}
 use Rattle.usb_fields.specs.Setup.{setup_bytes}
 use Rattle.usb_fields.specs.declared.setup.Setup.{Setup}
@@ -51,10 +51,10 @@ abbrev pub Becomes : (DeviceView → DeviceView) → List ℕ → List ℕ → E
 Becomes change image kept old kept_then new =
     IsOf image kept old → (device_of image kept_then new ≡ change (device_of image kept old)) × IsOf image kept_then new
 
--- a call that has no room: whatever is there stays
-abbrev pub Changes : (DeviceView → DeviceView) → Bool → List ℕ → EndpointZero → EndpointZero → Bool → Type 0
-Changes change true image old new done = (done ≡ true) × ((kept : List ℕ) → Becomes change image kept old kept new)
-Changes change false image old new done = (done ≡ false) × (new ≡ old)
+-- a call with an image that has a head, and with no room: whatever is there stays
+abbrev pub Changes : (DeviceView → DeviceView) → Bool → List ℕ → EndpointZero → EndpointZero → Type 0
+Changes change true image old new = (kept : List ℕ) → Becomes change image kept old kept new
+Changes change false image old new = new ≡ old
 
 -- a transaction that has a meaning, with an image; else nothing changes
 abbrev pub Serves : Bool → Option Sent → List ℕ → List ℕ → EndpointZero → Bool → NzgPacket → List ℕ → EndpointZero → NzgPacket → Bool → Type 0
@@ -75,8 +75,8 @@ abbrev pub taken_or : Option Unanswered → Verdict
 taken_or None = verdicts.Done 0
 taken_or (Some why) = verdicts.Unanswered why
 
--- A write whose data have all come, and that is not answered yet: its request is told, and its data begin the room.
-abbrev pub TellsWrite : Option (Setup × List ℕ) → List ℕ → NzgSetup → NzgSetup → Verdict → Type 0
-TellsWrite None kept old new verdict = (verdict ≡ verdicts.Open 0) × (new ≡ old)
-TellsWrite (Some (request, got)) kept old new verdict =
-    (verdict ≡ verdicts.Done (length got)) × (take (length got) kept ≡ got) × (new ≡ record { bytes = setup_bytes request })
+-- A write whose data have all come, and that is not answered yet: its request is told, and how many they are. They begin the room, as
+-- `written_bytes` of usb_device/Stages says.
+abbrev pub TellsWrite : Option (Setup × List ℕ) → NzgSetup → NzgSetup → Verdict → Type 0
+TellsWrite None old new verdict = (verdict ≡ verdicts.Open 0) × (new ≡ old)
+TellsWrite (Some (request, got)) old new verdict = (verdict ≡ verdicts.Done (length got)) × (new ≡ record { bytes = setup_bytes request })

@@ -24,14 +24,20 @@ pub extern "C" fn nzg_device_image(
 ) -> Answer
     ensures { AnswersOn (PutsImage file.now (speed_told speed) image.old image.new) result }
 {
+    put_image(alloc, file, speed, image).answer()
+}
+
+fn put_image(alloc: Global, file: &[u8], speed: u8, image: &mut [u8]) -> Verdict
+    ensures { PutsImage file.now (speed_told speed) image.old image.new result }
+{
     match speed_of(speed) {
-        Some(speed) => put_image(alloc, file, speed, image).answer(),
-        None => Verdict::BadArgument(3).answer(),
+        Some(speed) => put_image_at(alloc, file, speed, image),
+        None => Verdict::BadArgument(3),
     }
 }
 
 #[tactic(auto, using(crate::proofs::Faults::no_file_puts, crate::proofs::Faults::no_description_puts))]
-fn put_image(alloc: Global, bytes: &[u8], speed: Speed, image: &mut [u8]) -> Verdict
+fn put_image_at(alloc: Global, bytes: &[u8], speed: Speed, image: &mut [u8]) -> Verdict
     ensures { PutsImageAt bytes.now speed image.old image.new result }
 {
     let file = match read_file(alloc, bytes) {
@@ -81,7 +87,8 @@ pub extern "C" fn nzg_device_serve(
 /// The host's ACK of the data packet that was answered right before. False where the bytes are no image: nothing changes then.
 #[unsafe(no_mangle)]
 pub extern "C" fn nzg_device_acked(device: &mut EndpointZero, image: &[u8]) -> bool
-    ensures { Changes (acked_over image.now) (has_head image.now) image.now device.old device.new result }
+    ensures done { result ≡ has_head image.now }
+    ensures device { Changes (acked_over image.now) (has_head image.now) image.now device.old device.new }
 {
     let image = Image { bytes: image };
     if !image.has_head() {

@@ -1,14 +1,14 @@
 //! What the owner of such a device has a say in.
-ghost use Rattle.std.specs.Prelude.{◌≡◌, ◌⊎◌, ℕ, List, None, Some, is_some, length, IfErr, OnOk};
+ghost use Rattle.std.specs.Prelude.{◌≡◌, ◌⊎◌, ℕ, List, None, is_some, length};
 ghost use Rattle.usb_device.specs.Beside.{carried_out_in, refused_in, rejected, unaccepted, unanswered, unfit_bytes, written_in, Gives, accepted, answered};
 ghost use Rattle.usb_device.specs.Offers.{has_head, offer_in};
 ghost use Rattle.usb_device.specs.Requests.{answer_to};
 ghost use Rattle.usb_device.specs.View.{device_of, IsOf};
 ghost use Rattle.usb_c.specs.Answers.{AnswersOn, answer_of};
-ghost use Rattle.usb_c.specs.Devices.{Becomes, Changes, TellsWrite, setup_told, taken_or};
+ghost use Rattle.usb_c.specs.Devices.{Changes, TellsWrite, setup_told, taken_or};
 
 use crate::answer::{Answer, Verdict};
-use usb_device::{EndpointZero, Image, Unanswered};
+use usb_device::{EndpointZero, Image};
 use usb_fields::Setup;
 
 /// The bytes of a request (USB 2.0, 9.3).
@@ -38,7 +38,10 @@ pub extern "C" fn nzg_device_answer_with(
     ensures answer { (image : List ℕ) → result ≡ answer_of (taken_or (unanswered (unfit_bytes (length kept.old) bytes.now) (refused_in (device_of image kept.old device.old).stage))) }
     ensures same { (result ≡ answer_of (taken_or None)) ⊎ ((device.new ≡ device.old) × (kept.new ≡ kept.old)) }
 {
-    tell_taken(device.answer_with(kept, bytes))
+    match device.answer_with(kept, bytes) {
+        Ok(()) => Verdict::Done(0).answer(),
+        Err(why) => Verdict::Unanswered(why).answer(),
+    }
 }
 
 /// Accepts that request, which has no data or brings some to the device; or the data of a write, once all have come. The room
@@ -49,7 +52,10 @@ pub extern "C" fn nzg_device_accept(device: &mut EndpointZero, room_size: usize)
     ensures answer { (image : List ℕ) → (kept : List ℕ) → result ≡ answer_of (taken_or (unaccepted room_size (device_of image kept device.old).stage)) }
     ensures same { (result ≡ answer_of (taken_or None)) ⊎ (device.new ≡ device.old) }
 {
-    tell_taken(device.accept(room_size))
+    match device.accept(room_size) {
+        Ok(()) => Verdict::Done(0).answer(),
+        Err(why) => Verdict::Unanswered(why).answer(),
+    }
 }
 
 /// The write whose data have all come, and that isn't answered yet: its request goes into the setup, and its data are so many of
@@ -60,14 +66,20 @@ pub extern "C" fn nzg_device_written(
     kept: &[u8],
     setup: &mut NzgSetup,
 ) -> Answer
-    ensures { (image : List ℕ) → AnswersOn (TellsWrite (written_in (device_of image kept.now device.now).stage) kept.now setup.old setup.new) result }
+    ensures { AnswersOn (λ verdict. (image : List ℕ) → TellsWrite (written_in (device_of image kept.now device.now).stage) setup.old setup.new verdict) result }
+{
+    written(device, kept, setup).answer()
+}
+
+fn written(device: &EndpointZero, kept: &[u8], setup: &mut NzgSetup) -> Verdict
+    ensures { (image : List ℕ) → TellsWrite (written_in (device_of image kept.now device.now).stage) setup.old setup.new result }
 {
     match device.written(kept) {
         Some((request, bytes)) => {
             setup.bytes = request.to_bytes();
-            Verdict::Done(bytes.len()).answer()
+            Verdict::Done(bytes.len())
         }
-        None => Verdict::Open(0).answer(),
+        None => Verdict::Open(0),
     }
 }
 
@@ -75,7 +87,8 @@ pub extern "C" fn nzg_device_written(
 /// answered. False where the bytes are no image: nothing changes then.
 #[unsafe(no_mangle)]
 pub extern "C" fn nzg_device_refuse(device: &mut EndpointZero, image: &[u8]) -> bool
-    ensures { Changes (rejected (answer_to (offer_in image.now))) (has_head image.now) image.now device.old device.new result }
+    ensures done { result ≡ has_head image.now }
+    ensures device { Changes (rejected (answer_to (offer_in image.now))) (has_head image.now) image.now device.old device.new }
 {
     let image = Image { bytes: image };
     if !image.has_head() {
@@ -104,15 +117,5 @@ fn tell_request(request: Option<Setup>, setup: &mut NzgSetup) -> bool
             true
         }
         None => false,
-    }
-}
-
-fn tell_taken(taken: Result<(), Unanswered>) -> Answer
-    ensures ok { OnOk taken (result ≡ answer_of (taken_or None)) }
-    ensures err { IfErr taken (λ why. result ≡ answer_of (taken_or (Some why))) }
-{
-    match taken {
-        Ok(()) => Verdict::Done(0).answer(),
-        Err(why) => Verdict::Unanswered(why).answer(),
     }
 }
