@@ -20,8 +20,8 @@ use Rattle.usb_capture.specs.Files.{begins_recording}
 use Rattle.usb_tool.specs.Captures.{CaptureDone, CaptureFails}
 use Rattle.usb_tool.specs.Endings.{Extent, Fails, Refusal, Refuses, Succeeds, Telling, Left, Writes}
 use Rattle.usb_tool.specs.Inputs.{OfInput}
-use Rattle.usb_tool.specs.declared.capturing.CaptureCommand.{CaptureCommand}
-use Rattle.usb_tool.specs.declared.capturing.CaptureCommand.TheVariants as commands
+use Rattle.usb_tool.specs.declared.capture_options.CaptureCommand.{CaptureCommand}
+use Rattle.usb_tool.specs.declared.capture_options.CaptureCommand.TheVariants as commands
 use Rattle.usb_tool.specs.declared.fault.ToolFault.{ToolFault}
 use Rattle.usb_tool.specs.declared.fault.ToolFault.TheVariants as tools
 use Rattle.usb_text.specs.Numbers.{count}

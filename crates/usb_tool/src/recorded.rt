@@ -5,7 +5,7 @@ ghost use Rattle.usb_tool.specs.Endings.{Left};
 ghost use Rattle.usb_tool.specs.Explains.{every_line, is_recording};
 
 use crate::capture::run_capture;
-use crate::capturing::CaptureCommand;
+use crate::capture_options::CaptureCommand;
 use crate::fault::ToolFault;
 use std::alloc::Global;
 use std::io::Write;
