@@ -1,0 +1,162 @@
+//! What a reader of a recording shows, in the caller's struct and buffer.
+ghost use Rattle.std.specs.Prelude.{◌≡◌, Some, slice_get};
+ghost use Rattle.std.specs.Option.{option_and_then, option_copied, option_map};
+ghost use Rattle.usb_capture_lines.specs.declared.shown.Shown.{Shown};
+ghost use Rattle.usb_c.specs.Captures.{DeviceMade, Item, LacksDevice, PutsDevice, TellsDevice, TellsItem, device_item, finding_item, item_in, lacking, packet_item, request_item};
+
+use crate::answer::Verdict;
+use crate::buffer::fill;
+use crate::recorded::NzgRecorded;
+use usb_capture::{ControlTransfer, DeviceFile, FileLack, Finding};
+use usb_capture_lines::{
+    BusFinding, DeviceAddress, RecordingReader, SeenDevice, Shown, finding_words, packet_words,
+};
+
+/// Reports the thing of this kind and number, if there is one.
+pub(crate) fn tell_item(
+    recording: &RecordingReader,
+    kind: u8,
+    number: usize,
+    recorded: &mut NzgRecorded,
+    data: &mut [u8],
+) -> Verdict
+    ensures { TellsItem (item_in recording.now kind number) recorded.old recorded.new data.old data.new result }
+{
+    let shown = recording.shown();
+    match kind {
+        1 if number == 0 => tell_request(shown.transfer.as_ref(), recorded, data),
+        2 => tell_finding(shown, number, recorded, data),
+        3 => tell_in_packets(shown.in_packets.get(number), recorded, data),
+        4 => tell_request(recording.unended(number), recorded, data),
+        5 => tell_seen(recording.devices().get(number), recorded, data),
+        _ => Verdict::Open(0),
+    }
+}
+
+fn tell_request(
+    transfer: Option<&ControlTransfer>,
+    recorded: &mut NzgRecorded,
+    data: &mut [u8],
+) -> Verdict
+    ensures { TellsItem (option_map request_item (option_copied transfer.entry)) recorded.old recorded.new data.old data.new result }
+{
+    match transfer {
+        Some(transfer) => put(
+            NzgRecorded::of_request(transfer),
+            transfer.data.as_slice(),
+            recorded,
+            data,
+        ),
+        None => Verdict::Open(0),
+    }
+}
+
+fn tell_finding(
+    shown: &Shown,
+    number: usize,
+    recorded: &mut NzgRecorded,
+    data: &mut [u8],
+) -> Verdict
+    ensures { TellsItem (option_and_then (λ t. option_map (finding_item t) (slice_get shown.now.found.items number)) shown.now.transfer) recorded.old recorded.new data.old data.new result }
+{
+    match &shown.transfer {
+        Some(transfer) => put_finding(transfer, shown.found.get(number), recorded, data),
+        None => Verdict::Open(0),
+    }
+}
+
+fn put_finding(
+    transfer: &ControlTransfer,
+    finding: Option<&Finding>,
+    recorded: &mut NzgRecorded,
+    data: &mut [u8],
+) -> Verdict
+    ensures { TellsItem (option_map (finding_item transfer.now) (option_copied finding.entry)) recorded.old recorded.new data.old data.new result }
+{
+    match finding {
+        Some(finding) => put(
+            NzgRecorded::of_finding(transfer, *finding),
+            finding_words(*finding).as_bytes(),
+            recorded,
+            data,
+        ),
+        None => Verdict::Open(0),
+    }
+}
+
+fn tell_in_packets(
+    found: Option<&BusFinding>,
+    recorded: &mut NzgRecorded,
+    data: &mut [u8],
+) -> Verdict
+    ensures { TellsItem (option_map packet_item (option_copied found.entry)) recorded.old recorded.new data.old data.new result }
+{
+    match found {
+        Some(found) => put(
+            NzgRecorded::in_packets(found),
+            packet_words(found.finding).as_bytes(),
+            recorded,
+            data,
+        ),
+        None => Verdict::Open(0),
+    }
+}
+
+fn tell_seen(seen: Option<&SeenDevice>, recorded: &mut NzgRecorded, data: &mut [u8]) -> Verdict
+    ensures { TellsItem (option_map device_item (option_copied seen.entry)) recorded.old recorded.new data.old data.new result }
+{
+    match seen {
+        Some(seen) => put(NzgRecorded::of_device(seen), &[], recorded, data),
+        None => Verdict::Open(0),
+    }
+}
+
+/// Puts numbers into the struct, and bytes into the buffer, where it has room.
+fn put(numbers: NzgRecorded, bytes: &[u8], recorded: &mut NzgRecorded, data: &mut [u8]) -> Verdict
+    ensures { TellsItem (Some (record { numbers = numbers; bytes = bytes.now })) recorded.old recorded.new data.old data.new result }
+{
+    if fill(bytes, data) {
+        *recorded = numbers;
+        Verdict::Done(bytes.len())
+    } else {
+        Verdict::NoRoom(bytes.len())
+    }
+}
+
+/// Puts the descriptors of a device into the buffer, or says what lacks.
+pub(crate) fn tell_device(
+    recording: &RecordingReader,
+    device: DeviceAddress,
+    out: &mut [u8],
+) -> Verdict
+    ensures { TellsDevice (Some recording.now) device out.old out.new result }
+{
+    match recording.file(device) {
+        Ok(file) => put_file(&file, out),
+        Err(lack) => lacking(lack),
+    }
+}
+
+fn put_file(file: &DeviceFile, out: &mut [u8]) -> Verdict
+    ensures { DeviceMade file.now out.old out.new result }
+{
+    let (number, bytes) = match file {
+        DeviceFile::File(bytes) => (2, bytes),
+        DeviceFile::Dump(bytes) => (3, bytes),
+    };
+    if fill(bytes, out) {
+        Verdict::Meant(number, 0, bytes.len())
+    } else {
+        Verdict::NoRoom(bytes.len())
+    }
+}
+
+fn lacking(lack: FileLack) -> Verdict
+    ensures { result ≡ lacking lack }
+{
+    match lack {
+        FileLack::Device => Verdict::Lack(None),
+        FileLack::Configuration(index) => Verdict::Lack(Some(index)),
+        FileLack::Memory => Verdict::NoMemory,
+    }
+}
