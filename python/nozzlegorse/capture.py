@@ -24,7 +24,7 @@ def _members(it) -> dict:
     return {"kind": kind, "bus": bus, "device": device, **members}
 
 
-def _last(capture: Capture):
+def _last(capture: Capture, fault: Exception | None):
     """The lines of the devices, each with its descriptors, and of the end."""
     for seen in capture.devices:
         try:
@@ -32,7 +32,7 @@ def _last(capture: Capture):
         except Fault:
             descriptors = None
         yield {**_members(seen), "descriptors": descriptors}
-    yield {"kind": "end", "cut": capture.cut}
+    yield {"kind": "end", "cut": None if fault else capture.cut, "fault": str(fault) if fault else None}
 
 
 def main(words: list[str]) -> int:
@@ -47,7 +47,7 @@ def main(words: list[str]) -> int:
         except (Fault, OSError) as it:
             fault = it
             print(f"nozzlegorse: {fault}", file=sys.stderr)
-        for line in _last(capture):
+        for line in _last(capture, fault):
             print(json.dumps(line))
         return 3 if fault else int(any(seen.findings for seen in capture.devices))
 

@@ -61,19 +61,17 @@ class Capture(Handle):
     ...         print(it)
     ...     print(capture.devices, capture.cut)
 
-    Without a file, `feed` takes the bytes in any pieces, and `end` says that no more come."""
+    Without a file, `feed` takes the bytes in any pieces."""
 
     _of = "capture"
 
     def __init__(self, path=None):
         self._path, self._out, self._it = path, (ctypes.c_char * 4096)(), c.structs["recorded"]()
-        # After `end` the place of a part that isn't whole, and how many bytes of it there are; None where the file isn't cut.
-        self.cut: tuple[int, int] | None = None
         self._open()
 
     def feed(self, piece: bytes) -> list[Request | Finding]:
-        """What is over with the next bytes, in order. A fault of the recording is raised once what came before it was given: by
-        the next call."""
+        """What is over with the next bytes, in order. A fault of the recording is raised once what came before it was given: by the
+        next call, of no bytes at the end of the file."""
         data, length = c.lend(piece)
         first, at, over = ctypes.cast(data, ctypes.c_void_p).value, 0, []
         while True:
@@ -86,18 +84,22 @@ class Capture(Handle):
             if at == length:
                 return over
 
-    def end(self) -> list[Request]:
-        """The requests whose end didn't come. `cut` has a value then if the file is cut."""
-        done(self._call("feed", b"", 0))
-        answer = self._call("end")
-        self.cut = (answer.place, answer.length) if answer.length else None
-        return [self._request(it, data, ()) for it, data in self._all(_UNENDED)]
-
     def __iter__(self):
         with open(self._path, "rb") as file:
             while piece := file.read(_ROOM):
                 yield from self.feed(piece)
-        yield from self.end()
+        yield from self.feed(b"") + self.unended
+
+    @property
+    def unended(self) -> list[Request]:
+        """The requests so far whose end didn't come."""
+        return [self._request(it, data, ()) for it, data in self._all(_UNENDED)]
+
+    @property
+    def cut(self) -> tuple[int, int] | None:
+        """Where the part begins that isn't whole, and how many bytes of it came, if any did: a file that ends here is cut."""
+        answer = done(self._call("end"))
+        return (answer.place, answer.length) if answer.length else None
 
     @property
     def devices(self) -> list[Seen]:

@@ -85,7 +85,7 @@ pub enum Recorded {
 ///
 /// let mut capture = Capture::new()?;
 /// let shown = capture.feed(&[0xd4, 0xc3, 0xb2, 0xa1, 2, 0, 4, 0, 0, 0, 0, 0, 0, 0, 0, 0, 0, 0, 1, 0, 220, 0, 0, 0])?;
-/// assert!(shown.is_empty() && capture.end()?.is_empty() && capture.cut().is_none());
+/// assert!(shown.is_empty() && capture.unended().is_empty() && capture.cut().is_none());
 /// # Ok::<(), nozzlegorse::Fault>(())
 /// ```
 #[derive(Debug)]
@@ -102,7 +102,8 @@ impl Capture {
         Ok(it)
     }
 
-    /// What is over with the next bytes. A fault of the recording is answered once what came before it was: by the next call.
+    /// What is over with the next bytes. A fault of the recording is answered once what came before it was: by the next call, of no
+    /// bytes at the end of the file.
     pub fn feed(&mut self, piece: &[u8]) -> Result<Vec<Recorded>, Fault> {
         let (mut rest, mut over) = (piece, Vec::new());
         loop {
@@ -123,10 +124,9 @@ impl Capture {
         }
     }
 
-    /// The requests whose end didn't come, where no bytes follow.
-    pub fn end(&mut self) -> Result<Vec<Request>, Fault> {
-        done(unsafe { sys::nzg_capture_feed(&mut self.0, [].as_ptr(), 0) })?;
-        Ok(self.all(4).into_iter().map(|(it, data)| request(it, data, Vec::new())).collect())
+    /// The requests so far whose end didn't come.
+    pub fn unended(&mut self) -> Vec<Request> {
+        self.all(4).into_iter().map(|(it, data)| request(it, data, Vec::new())).collect()
     }
 
     /// Where the part begins that isn't whole, and how many bytes of it came, if any did: a file that ends here is cut.
