@@ -36,7 +36,7 @@ static struct nzg_answer by_capture(uint8_t *out) {
             for (nzg_size n = 0; (got = nzg_capture_get(&capture, kind, n, &it, shown, sizeof shown)).status == NZG_DONE; n++) count += got.length + it.finding;
     }
     if (answer.status == NZG_NO_MEMORY && nzg_capture_end(&capture).status != NZG_CLOSED) answer.status = 99;
-    if (answer.status == NZG_OPEN) answer.status = NZG_LACKING;
+    if (answer.status == NZG_OPEN) answer = (struct nzg_answer){NZG_LACKING, 0, 0, 0};
     for (nzg_size n = 0; answer.status == NZG_LACKING && nzg_capture_get(&capture, NZG_SEEN, n, &it, shown, 0).status == NZG_DONE; n++)
         answer = nzg_capture_file(&capture, it.bus, it.device, out, sizeof text - 1);
     if (answer.status == NZG_DONE) out[answer.length++] = (uint8_t)count;

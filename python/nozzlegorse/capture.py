@@ -2,7 +2,15 @@
 
     python3 -m nozzlegorse.capture FILE
 
-docs/captures.md has their members. It ends in 1 where something is found, and in 3 where the file isn't read to its end."""
+Their `kind` and members, with times in nanoseconds and bytes as hexadecimal digits:
+
+    request     bus, device, time, begun, setup, data, length, ending, status, is_cut, findings
+    finding     in packets: bus, device, time, frame, name, message, section
+    device      bus, device, the number of findings, and descriptors: those that `usbdesc capture --file` writes
+    end         cut: place and length of a part that isn't whole; fault
+
+Findings are T1 of a transfer, C1 to C8 of a device's conversation, P1 to P12 of packets. It ends in 1 where something is found, and in
+3 where the file isn't read to its end."""
 from __future__ import annotations
 
 import json

@@ -43,6 +43,11 @@ pub record ShowsNothing (shown : Shown) : Type 0 where
   pub found : shown.found.items ≡ []
   pub in_packets : shown.in_packets.items ≡ []
 
+-- a frame more was taken, if there is one, and what it shows is shown
+abbrev pub FollowsOn : List Frame → List Observed → Option Frame → Follower → Shown → Type 0
+FollowsOn frames observed None follower shown = Follows frames observed follower × ShowsNothing shown
+FollowsOn frames observed (Some f) follower shown = (x : Observed) × Follows (f ∷ frames) (x ∷ observed) follower × Shows observed x shown
+
 -- these bytes were read, with these frames in them
 pub record HasRead (bytes : List ℕ) (frames : List Frame) (observed : List Observed) (recording : RecordingReader) : Type 0 where
   pub read : IsRead bytes (reverse frames) recording.reader

@@ -6,7 +6,7 @@ ghost use Rattle.usb_capture.specs.declared.frame.Frame.{Frame};
 ghost use Rattle.usb_capture.specs.Conversations.{Knows};
 ghost use Rattle.usb_capture.specs.DeviceReadings.{HasCurrent};
 ghost use Rattle.usb_capture.specs.Findings.{findings};
-ghost use Rattle.usb_capture_lines.specs.Following.{Follows, Shows, found_in};
+ghost use Rattle.usb_capture_lines.specs.Following.{Follows, FollowsOn, Shows, found_in};
 ghost use Rattle.usb_capture_lines.specs.Observations.{Observed};
 ghost use Rattle.usb_capture_lines.specs.Recordings.{address_of, met, met_in};
 
@@ -47,12 +47,21 @@ impl Follower {
         }
     }
 
-    /// Takes a frame, and gives what it shows.
+    /// Takes a frame, if there is one, and gives what it shows.
     ///
     /// # Errors
     ///
     /// Out of memory; what is known isn't said then.
-    pub(crate) fn take(&mut self, frame: &Frame) -> Result<Shown, AllocError>
+    pub(crate) fn follow(&mut self, frame: Option<Frame>) -> Result<Shown, AllocError>
+        ensures { IfOk result (λ shown. (frames : List Frame) (observed : List Observed) → Follows frames observed self.old → FollowsOn frames observed frame self.new shown) }
+    {
+        match frame {
+            Some(frame) => self.take(&frame),
+            None => Ok(Shown::nothing(self.alloc)),
+        }
+    }
+
+    fn take(&mut self, frame: &Frame) -> Result<Shown, AllocError>
         ensures { IfOk result (λ shown. (frames : List Frame) (observed : List Observed) → Follows frames observed self.old
             → (x : Observed) × Follows (frame.now ∷ frames) (x ∷ observed) self.new × Shows observed x shown) }
     {

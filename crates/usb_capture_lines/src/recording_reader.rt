@@ -62,10 +62,7 @@ impl RecordingReader {
     {
         match self.reader.feed(piece) {
             Ok(step) => {
-                self.shown = match step.frame {
-                    Some(frame) => self.follower.take(&frame)?,
-                    None => Shown::nothing(self.alloc),
-                };
+                self.shown = self.follower.follow(step.frame)?;
                 Ok(step.used)
             }
             Err(fault) => Err(fault),
