@@ -400,15 +400,15 @@ void nzg_decoder_close(struct nzg_decoder *decoder);
 struct nzg_capture { NZG_HELD; };
 enum nzg_kind {
     NZG_REQUEST = 1,    /* with the last piece: the control transfer that is over with it, and its data */
-    NZG_OF_REQUEST = 2, /* with the last piece: what USB 2.0 forbids in that transfer, and its words */
-    NZG_OF_PACKETS = 3, /* with the last piece: what it forbids in packets, and its words */
+    NZG_OF_REQUEST = 2, /* with the last piece: what USB 2.0 forbids in that transfer, with its numbers, and the words */
+    NZG_OF_PACKETS = 3, /* with the last piece: what it forbids in packets, and the words */
     NZG_UNENDED = 4,    /* of all pieces: a control transfer whose end has not come, and its data */
     NZG_SEEN = 5        /* of all pieces: a device, without data */
 };
 enum nzg_ending { NZG_NO_END = 0, NZG_ALL_DONE = 1, NZG_WITH_STALL = 2, NZG_WITH_ERROR = 3, NZG_NOT_TAKEN_ON = 4 }; /* by the host controller */
 /* What does not apply, or is not known, is 0. Times are in nanoseconds: from the beginning of 1970, of usbmon's text from another one. */
 struct nzg_recorded {
-    uint64_t time;       /* of a request when it ended, or began where its end has not come; of a finding that of what it is in */
+    uint64_t time;       /* of a request when it ended, or began where its end has not come; of a finding in packets when those came */
     uint64_t begun;      /* of a request when the host controller got it */
     uint64_t count;      /* of a finding in packets the number of its frame, from 1; of a device how many findings it has */
     uint32_t length;     /* of a request how many bytes of data came or went; the recording may have fewer */

@@ -154,7 +154,8 @@ impl Capture {
         let mut found = Vec::new();
         loop {
             let (mut it, number) = (nzg_recorded::default(), found.len());
-            let (answer, data) = into(|out, room| unsafe { sys::nzg_capture_get(&mut self.0, kind, number, &mut it, out, room) });
+            let (answer, data) =
+                into(|out, room| unsafe { sys::nzg_capture_get(&mut self.0, kind, number, &mut it, out, room) });
             if answer.status > 0 {
                 return found;
             }

@@ -1,6 +1,6 @@
 -- What calls do to a reader of a recording that C holds, or to none, and what it shows as numbers.
 use Rattle.std.specs.Prelude.{◌≡◌, ◌⊎◌, ⊤, ℕ, ◌<◌, ◌+◌, ◌==◌, Bool, true, false, List, [], ◌++◌, drop, length, Option, Some, None, Result, Ok, Err, codes, is_some, slice_get, unwrap_or, if◌then◌else◌}
-use Rattle.std.specs.Option.{option_and_then, option_map, option_or, option_to_list}
+use Rattle.std.specs.Option.{option_map, option_or, option_to_list}
 use Rattle.usb_fields.specs.Numbers.{number_in}
 use Rattle.usb_fields.specs.Setup.{setup_bytes}
 use Rattle.usb_capture.specs.declared.control_transfer.ControlTransfer.{ControlTransfer}
@@ -63,11 +63,9 @@ request_numbers t = record no_numbers {
 abbrev pub finding_number : Finding → ℕ
 finding_number finding = number_in all_findings finding
 
--- a finding in a request has its device and its time
+-- a finding in a request has its numbers
 abbrev pub finding_numbers : ControlTransfer → Finding → NzgRecorded
-finding_numbers t finding = record no_numbers {
-  time = unwrap_or (time_of t) 0; bus = t.bus; device = t.device; finding = finding_number finding; has_time = is_some (time_of t); has_device = true;
-}
+finding_numbers t finding = record (request_numbers t) { finding = finding_number finding }
 
 abbrev pub packet_number : PacketFinding → ℕ
 packet_number (packets.Damaged damage) = damage_number damage
@@ -103,6 +101,10 @@ request_item t = record { numbers = request_numbers t; bytes = t.data }
 abbrev pub finding_item : ControlTransfer → Finding → Item
 finding_item t finding = record { numbers = finding_numbers t finding; bytes = finding_words finding }
 
+abbrev pub finding_at : Option ControlTransfer → Option Finding → Option Item
+finding_at (Some t) (Some finding) = Some (finding_item t finding)
+finding_at t finding = None
+
 abbrev pub packet_item : BusFinding → Item
 packet_item found = record { numbers = packet_numbers found; bytes = packet_words found.finding }
 
@@ -114,7 +116,7 @@ device_item seen = record { numbers = device_numbers seen; bytes = [] }
 abbrev pub item_in : RecordingReader → ℕ → ℕ → Option Item
 item_in r kind number =
     if kind == 1 then option_map request_item (slice_get (option_to_list r.shown.transfer) number)
-    else if kind == 2 then option_and_then (λ t. option_map (finding_item t) (slice_get r.shown.found.items number)) r.shown.transfer
+    else if kind == 2 then finding_at r.shown.transfer (slice_get r.shown.found.items number)
     else if kind == 3 then option_map packet_item (slice_get r.shown.in_packets.items number)
     else if kind == 4 then option_map (λ o. request_item o.transfer) (slice_get (open_of r) number)
     else if kind == 5 then option_map device_item (slice_get r.follower.devices.items number)

@@ -1,13 +1,12 @@
 //! What a reader of a recording shows, in the caller's struct and buffer.
 ghost use Rattle.std.specs.Prelude.{◌≡◌, Some, slice_get};
-ghost use Rattle.std.specs.Option.{option_and_then, option_copied, option_map};
-ghost use Rattle.usb_capture_lines.specs.declared.shown.Shown.{Shown};
-ghost use Rattle.usb_c.specs.Captures.{DeviceMade, Item, LacksDevice, PutsDevice, TellsDevice, TellsItem, device_item, finding_item, item_in, lacking, packet_item, request_item};
+ghost use Rattle.std.specs.Option.{option_copied, option_map};
+ghost use Rattle.usb_c.specs.Captures.{DeviceMade, TellsDevice, TellsItem, device_item, finding_at, item_in, lacking, packet_item, request_item};
 
 use crate::answer::Verdict;
 use crate::buffer::fill;
 use crate::recorded::NzgRecorded;
-use usb_capture::{ControlTransfer, DeviceFile, FileLack, Finding};
+use usb_capture::{ControlTransfer, DeviceFile, FileLack};
 use usb_capture_lines::{
     BusFinding, DeviceAddress, RecordingReader, SeenDevice, Shown, finding_words, packet_words,
 };
@@ -57,30 +56,16 @@ fn tell_finding(
     recorded: &mut NzgRecorded,
     data: &mut [u8],
 ) -> Verdict
-    ensures { TellsItem (option_and_then (λ t. option_map (finding_item t) (slice_get shown.now.found.items number)) shown.now.transfer) recorded.old recorded.new data.old data.new result }
+    ensures { TellsItem (finding_at shown.now.transfer (slice_get shown.now.found.items number)) recorded.old recorded.new data.old data.new result }
 {
-    match &shown.transfer {
-        Some(transfer) => put_finding(transfer, shown.found.get(number), recorded, data),
-        None => Verdict::Open(0),
-    }
-}
-
-fn put_finding(
-    transfer: &ControlTransfer,
-    finding: Option<&Finding>,
-    recorded: &mut NzgRecorded,
-    data: &mut [u8],
-) -> Verdict
-    ensures { TellsItem (option_map (finding_item transfer.now) (option_copied finding.entry)) recorded.old recorded.new data.old data.new result }
-{
-    match finding {
-        Some(finding) => put(
+    match (&shown.transfer, shown.found.get(number)) {
+        (Some(transfer), Some(finding)) => put(
             NzgRecorded::of_finding(transfer, *finding),
             finding_words(*finding).as_bytes(),
             recorded,
             data,
         ),
-        None => Verdict::Open(0),
+        _ => Verdict::Open(0),
     }
 }
 

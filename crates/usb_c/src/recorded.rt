@@ -81,19 +81,13 @@ impl NzgRecorded {
         }
     }
 
-    /// A finding in a request, of the same device and time.
+    /// A finding in a request, with its numbers.
     pub(crate) fn of_finding(transfer: &ControlTransfer, finding: Finding) -> NzgRecorded
         ensures { result ≡ finding_numbers transfer.now finding }
     {
-        let time = transfer.ended.or(transfer.begun);
         NzgRecorded {
-            time: time.unwrap_or(0),
-            bus: transfer.bus,
-            device: transfer.device,
             finding: finding_number(finding),
-            has_time: time.is_some(),
-            has_device: true,
-            ..NzgRecorded::NOTHING
+            ..NzgRecorded::of_request(transfer)
         }
     }
 
