@@ -14,6 +14,7 @@ use Rattle.usb_capture.specs.declared.fault.CaptureFault.{CaptureFault}
 use Rattle.usb_capture.specs.declared.fault.CaptureFault.TheVariants as faults
 use Rattle.usb_capture.specs.declared.finding.Finding.{Finding}
 use Rattle.usb_capture.specs.contracts.finding.Finding.{the_type as all_findings}
+use Rattle.usb_capture.specs.declared.frame.Frame.{Frame}
 use Rattle.usb_capture.specs.declared.packet_finding.PacketFinding.{PacketFinding}
 use Rattle.usb_capture.specs.declared.packet_finding.PacketFinding.TheVariants as packets
 use Rattle.usb_capture.specs.DeviceFiles.{IsLack, IsMade}
@@ -23,7 +24,8 @@ use Rattle.usb_capture_lines.specs.declared.seen_device.SeenDevice.{SeenDevice}
 use Rattle.usb_capture_lines.specs.declared.selection.DeviceAddress.{DeviceAddress}
 use Rattle.usb_capture_lines.specs.declared.shown.Shown.{Shown}
 use Rattle.usb_capture_lines.specs.FindingLines.{finding_words, packet_words}
-use Rattle.usb_capture_lines.specs.Following.{HasRead, Takes, open_of, readings_of}
+use Rattle.usb_capture_lines.specs.Following.{HasRead, Takes, readings_of, unended_in}
+use Rattle.usb_capture_lines.specs.Observations.{Observed}
 use Rattle.usb_capture_lines.specs.Recordings.{asked_at, time_of}
 use Rattle.usb_c.specs.declared.answer.Verdict.{Verdict}
 use Rattle.usb_c.specs.declared.answer.Verdict.TheVariants as verdicts
@@ -118,7 +120,7 @@ item_in r kind number =
     if kind == 1 then option_map request_item (slice_get (option_to_list r.shown.transfer) number)
     else if kind == 2 then finding_at r.shown.transfer (slice_get r.shown.found.items number)
     else if kind == 3 then option_map packet_item (slice_get r.shown.in_packets.items number)
-    else if kind == 4 then option_map (λ o. request_item o.transfer) (slice_get (open_of r) number)
+    else if kind == 4 then option_map request_item (unended_in r number)
     else if kind == 5 then option_map device_item (slice_get r.follower.devices.items number)
     else None
 
@@ -142,32 +144,44 @@ OpensReader (Some r) (verdicts.Done length) = (length ≡ 0) × HasRead [] [] []
 OpensReader None verdicts.NoMemory = ⊤
 OpensReader new verdict = ⊥
 
--- what a reader answers to a piece, as a verdict, and what is held then: nothing when out of memory
-abbrev pub fed_so : Result ℕ CaptureFault → RecordingReader → Verdict
-fed_so (Ok used) after = verdicts.Open used
-fed_so (Err faults.Memory) after = verdicts.NoMemory
-fed_so (Err why) after = verdicts.Capture why after.reader.place
+-- whether memory was wanting for a piece
+abbrev pub is_memory : CaptureFault → Bool
+is_memory faults.Memory = true
+is_memory why = false
 
-abbrev pub held_so : Result ℕ CaptureFault → RecordingReader → Option RecordingReader
-held_so (Ok used) after = Some after
-held_so (Err faults.Memory) after = None
-held_so (Err why) after = Some after
+abbrev pub wants_memory : Result ℕ CaptureFault → Bool
+wants_memory (Ok used) = false
+wants_memory (Err why) = is_memory why
+
+-- what a reader answers to a piece otherwise, as a verdict
+abbrev pub fed_so : Result ℕ CaptureFault → ℕ → Verdict
+fed_so (Ok used) place = verdicts.Open used
+fed_so (Err why) place = verdicts.Capture why place
+
+-- a reader that is held takes a piece, and is freed where memory is wanting
+abbrev pub FedSo : Bool → Result ℕ CaptureFault → RecordingReader → Option RecordingReader → Verdict → Type 0
+FedSo true result after new verdict = (new ≡ None) × (verdict ≡ verdicts.NoMemory)
+FedSo false result after new verdict = (new ≡ Some after) × (verdict ≡ fed_so result after.reader.place)
 
 pub record FeedsReader (old : RecordingReader) (piece : List ℕ) (new : Option RecordingReader) (verdict : Verdict) : Type 0 where
   pub after : RecordingReader
   pub result : Result ℕ CaptureFault
   pub takes : Takes old piece result after
-  pub says : verdict ≡ fed_so result after
-  pub holds : new ≡ held_so result after
+  pub becomes : FedSo (wants_memory result) result after new verdict
 
 abbrev pub FeedsHeld : Option RecordingReader → List ℕ → Option RecordingReader → Verdict → Type 0
 FeedsHeld None piece new verdict = (new ≡ None) × (verdict ≡ verdicts.Closed)
 FeedsHeld (Some old) piece new verdict = FeedsReader old piece new verdict
 
 -- at the end of the file: how many bytes are left of a part that isn't whole, and where it begins
+pub record EndsReader (r : RecordingReader) (verdict : Verdict) : Type 0 where
+  pub left : ℕ
+  pub says : verdict ≡ verdicts.Due r.reader.place left
+  pub part : (bytes : List ℕ) (frames : List Frame) (observed : List Observed) (read : HasRead bytes frames observed r) → left ≡ length read.read.1
+
 abbrev pub EndsAt : Option RecordingReader → Verdict → Type 0
 EndsAt None verdict = verdict ≡ verdicts.Closed
-EndsAt (Some r) verdict = verdict ≡ verdicts.Due r.reader.place r.reader.count
+EndsAt (Some r) verdict = EndsReader r verdict
 
 -- ---- the descriptors of a device
 

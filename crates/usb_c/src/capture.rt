@@ -1,7 +1,7 @@
 //! A recording in pieces, by a handle.
 ghost use Rattle.std.specs.Prelude.{◌≡◌, None};
 ghost use Rattle.usb_c.specs.Answers.{AnswersOn};
-ghost use Rattle.usb_c.specs.Captures.{EndsAt, FeedsHeld, OpensReader, TellsDevice, TellsHeld};
+ghost use Rattle.usb_c.specs.Captures.{EndsAt, FeedsHeld, OpensReader, TellsDevice, TellsHeld, fed_so, wants_memory};
 
 use crate::answer::{Answer, Verdict};
 use crate::capture_handle::NzgCapture;
@@ -44,13 +44,32 @@ fn feed(alloc: Global, capture: &mut NzgCapture, piece: &[u8]) -> Verdict
     let Some(mut held) = replace(capture, NzgCapture::empty(alloc)).into_box() else {
         return Verdict::Closed;
     };
-    let verdict = match held.feed(piece) {
-        Ok(used) => Verdict::Open(used),
-        Err(CaptureFault::Memory) => return Verdict::NoMemory,
-        Err(why) => Verdict::Capture(why, held.place()),
-    };
+    let fed = held.feed(piece);
+    if wants_memory(fed) {
+        return Verdict::NoMemory;
+    }
+    let place = held.place();
     *capture = NzgCapture::of(held);
-    verdict
+    tell(fed, place)
+}
+
+/// Whether memory was wanting.
+fn wants_memory(fed: Result<usize, CaptureFault>) -> bool
+    ensures { result ≡ wants_memory fed }
+{
+    match fed {
+        Ok(_) => false,
+        Err(why) => matches!(why, CaptureFault::Memory),
+    }
+}
+
+fn tell(fed: Result<usize, CaptureFault>, place: u64) -> Verdict
+    ensures { result ≡ fed_so fed place }
+{
+    match fed {
+        Ok(used) => Verdict::Open(used),
+        Err(why) => Verdict::Capture(why, place),
+    }
 }
 
 /// Puts the thing with this number into the struct, and its data or its words into the buffer.

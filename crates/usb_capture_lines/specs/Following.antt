@@ -1,5 +1,6 @@
 -- What a reader of a recording has read, knows and shows. Lists of frames, and of what is observed in them, have the last one first.
-use Rattle.std.specs.Prelude.{◌≡◌, ◌⊎◌, ◌≤◌, ◌<◌, ℕ, ◌^◌, ◌-◌, List, [], ◌∷◌, ◌++◌, IfErr, IfOk, length, min, reverse, take, Option, Some, None, Result, Err}
+use Rattle.std.specs.Prelude.{◌≡◌, ◌⊎◌, ◌≤◌, ◌<◌, ℕ, ◌^◌, ◌-◌, List, [], ◌∷◌, ◌++◌, IfErr, IfOk, length, min, reverse, slice_get, take, Option, Some, None, Result, Err}
+use Rattle.std.specs.Option.{option_map, option_or}
 use Rattle.usb_capture.specs.declared.control_transfer.ControlTransfer.{ControlTransfer}
 use Rattle.usb_capture.specs.declared.fault.CaptureFault.{CaptureFault}
 use Rattle.usb_capture.specs.declared.fault.CaptureFault.TheVariants as faults
@@ -77,9 +78,16 @@ pub record Takes (old : RecordingReader) (piece : List ℕ) (result : Result ℕ
       → (fault ≡ faults.Memory) ⊎ HasFailed (bytes ++ piece) frames observed fault new)
   pub stays : (fault : CaptureFault) → old.reader.failed ≡ Some fault → result ≡ Err fault
 
--- the transfers whose end hasn't come: those of hosts, then those of the bus
-abbrev pub open_of : RecordingReader → List OpenTransfer
-open_of recording = recording.follower.observer.controls.held.items ++ recording.follower.observer.transfers.pipes.held.held.items
+-- the transfer with this number, from 0 on, of those whose end hasn't come: those of hosts first, then those of the bus
+abbrev pub hosts_open : RecordingReader → List OpenTransfer
+hosts_open recording = recording.follower.observer.controls.held.items
+
+abbrev pub bus_open : RecordingReader → List OpenTransfer
+bus_open recording = recording.follower.observer.transfers.pipes.held.held.items
+
+abbrev pub unended_in : RecordingReader → ℕ → Option ControlTransfer
+unended_in recording number =
+    option_map (λ o. o.transfer) (option_or (slice_get (hosts_open recording) number) (slice_get (bus_open recording) (number - length (hosts_open recording))))
 
 -- the readings that are kept
 abbrev pub readings_of : RecordingReader → List ControlTransfer

@@ -1,9 +1,9 @@
 //! A recording, read from pieces of any length.
-ghost use Rattle.std.specs.Prelude.{◌≡◌, [], ℕ, List, IfErr, IfOk, length, slice_get};
+ghost use Rattle.std.specs.Prelude.{◌≡◌, [], ℕ, List, IfErr, IfOk, length};
 ghost use Rattle.std.specs.Option.{option_map};
 ghost use Rattle.usb_capture.specs.declared.frame.Frame.{Frame};
 ghost use Rattle.usb_capture.specs.DeviceFiles.{IsLack, IsMade};
-ghost use Rattle.usb_capture_lines.specs.Following.{HasRead, Takes, open_of, readings_of};
+ghost use Rattle.usb_capture_lines.specs.Following.{HasRead, Takes, readings_of, unended_in};
 ghost use Rattle.usb_capture_lines.specs.Observations.{Observed};
 ghost use Rattle.usb_capture_lines.specs.Recordings.{asked_at};
 
@@ -92,13 +92,13 @@ impl RecordingReader {
 
     /// The transfer with this number, from 0 on, of those whose end hasn't come: those of hosts first, then those of the bus.
     pub fn unended(&self, number: usize) -> Option<&ControlTransfer>
-        ensures { option_map (λ t. t.now) result ≡ option_map (λ o. o.transfer) (slice_get (open_of self.now) number) }
+        ensures { option_map (λ t. t.now) result ≡ unended_in self.now number }
     {
         let hosts = self.follower.observer.unended();
-        let open = match hosts.get(number) {
-            Some(open) => open,
-            None => self.follower.observer.unended_on_bus().get(number - hosts.len())?,
-        };
+        let on_bus = self.follower.observer.unended_on_bus();
+        let open = hosts
+            .get(number)
+            .or(on_bus.get(number.saturating_sub(hosts.len())))?;
         Some(&open.transfer)
     }
 
