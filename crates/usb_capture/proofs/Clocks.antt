@@ -1,20 +1,40 @@
 -- Clocks and their options.
-use Rattle.std.proofs.Common.{◌≡◌, ℕ, zero, suc, ◌-◌, ◌^◌, ◌<◌, ◌≤◌, List, length, drop, Bool, true, false, nat_lt, Option, Some, None, refl, sym, ◌∙◌, ap, arith}
-use Rattle.std.proofs.Math.Nat.{one-le-pow}
+use Rattle.std.proofs.Common.{◌≡◌, ℕ, zero, suc, ◌+◌, ◌-◌, ◌*◌, ◌/◌, ◌^◌, ◌<◌, ◌≤◌, List, length, drop, Bool, true, false, nat_lt, Option, Some, None, refl, sym, ◌∙◌, ap, arith}
+use Rattle.std.proofs.Math.Nat.{div-one, mul-div-mul_right}
+use Rattle.std.proofs.lemmas.Nat.{pow-add}
 use Rattle.std.proofs.lemmas.Bool.Decides.{nat_tests}
 use Rattle.std.specs.Option.{option_and_then}
 use Rattle.std.specs.Prelude.{if◌then◌else◌}
 use Rattle.usb_capture.specs.declared.clock.Clock.{Clock}
 use Rattle.usb_capture.specs.declared.order.ByteOrder.{ByteOrder}
-use Rattle.usb_capture.specs.Clocks.{clock_after, clock_with, option_length, options_end, units_per_second}
+use Rattle.usb_capture.specs.Clocks.{clock_after, clock_with, elapsed, option_length, options_end}
 
--- a second has units
-pub some_units : (resolution : ℕ) → 0 < units_per_second resolution
-some_units resolution = by_test (nat_lt resolution 128)
-  where
-    by_test : (t : Bool) → 0 < (if t then 10 ^ resolution else 2 ^ (resolution - 128))
-    by_test true = (let h = one-le-pow resolution 10 (omega arith) in omega (arith, h))
-    by_test false = (let h = one-le-pow (resolution - 128) 2 (omega arith) in omega (arith, h))
+-- units that are powers of ten, of at least a nanosecond, of less, and powers of two
+pub elapsed_coarse : (resolution units : ℕ) → resolution < 10 → elapsed resolution units ≡ units * 10 ^ (9 - resolution)
+elapsed_coarse 0 units few = div-one (units * 1000000000)
+elapsed_coarse 1 units few = omega arith
+elapsed_coarse 2 units few = omega arith
+elapsed_coarse 3 units few = omega arith
+elapsed_coarse 4 units few = omega arith
+elapsed_coarse 5 units few = omega arith
+elapsed_coarse 6 units few = omega arith
+elapsed_coarse 7 units few = omega arith
+elapsed_coarse 8 units few = omega arith
+elapsed_coarse 9 units few = omega arith
+elapsed_coarse (suc (suc (suc (suc (suc (suc (suc (suc (suc (suc more)))))))))) units few = absurd (omega arith)
+
+pub elapsed_fine : (resolution units : ℕ) → 10 ≤ resolution → resolution < 128 → elapsed resolution units ≡ units / 10 ^ (resolution - 9)
+elapsed_fine resolution units few many =
+    let t : nat_lt resolution 128 ≡ true = grind (arith, nat_tests) in
+    let n : resolution ≡ (resolution - 9) + 9 = omega arith in
+    ap (λ b. units * 1000000000 / (if b then 10 ^ resolution else 2 ^ (resolution - 128))) t
+    ∙ ap (λ m. units * 1000000000 / m) (ap (λ m. 10 ^ m) n ∙ pow-add 10 (resolution - 9) 9)
+    ∙ mul-div-mul_right units (10 ^ (resolution - 9)) (omega arith)
+
+pub elapsed_binary : (resolution units : ℕ) → 128 ≤ resolution → elapsed resolution units ≡ units * 1000000000 / 2 ^ (resolution - 128)
+elapsed_binary resolution units many =
+    let t : nat_lt resolution 128 ≡ false = grind (arith, nat_tests) in
+    ap (λ b. units * 1000000000 / (if b then 10 ^ resolution else 2 ^ (resolution - 128))) t
 
 -- the options end here
 pub at_end : (order : ByteOrder) (most : ℕ) (b : List ℕ) (clock : Clock) → options_end order b ≡ true → clock_after order most b clock ≡ Some clock
