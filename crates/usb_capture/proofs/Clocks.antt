@@ -1,6 +1,6 @@
 -- Clocks and their options.
 use Rattle.std.proofs.Common.{◌≡◌, ℕ, zero, suc, ◌+◌, ◌-◌, ◌*◌, ◌/◌, ◌^◌, ◌<◌, ◌≤◌, List, length, drop, Bool, true, false, nat_lt, Option, Some, None, refl, sym, ◌∙◌, ap, arith}
-use Rattle.std.proofs.Math.Nat.{div-one, mul-div-mul_right}
+use Rattle.std.proofs.Math.Nat.{mul-div-mul_right, mul-div_cancel, mul_assoc, one-le-pow}
 use Rattle.std.proofs.lemmas.Nat.{pow-add}
 use Rattle.std.proofs.lemmas.Bool.Decides.{nat_tests}
 use Rattle.std.specs.Option.{option_and_then}
@@ -9,19 +9,18 @@ use Rattle.usb_capture.specs.declared.clock.Clock.{Clock}
 use Rattle.usb_capture.specs.declared.order.ByteOrder.{ByteOrder}
 use Rattle.usb_capture.specs.Clocks.{clock_after, clock_with, elapsed, option_length, options_end}
 
+pub some_tens : (n : ℕ) → 0 < 10 ^ n
+some_tens n = (let h = one-le-pow n 10 (omega arith) in omega (arith, h))
+
 -- units that are powers of ten, of at least a nanosecond, of less, and powers of two
 pub elapsed_coarse : (resolution units : ℕ) → resolution < 10 → elapsed resolution units ≡ units * 10 ^ (9 - resolution)
-elapsed_coarse 0 units few = div-one (units * 1000000000)
-elapsed_coarse 1 units few = omega arith
-elapsed_coarse 2 units few = omega arith
-elapsed_coarse 3 units few = omega arith
-elapsed_coarse 4 units few = omega arith
-elapsed_coarse 5 units few = omega arith
-elapsed_coarse 6 units few = omega arith
-elapsed_coarse 7 units few = omega arith
-elapsed_coarse 8 units few = omega arith
-elapsed_coarse 9 units few = omega arith
-elapsed_coarse (suc (suc (suc (suc (suc (suc (suc (suc (suc (suc more)))))))))) units few = absurd (omega arith)
+elapsed_coarse resolution units few =
+    let t : nat_lt resolution 128 ≡ true = grind (arith, nat_tests) in
+    let n : 9 ≡ (9 - resolution) + resolution = omega arith in
+    ap (λ b. units * 1000000000 / (if b then 10 ^ resolution else 2 ^ (resolution - 128))) t
+    ∙ ap (λ m. units * m / 10 ^ resolution) (ap (λ m. 10 ^ m) n ∙ pow-add 10 (9 - resolution) resolution)
+    ∙ ap (λ m. m / 10 ^ resolution) (sym (mul_assoc units (10 ^ (9 - resolution)) (10 ^ resolution)))
+    ∙ mul-div_cancel (units * 10 ^ (9 - resolution)) (some_tens resolution)
 
 pub elapsed_fine : (resolution units : ℕ) → 10 ≤ resolution → resolution < 128 → elapsed resolution units ≡ units / 10 ^ (resolution - 9)
 elapsed_fine resolution units few many =
