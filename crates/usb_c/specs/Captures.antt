@@ -1,6 +1,6 @@
 -- What calls do to a reader of a recording that C holds, or to none, and what it shows as numbers.
-use Rattle.std.specs.Prelude.{◌≡◌, ◌⊎◌, ⊤, ℕ, ◌<◌, ◌+◌, ◌==◌, Bool, true, false, List, [], ◌++◌, drop, length, Option, Some, None, Result, Ok, Err, codes, is_some, slice_get, unwrap_or, if◌then◌else◌}
-use Rattle.std.specs.Option.{option_map, option_or, option_to_list}
+use Rattle.std.specs.Prelude.{◌≡◌, ◌⊎◌, ℕ, ◌<◌, ◌+◌, ◌==◌, Bool, true, false, List, [], ◌++◌, drop, length, Option, Some, None, Result, Ok, Err, is_some, slice_get, unwrap_or, if◌then◌else◌}
+use Rattle.std.specs.Option.{option_map, option_to_list}
 use Rattle.usb_fields.specs.Numbers.{number_in}
 use Rattle.usb_fields.specs.Setup.{setup_bytes}
 use Rattle.usb_capture.specs.declared.control_transfer.ControlTransfer.{ControlTransfer}
@@ -22,7 +22,6 @@ use Rattle.usb_capture_lines.specs.declared.bus_finding.BusFinding.{BusFinding}
 use Rattle.usb_capture_lines.specs.declared.recording_reader.RecordingReader.{RecordingReader}
 use Rattle.usb_capture_lines.specs.declared.seen_device.SeenDevice.{SeenDevice}
 use Rattle.usb_capture_lines.specs.declared.selection.DeviceAddress.{DeviceAddress}
-use Rattle.usb_capture_lines.specs.declared.shown.Shown.{Shown}
 use Rattle.usb_capture_lines.specs.FindingLines.{finding_words, packet_words}
 use Rattle.usb_capture_lines.specs.Following.{HasRead, Takes, readings_of, unended_in}
 use Rattle.usb_capture_lines.specs.Observations.{Observed}
@@ -140,8 +139,8 @@ TellsHeld (Some r) kind number told now old new verdict = TellsItem (item_in r k
 
 -- a reader that has read nothing is held, or none when out of memory
 abbrev pub OpensReader : Option RecordingReader → Verdict → Type 0
-OpensReader (Some r) (verdicts.Done length) = (length ≡ 0) × HasRead [] [] [] r
-OpensReader None verdicts.NoMemory = ⊤
+OpensReader new (verdicts.Done length) = (length ≡ 0) × ((r : RecordingReader) × (new ≡ Some r) × HasRead [] [] [] r)
+OpensReader new verdicts.NoMemory = new ≡ None
 OpensReader new verdict = ⊥
 
 -- whether memory was wanting for a piece

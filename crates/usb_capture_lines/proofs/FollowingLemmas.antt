@@ -1,14 +1,13 @@
 -- What a reader of a recording knows and shows after a frame more.
-use Rattle.std.proofs.Common.{◌≡◌, ℕ, ◌<◌, List, [], ◌∷◌, ◌++◌, append-nil, inl, inr, refl, sym, ap, ◌∙◌, subst}
+use Rattle.std.proofs.Common.{◌≡◌, ℕ, List, [], ◌∷◌, ◌++◌, append-nil, inl, inr, sym, ap, ◌∙◌, subst}
 use Rattle.std.proofs.lemmas.Grind.{reverse_onto}
 use Rattle.std.specs.Prelude.{Option, Some, None, reverse}
 use Rattle.std.specs.Option.{option_to_list}
-use Rattle.usb_capture.specs.declared.finding.Finding.{Finding}
 use Rattle.usb_capture.specs.declared.frame.Frame.{Frame}
 use Rattle.usb_capture.specs.Conversations.{Knows}
 use Rattle.usb_capture.specs.DeviceReadings.{HasCurrent}
 use Rattle.usb_capture.specs.Reading.{IsRead}
-use Rattle.usb_capture_lines.specs.Following.{Follows, FollowsOn, GoesOn, HasRead, Shows, found_in}
+use Rattle.usb_capture_lines.specs.Following.{Follows, FollowsOn, GoesOn, Shows, found_in}
 use Rattle.usb_capture_lines.specs.Observations.{Completes, HasObserved, IsObserved, Observed, found_by, one_more, over_by, overs}
 use Rattle.usb_capture_lines.specs.Recordings.{met_all, met_in}
 use Rattle.usb_capture_lines.specs.declared.completed.Completed.{Completed}
