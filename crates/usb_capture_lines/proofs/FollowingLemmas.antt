@@ -1,13 +1,16 @@
 -- What a reader of a recording knows and shows after a frame more.
-use Rattle.std.proofs.Common.{◌≡◌, ℕ, List, [], ◌∷◌, ◌++◌, append-nil, inl, inr, sym, ap, ◌∙◌, subst}
+use Rattle.std.proofs.Common.{◌≡◌, ◌⊎◌, ℕ, ◌^◌, ◌-◌, List, [], ◌∷◌, ◌++◌, append-nil, inl, inr, sym, ap, ◌∙◌, subst}
 use Rattle.std.proofs.lemmas.Grind.{reverse_onto}
-use Rattle.std.specs.Prelude.{Option, Some, None, reverse}
+use Rattle.std.specs.Prelude.{Option, Some, None, min, reverse}
 use Rattle.std.specs.Option.{option_to_list}
+use Rattle.usb_capture.specs.declared.fault.CaptureFault.{CaptureFault}
+use Rattle.usb_capture.specs.declared.fault.CaptureFault.TheVariants as faults
 use Rattle.usb_capture.specs.declared.frame.Frame.{Frame}
 use Rattle.usb_capture.specs.Conversations.{Knows}
 use Rattle.usb_capture.specs.DeviceReadings.{HasCurrent}
+use Rattle.usb_capture.specs.Files.{IsRefusedAfter}
 use Rattle.usb_capture.specs.Reading.{IsRead}
-use Rattle.usb_capture_lines.specs.Following.{Follows, FollowsOn, GoesOn, Shows, found_in}
+use Rattle.usb_capture_lines.specs.Following.{Follows, FollowsOn, GoesOn, HasFailed, Shows, found_in}
 use Rattle.usb_capture_lines.specs.Observations.{Completes, HasObserved, IsObserved, Observed, found_by, one_more, over_by, overs}
 use Rattle.usb_capture_lines.specs.Recordings.{met_all, met_in}
 use Rattle.usb_capture_lines.specs.declared.completed.Completed.{Completed}
@@ -52,3 +55,11 @@ goes_on None bytes frames observed new read going follows =
     inl (record { read = subst (λ fs. IsRead bytes fs new.reader) (append-nil (reverse frames)) read; going = going; follows = follows.0 }, follows.1)
 goes_on (Some f) bytes frames observed new read going follows =
     inr (f, follows.0, record { read = subst (λ fs. IsRead bytes fs new.reader) (sym (reverse_onto frames f [])) read; going = going; follows = follows.1 }, follows.2)
+
+pub fails : (bytes : List ℕ) (frames : List Frame) (observed : List Observed) (fault : CaptureFault) (new : RecordingReader)
+    → new.reader.failed ≡ Some fault → Follows frames observed new.follower
+    → (fault ≡ faults.Memory) ⊎ ((place : ℕ) × IsRefusedAfter bytes (reverse frames) fault place × (new.reader.place ≡ min place (2 ^ 64 - 1)))
+    → (fault ≡ faults.Memory) ⊎ HasFailed bytes frames observed fault new
+fails bytes frames observed fault new failed follows (inl memory) = inl memory
+fails bytes frames observed fault new failed follows (inr refused) =
+    inr (record { place = refused.0; refused = refused.1; at = refused.2; failed = failed; follows = follows })
