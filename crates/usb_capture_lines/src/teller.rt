@@ -1,7 +1,6 @@
 //! What is known of a recording so far, and what was said of it.
 ghost use Rattle.std.specs.Prelude.{◌≡◌, ◌++◌, ◌∷◌, [], List, Some, None, IfErr, IfOk, OnOk, is_some, length};
 ghost use Rattle.std.specs.Io.KnownBytes.{Appends};
-ghost use Rattle.std.specs.List.{position};
 ghost use Rattle.std.specs.Option.{option_to_list};
 ghost use Rattle.usb_capture.specs.DeviceFiles.{IsLack, IsMade};
 ghost use Rattle.usb_capture.specs.declared.control_transfer.ControlTransfer.{ControlTransfer};
@@ -11,7 +10,7 @@ ghost use Rattle.usb_capture.specs.DeviceReadings.{HasCurrent};
 ghost use Rattle.usb_capture.specs.Findings.{findings};
 ghost use Rattle.usb_text.specs.Output.{Held};
 ghost use Rattle.usb_capture_lines.specs.Observations.{Observed};
-ghost use Rattle.usb_capture_lines.specs.Recordings.{address_of, asked_at, bus_lines, counted, finds_any, first_part, is_seen_in, last_lines, lines_of, met, met_all, met_in, open_lines, over_lines};
+ghost use Rattle.usb_capture_lines.specs.Recordings.{address_of, asked_at, bus_lines, counted, finds_any, first_part, last_lines, lines_of, met, met_all, met_in, open_lines, over_lines};
 ghost use Rattle.usb_capture_lines.specs.Telling.{HasSaid};
 
 use crate::bus_finding::BusFinding;
