@@ -36,8 +36,20 @@ use Rattle.usb_c.specs.BusPackets.{damage_number}
 
 abbrev pub no_numbers : NzgRecorded
 no_numbers = record {
-  time = 0; begun = 0; count = 0; length = 0; status = 0; bus = 0; device = 0; setup = 0 ∷ 0 ∷ 0 ∷ 0 ∷ 0 ∷ 0 ∷ 0 ∷ 0 ∷ []; ending = 0; finding = 0;
-  is_cut = false; has_time = false; has_begun = false; has_device = false;
+  time = 0;
+  begun = 0;
+  count = 0;
+  length = 0;
+  status = 0;
+  bus = 0;
+  device = 0;
+  setup = 0 ∷ 0 ∷ 0 ∷ 0 ∷ 0 ∷ 0 ∷ 0 ∷ 0 ∷ [];
+  ending = 0;
+  finding = 0;
+  is_cut = false;
+  has_time = false;
+  has_begun = false;
+  has_device = false;
 }
 
 abbrev pub ending_number : Ending → ℕ
@@ -56,8 +68,18 @@ status_of (endings.Refused status) = status
 
 abbrev pub request_numbers : ControlTransfer → NzgRecorded
 request_numbers t = record no_numbers {
-  time = unwrap_or (time_of t) 0; begun = unwrap_or t.begun 0; length = t.length; status = status_of t.ending; bus = t.bus; device = t.device;
-  setup = setup_bytes t.setup; ending = ending_number t.ending; is_cut = t.is_cut; has_time = is_some (time_of t); has_begun = is_some t.begun; has_device = true;
+  time = unwrap_or (time_of t) 0;
+  begun = unwrap_or t.begun 0;
+  length = t.length;
+  status = status_of t.ending;
+  bus = t.bus;
+  device = t.device;
+  setup = setup_bytes t.setup;
+  ending = ending_number t.ending;
+  is_cut = t.is_cut;
+  has_time = is_some (time_of t);
+  has_begun = is_some t.begun;
+  has_device = true;
 }
 
 -- T1 is 1, and C1 to C8 are 2 to 9
@@ -79,8 +101,12 @@ packet_number packets.NoShortPacket = 12
 
 abbrev pub packet_numbers : BusFinding → NzgRecorded
 packet_numbers found = record no_numbers {
-  time = unwrap_or found.time 0; count = found.number; device = unwrap_or found.address 0; finding = packet_number found.finding;
-  has_time = is_some found.time; has_device = is_some found.address;
+  time = unwrap_or found.time 0;
+  count = found.number;
+  device = unwrap_or found.address 0;
+  finding = packet_number found.finding;
+  has_time = is_some found.time;
+  has_device = is_some found.address;
 }
 
 abbrev pub counted_at : Option DeviceAddress → ℕ → NzgRecorded

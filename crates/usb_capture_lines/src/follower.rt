@@ -81,10 +81,7 @@ impl Follower {
     }
 
     /// Takes a transfer that is over, if one is, and gives what is found in it.
-    fn take_transfer(
-        &mut self,
-        over: &Option<ControlTransfer>,
-    ) -> Result<Vec<Finding>, AllocError>
+    fn take_transfer(&mut self, over: &Option<ControlTransfer>) -> Result<Vec<Finding>, AllocError>
         ensures found { IfOk result (λ found. (earlier : List ControlTransfer) → Knows earlier self.old.conversations → Knows (option_to_list over.now ++ earlier) self.new.conversations
             × (self.new.devices.items ≡ met_in earlier over.now self.old.devices.items) × (found.items ≡ found_in earlier over.now)) }
         ensures read { OnOk result ((transfers : List ControlTransfer) → HasCurrent transfers self.old.readings → HasCurrent (transfers ++ option_to_list over.now) self.new.readings) }

@@ -118,6 +118,8 @@ impl RecordingReader {
         ensures ok { IfOk result (IsMade (readings_of self.now) (asked_at device)) }
         ensures err { IfErr result (IsLack (readings_of self.now) (asked_at device)) }
     {
-        self.follower.readings.file(self.alloc, device.bus, device.device)
+        self.follower
+            .readings
+            .file(self.alloc, device.bus, device.device)
     }
 }
