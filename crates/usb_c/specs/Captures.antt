@@ -1,6 +1,6 @@
 -- What calls do to a reader of a recording that C holds, or to none, and what it shows as numbers.
 use Rattle.std.specs.Prelude.{◌≡◌, ◌⊎◌, ℕ, ◌<◌, ◌+◌, ◌==◌, Bool, true, false, List, [], ◌++◌, drop, length, Option, Some, None, Result, Ok, Err, is_some, slice_get, unwrap_or, if◌then◌else◌}
-use Rattle.std.specs.Option.{option_map, option_to_list}
+use Rattle.std.specs.Option.{option_map}
 use Rattle.usb_fields.specs.Numbers.{number_in}
 use Rattle.usb_fields.specs.Setup.{setup_bytes}
 use Rattle.usb_capture.specs.declared.control_transfer.ControlTransfer.{ControlTransfer}
@@ -138,11 +138,15 @@ packet_item found = record { numbers = packet_numbers found; bytes = packet_word
 abbrev pub device_item : SeenDevice → Item
 device_item seen = record { numbers = device_numbers seen; bytes = [] }
 
+-- there is one at most
+abbrev pub only : ℕ → Option ControlTransfer → Option ControlTransfer
+only number t = if number == 0 then t else None
+
 -- what the last piece has shown: 1 the request that is over, 2 what is found in it, 3 what is found in packets; of all pieces: 4 requests
 -- without an end, 5 devices. Each list is counted from 0.
 abbrev pub item_in : RecordingReader → ℕ → ℕ → Option Item
 item_in r kind number =
-    if kind == 1 then option_map request_item (slice_get (option_to_list r.shown.transfer) number)
+    if kind == 1 then option_map request_item (only number r.shown.transfer)
     else if kind == 2 then finding_at r.shown.transfer (slice_get r.shown.found.items number)
     else if kind == 3 then option_map packet_item (slice_get r.shown.in_packets.items number)
     else if kind == 4 then option_map request_item (unended_in r number)

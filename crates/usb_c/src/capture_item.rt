@@ -1,7 +1,9 @@
 //! What a reader of a recording shows, in the caller's struct and buffer.
 ghost use Rattle.std.specs.Prelude.{◌≡◌, Some, slice_get};
 ghost use Rattle.std.specs.Option.{option_copied, option_map};
-ghost use Rattle.usb_c.specs.Captures.{DeviceMade, TellsDevice, TellsItem, device_item, finding_at, item_in, lacking, packet_item, request_item};
+ghost use Rattle.usb_c.specs.Captures.{DeviceMade, TellsDevice, TellsItem, device_item, finding_at, item_in, lacking, only, packet_item, request_item};
+ghost use Rattle.usb_c.specs.Answers.{Puts};
+ghost use Rattle.usb_c.specs.declared.answer.Verdict.TheVariants as verdicts;
 
 use crate::answer::Verdict;
 use crate::buffer::fill;
@@ -23,12 +25,24 @@ pub(crate) fn tell_item(
 {
     let shown = recording.shown();
     match kind {
-        1 if number == 0 => tell_request(shown.transfer.as_ref(), recorded, data),
+        1 => tell_over(shown, number, recorded, data),
         2 => tell_finding(shown, number, recorded, data),
         3 => tell_in_packets(shown.in_packets.get(number), recorded, data),
         4 => tell_request(recording.unended(number), recorded, data),
         5 => tell_seen(recording.devices().get(number), recorded, data),
         _ => Verdict::Open(0),
+    }
+}
+
+fn tell_over(shown: &Shown, number: usize, recorded: &mut NzgRecorded, data: &mut [u8]) -> Verdict
+    ensures { TellsItem (option_map request_item (only number shown.now.transfer)) recorded.old recorded.new data.old data.new result }
+{
+    if number > 0 {
+        return Verdict::Open(0);
+    }
+    match &shown.transfer {
+        Some(transfer) => put_request(transfer, recorded, data),
+        None => Verdict::Open(0),
     }
 }
 
@@ -40,14 +54,20 @@ fn tell_request(
     ensures { TellsItem (option_map request_item (option_copied transfer.entry)) recorded.old recorded.new data.old data.new result }
 {
     match transfer {
-        Some(transfer) => put(
-            NzgRecorded::of_request(transfer),
-            transfer.data.as_slice(),
-            recorded,
-            data,
-        ),
+        Some(transfer) => put_request(transfer, recorded, data),
         None => Verdict::Open(0),
     }
+}
+
+fn put_request(transfer: &ControlTransfer, recorded: &mut NzgRecorded, data: &mut [u8]) -> Verdict
+    ensures { TellsItem (Some (request_item transfer.now)) recorded.old recorded.new data.old data.new result }
+{
+    put(
+        NzgRecorded::of_request(transfer),
+        transfer.data.as_slice(),
+        recorded,
+        data,
+    )
 }
 
 fn tell_finding(
@@ -125,10 +145,15 @@ pub(crate) fn tell_device(
 fn put_file(file: &DeviceFile, out: &mut [u8]) -> Verdict
     ensures { DeviceMade file.now out.old out.new result }
 {
-    let (number, bytes) = match file {
-        DeviceFile::File(bytes) => (2, bytes),
-        DeviceFile::Dump(bytes) => (3, bytes),
-    };
+    match file {
+        DeviceFile::File(bytes) => put_made(2, bytes, out),
+        DeviceFile::Dump(bytes) => put_made(3, bytes, out),
+    }
+}
+
+fn put_made(number: u8, bytes: &[u8], out: &mut [u8]) -> Verdict
+    ensures { Puts (verdicts.Meant number 0) bytes.now out.old out.new result }
+{
     if fill(bytes, out) {
         Verdict::Meant(number, 0, bytes.len())
     } else {
