@@ -1,11 +1,12 @@
 -- What a reader of a recording knows and shows after a frame more.
 use Rattle.std.proofs.Common.{◌≡◌, ◌⊎◌, ℕ, ◌^◌, ◌-◌, List, [], ◌∷◌, ◌++◌, append-nil, inl, inr, sym, ap, ◌∙◌, subst}
 use Rattle.std.proofs.lemmas.Grind.{reverse_onto}
-use Rattle.std.specs.Prelude.{Option, Some, None, min, reverse}
+use Rattle.std.specs.Prelude.{Option, Some, None, Result, Ok, Err, min, reverse}
 use Rattle.std.specs.Option.{option_to_list}
 use Rattle.usb_capture.specs.declared.fault.CaptureFault.{CaptureFault}
 use Rattle.usb_capture.specs.declared.fault.CaptureFault.TheVariants as faults
 use Rattle.usb_capture.specs.declared.frame.Frame.{Frame}
+use Rattle.usb_capture.specs.declared.reader.Step.{Step}
 use Rattle.usb_capture.specs.Conversations.{Knows}
 use Rattle.usb_capture.specs.DeviceReadings.{HasCurrent}
 use Rattle.usb_capture.specs.Files.{IsRefusedAfter}
@@ -63,3 +64,8 @@ pub fails : (bytes : List ℕ) (frames : List Frame) (observed : List Observed) 
 fails bytes frames observed fault new failed follows (inl memory) = inl memory
 fails bytes frames observed fault new failed follows (inr refused) =
     inr (record { place = refused.0; refused = refused.1; at = refused.2; failed = failed; follows = follows })
+
+-- how many bytes a step of the file's reader takes
+abbrev pub used_of : Result Step CaptureFault → Result ℕ CaptureFault
+used_of (Ok step) = Ok step.used
+used_of (Err fault) = Err fault

@@ -1,7 +1,7 @@
-use Rattle.std.proofs.Common.{◌++◌, subst, take}
-use Rattle.std.specs.Prelude.{IsOk, reverse}
+use Rattle.std.proofs.Common.{◌++◌, ap, take}
+use Rattle.std.specs.Prelude.{reverse}
 use Rattle.usb_capture_lines.specs.declared.recording_reader.RecordingReader.{RecordingReader}
-use Rattle.usb_capture_lines.proofs.FollowingLemmas.{fails, goes_on}
+use Rattle.usb_capture_lines.proofs.FollowingLemmas.{fails, goes_on, used_of}
 use Rattle.usb_capture_lines.proofs.recording_reader.RecordingReader.feed.Goals as goal
 
 pub returns-in_ok-self-in-Ok : goal.returns-in_ok-self-in-Ok
@@ -15,7 +15,7 @@ returns-in_ok-self-in-Ok c =
             c.in-Ok.ensures.going (c.in_ok-self-in-Ok.ensures frames observed has.follows),
       );
       refused = tt;
-      stays = λ fault failed. absurd (subst IsOk (c.in-Ok.ensures.stays fault failed) tt);
+      stays = λ fault failed. ap used_of (c.in-Ok.ensures.stays fault failed);
     }
 
 pub returns-in-Err : goal.returns-in-Err
@@ -26,5 +26,5 @@ returns-in-Err c =
       ok = tt;
       refused = λ bytes frames observed has.
           fails (bytes ++ c.args.piece.now) frames observed c.in-Err.fault new c.in-Err.ensures.failed has.follows (c.in-Err.ensures.refused bytes (reverse frames) has.read has.going);
-      stays = λ fault failed. c.in-Err.ensures.stays fault failed;
+      stays = λ fault failed. ap used_of (c.in-Err.ensures.stays fault failed);
     }
