@@ -80,15 +80,15 @@ pub extern "C" fn nzg_capture_get(
     kind: u8,
     number: usize,
     recorded: &mut NzgRecorded,
-    data: &mut [u8],
+    out: &mut [u8],
 ) -> Answer
     ensures held { capture.new.held ≡ capture.old.held }
-    ensures answer { AnswersOn (TellsHeld capture.old.held kind number recorded.old recorded.new data.old data.new) result }
+    ensures answer { AnswersOn (TellsHeld capture.old.held kind number recorded.old recorded.new out.old out.new) result }
 {
     let Some(held) = replace(capture, NzgCapture::empty(alloc)).into_box() else {
         return Verdict::Closed.answer();
     };
-    let verdict = tell_item(&held, kind, number, recorded, data);
+    let verdict = tell_item(&held, kind, number, recorded, out);
     *capture = NzgCapture::of(held);
     verdict.answer()
 }

@@ -19,29 +19,29 @@ pub(crate) fn tell_item(
     kind: u8,
     number: usize,
     recorded: &mut NzgRecorded,
-    data: &mut [u8],
+    out: &mut [u8],
 ) -> Verdict
-    ensures { TellsItem (item_in recording.now kind number) recorded.old recorded.new data.old data.new result }
+    ensures { TellsItem (item_in recording.now kind number) recorded.old recorded.new out.old out.new result }
 {
     let shown = recording.shown();
     match kind {
-        1 => tell_over(shown, number, recorded, data),
-        2 => tell_finding(shown, number, recorded, data),
-        3 => tell_in_packets(shown.in_packets.get(number), recorded, data),
-        4 => tell_request(recording.unended(number), recorded, data),
-        5 => tell_seen(recording.devices().get(number), recorded, data),
+        1 => tell_over(shown, number, recorded, out),
+        2 => tell_finding(shown, number, recorded, out),
+        3 => tell_in_packets(shown.in_packets.get(number), recorded, out),
+        4 => tell_request(recording.unended(number), recorded, out),
+        5 => tell_seen(recording.devices().get(number), recorded, out),
         _ => Verdict::Open(0),
     }
 }
 
-fn tell_over(shown: &Shown, number: usize, recorded: &mut NzgRecorded, data: &mut [u8]) -> Verdict
-    ensures { TellsItem (option_map request_item (only number shown.now.transfer)) recorded.old recorded.new data.old data.new result }
+fn tell_over(shown: &Shown, number: usize, recorded: &mut NzgRecorded, out: &mut [u8]) -> Verdict
+    ensures { TellsItem (option_map request_item (only number shown.now.transfer)) recorded.old recorded.new out.old out.new result }
 {
     if number > 0 {
         return Verdict::Open(0);
     }
     match &shown.transfer {
-        Some(transfer) => put_request(transfer, recorded, data),
+        Some(transfer) => put_request(transfer, recorded, out),
         None => Verdict::Open(0),
     }
 }
@@ -49,41 +49,36 @@ fn tell_over(shown: &Shown, number: usize, recorded: &mut NzgRecorded, data: &mu
 fn tell_request(
     transfer: Option<&ControlTransfer>,
     recorded: &mut NzgRecorded,
-    data: &mut [u8],
+    out: &mut [u8],
 ) -> Verdict
-    ensures { TellsItem (option_map request_item (option_copied transfer.entry)) recorded.old recorded.new data.old data.new result }
+    ensures { TellsItem (option_map request_item (option_copied transfer.entry)) recorded.old recorded.new out.old out.new result }
 {
     match transfer {
-        Some(transfer) => put_request(transfer, recorded, data),
+        Some(transfer) => put_request(transfer, recorded, out),
         None => Verdict::Open(0),
     }
 }
 
-fn put_request(transfer: &ControlTransfer, recorded: &mut NzgRecorded, data: &mut [u8]) -> Verdict
-    ensures { TellsItem (Some (request_item transfer.now)) recorded.old recorded.new data.old data.new result }
+fn put_request(transfer: &ControlTransfer, recorded: &mut NzgRecorded, out: &mut [u8]) -> Verdict
+    ensures { TellsItem (Some (request_item transfer.now)) recorded.old recorded.new out.old out.new result }
 {
     put(
         NzgRecorded::of_request(transfer),
         transfer.data.as_slice(),
         recorded,
-        data,
+        out,
     )
 }
 
-fn tell_finding(
-    shown: &Shown,
-    number: usize,
-    recorded: &mut NzgRecorded,
-    data: &mut [u8],
-) -> Verdict
-    ensures { TellsItem (finding_at shown.now.transfer (slice_get shown.now.found.items number)) recorded.old recorded.new data.old data.new result }
+fn tell_finding(shown: &Shown, number: usize, recorded: &mut NzgRecorded, out: &mut [u8]) -> Verdict
+    ensures { TellsItem (finding_at shown.now.transfer (slice_get shown.now.found.items number)) recorded.old recorded.new out.old out.new result }
 {
     match (&shown.transfer, shown.found.get(number)) {
         (Some(transfer), Some(finding)) => put(
             NzgRecorded::of_finding(transfer, *finding),
             finding_words(*finding).as_bytes(),
             recorded,
-            data,
+            out,
         ),
         _ => Verdict::Open(0),
     }
@@ -92,35 +87,35 @@ fn tell_finding(
 fn tell_in_packets(
     found: Option<&BusFinding>,
     recorded: &mut NzgRecorded,
-    data: &mut [u8],
+    out: &mut [u8],
 ) -> Verdict
-    ensures { TellsItem (option_map packet_item (option_copied found.entry)) recorded.old recorded.new data.old data.new result }
+    ensures { TellsItem (option_map packet_item (option_copied found.entry)) recorded.old recorded.new out.old out.new result }
 {
     match found {
         Some(found) => put(
             NzgRecorded::in_packets(found),
             packet_words(found.finding).as_bytes(),
             recorded,
-            data,
+            out,
         ),
         None => Verdict::Open(0),
     }
 }
 
-fn tell_seen(seen: Option<&SeenDevice>, recorded: &mut NzgRecorded, data: &mut [u8]) -> Verdict
-    ensures { TellsItem (option_map device_item (option_copied seen.entry)) recorded.old recorded.new data.old data.new result }
+fn tell_seen(seen: Option<&SeenDevice>, recorded: &mut NzgRecorded, out: &mut [u8]) -> Verdict
+    ensures { TellsItem (option_map device_item (option_copied seen.entry)) recorded.old recorded.new out.old out.new result }
 {
     match seen {
-        Some(seen) => put(NzgRecorded::of_device(seen), &[], recorded, data),
+        Some(seen) => put(NzgRecorded::of_device(seen), &[], recorded, out),
         None => Verdict::Open(0),
     }
 }
 
 /// Puts numbers into the struct, and bytes into the buffer, where it has room.
-fn put(numbers: NzgRecorded, bytes: &[u8], recorded: &mut NzgRecorded, data: &mut [u8]) -> Verdict
-    ensures { TellsItem (Some (record { numbers = numbers; bytes = bytes.now })) recorded.old recorded.new data.old data.new result }
+fn put(numbers: NzgRecorded, bytes: &[u8], recorded: &mut NzgRecorded, out: &mut [u8]) -> Verdict
+    ensures { TellsItem (Some (record { numbers = numbers; bytes = bytes.now })) recorded.old recorded.new out.old out.new result }
 {
-    if fill(bytes, data) {
+    if fill(bytes, out) {
         *recorded = numbers;
         Verdict::Done(bytes.len())
     } else {

@@ -11,7 +11,7 @@ returns-in_default-clause-answer c =
       verdict = verdicts.Closed;
       says =
           subst
-          (λ (h : Option RecordingReader). TellsHeld h c.args.kind c.args.number c.args.recorded.now c.args.recorded.now c.args.data.now c.args.data.now verdicts.Closed)
+          (λ (h : Option RecordingReader). TellsHeld h c.args.kind c.args.number c.args.recorded.now c.args.recorded.now c.args.out.now c.args.out.now verdicts.Closed)
           none
           (refl, refl, refl);
       numbers = c.answer.ensures;
