@@ -1,5 +1,5 @@
 -- What calls do to a reader of a recording that C holds, or to none, and what it shows as numbers.
-use Rattle.std.specs.Prelude.{◌≡◌, ◌⊎◌, ℕ, ◌<◌, ◌+◌, ◌==◌, Bool, true, false, List, [], ◌++◌, drop, length, Option, Some, None, Result, Ok, Err, is_some, slice_get, unwrap_or, if◌then◌else◌}
+use Rattle.std.specs.Prelude.{◌≡◌, ◌⊎◌, ℕ, ◌<◌, ◌==◌, Bool, true, false, List, [], ◌∷◌, ◌++◌, drop, length, Option, Some, None, Result, Ok, Err, is_some, slice_get, unwrap_or, if◌then◌else◌}
 use Rattle.std.specs.Option.{option_map}
 use Rattle.usb_fields.specs.Numbers.{number_in}
 use Rattle.usb_fields.specs.Setup.{setup_bytes}
