@@ -7,4 +7,4 @@ pub returns-in-Ok : goal.returns-in-Ok
 returns-in-Ok c =
     let held : c.of.result.held ≡ Some c.in-Ok.held.value = search rules in
     let same : c.in-Ok.held.value ≡ c.new.result = search rules in
-    record { verdict = verdicts.Done 0; says = (refl, c.in-Ok.held.value, held, subst (HasRead [] [] []) (sym same) c.new.ensures); numbers = c.answer.ensures }
+    record { verdict = verdicts.Done 0; says = (refl, (c.in-Ok.held.value, held, subst (HasRead [] [] []) (sym same) c.new.ensures)); numbers = c.answer.ensures }
