@@ -56,7 +56,9 @@ enum nzg_status {
     NZG_TROUBLE = 11,          /* number 1..7: why a transfer or an enumeration failed */
     NZG_UNANSWERED = 12,       /* number 1..4: why the device doesn't take the answer to a request */
     NZG_NO_BYTES = 13,         /* number: why the file of a host has no bytes; a law of the library says it doesn't come */
-    NZG_TEXT_FAULT = 14        /* no hexadecimal text from line `place`, column `length` on, both from 1 */
+    NZG_TEXT_FAULT = 14,       /* no hexadecimal text from line `place`, column `length` on, both from 1 */
+    NZG_CAPTURE_FAULT = 15,    /* number 1..11: no recording, in the part at place */
+    NZG_LACKING = 16           /* of a device of a recording there came: 1 no device descriptor, 2 no configuration with the index `place` */
 };
 
 struct nzg_answer {
@@ -417,6 +419,47 @@ struct nzg_answer nzg_decoder_feed(struct nzg_decoder *decoder, const uint8_t *p
 struct nzg_answer nzg_decoder_list(struct nzg_decoder *decoder, uint8_t *text, nzg_size room);
 void nzg_decoder_close(struct nzg_decoder *decoder);
 
+/* --- a recording in pieces; these ask for memory -------------------------------------------------------------------- */
+
+struct nzg_capture { NZG_HELD; };
+enum nzg_kind {
+    NZG_REQUEST = 1,    /* with the last piece: the control transfer that is over with it, and its data */
+    NZG_OF_REQUEST = 2, /* with the last piece: what USB 2.0 forbids in that transfer, with its numbers, and the words */
+    NZG_OF_PACKETS = 3, /* with the last piece: what it forbids in packets, and the words */
+    NZG_UNENDED = 4,    /* of all pieces: a control transfer whose end has not come, and its data */
+    NZG_SEEN = 5        /* of all pieces: a device, without data */
+};
+enum nzg_ending { NZG_NO_END = 0, NZG_ALL_DONE = 1, NZG_WITH_STALL = 2, NZG_WITH_ERROR = 3, NZG_NOT_TAKEN_ON = 4 }; /* by the host controller */
+/* What does not apply, or is not known, is 0. Times are in nanoseconds: from the beginning of 1970, of usbmon's text from another one. */
+struct nzg_recorded {
+    uint64_t time;       /* of a request when it ended, or began where its end has not come; of a finding in packets when those came */
+    uint64_t begun;      /* of a request when the host controller got it */
+    uint64_t count;      /* of a finding in packets the number of its frame, from 1; of a device how many findings it has */
+    uint32_t length;     /* of a request how many bytes of data came or went; the recording may have fewer */
+    uint32_t status;     /* of a request that failed or was not taken: that of the host's system */
+    uint16_t bus, device;
+    uint8_t setup[8];    /* of a request */
+    uint8_t ending;      /* of a request: enum nzg_ending */
+    uint8_t finding;     /* of NZG_OF_REQUEST 1 for T1, 2 to 9 for C1 to C8; of NZG_OF_PACKETS 1 to 6 as enum nzg_damage, 7 no handshake,
+                          * 8 SETUP without a request, 9 another handshake of SETUP than ACK, 10 toggle, 11 too long, 12 no short packet */
+    bool is_cut;         /* of a request: a frame of it was cut */
+    bool has_time, has_begun, has_device; /* they are known */
+};
+
+struct nzg_answer nzg_capture_open(struct nzg_capture *capture);
+/* Takes the next bytes from the beginning of a piece, up to the end of a frame: as many as `length` says, one at least if there is one.
+ * It answers NZG_OPEN. What was shown before is forgotten. After NZG_CAPTURE_FAULT each piece has that fault, and what came before it
+ * is known; after NZG_NO_MEMORY nothing is held. */
+struct nzg_answer nzg_capture_feed(struct nzg_capture *capture, const uint8_t *bytes, nzg_size len);
+/* The thing with this number, from 0 on, among those of its kind: done, and `length` bytes of data. NZG_OPEN where there is none. But
+ * for NZG_DONE struct and data are as they were. */
+struct nzg_answer nzg_capture_get(struct nzg_capture *capture, uint8_t kind, nzg_size number, struct nzg_recorded *recorded, uint8_t *data, nzg_size room);
+/* Where no bytes follow: done, and how many bytes there are of a part that is not whole and begins at `place`. It is cut if any are. */
+struct nzg_answer nzg_capture_end(struct nzg_capture *capture);
+/* The descriptors of a device that came, as `usbdesc capture --file`: done, and number 2 for a descriptor file, 3 for a dump. */
+struct nzg_answer nzg_capture_file(struct nzg_capture *capture, uint16_t bus, uint16_t device, uint8_t *bytes, nzg_size room);
+void nzg_capture_close(struct nzg_capture *capture);
+
 /* --- sizes, on every target ---------------------------------------------------------------------------------------- */
 
 #if defined __cplusplus && __cplusplus >= 201103L
@@ -445,6 +488,8 @@ NZG_SIZE(nzg_setup, 8);
 NZG_SIZE(nzg_device, 312);
 NZG_SIZE(nzg_host, 8);
 NZG_SIZE(nzg_decoder, 8);
+NZG_SIZE(nzg_recorded, 56);
+NZG_SIZE(nzg_capture, 8);
 #undef NZG_SIZE
 #undef NZG_HELD
 

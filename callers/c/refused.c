@@ -10,7 +10,7 @@ static size_t length;
 static long calls, refusals;
 
 enum { SHOW, CHECK, CHECK_ANY, EXPLAIN, LOOSE, HEX, FROM_TEXT, BUILD, BUILD_COMMENTS, ENUMERATE, JUDGE, FINDINGS, REMARKS, TEXT, WITH_STRINGS, IMAGE, HOST, DECODER,
-       FINDING_TEXT, REMARK_TEXT, FAULT_TEXT, TROUBLE_TEXT, ENUMERATE_LOG, HOST_WANTED, KINDS };
+       FINDING_TEXT, REMARK_TEXT, FAULT_TEXT, TROUBLE_TEXT, ENUMERATE_LOG, HOST_WANTED, CAPTURE, KINDS };
 
 static struct nzg_answer in_pieces(uint8_t *out) {
     struct nzg_decoder decoder = {0};
@@ -20,6 +20,28 @@ static struct nzg_answer in_pieces(uint8_t *out) {
     if (answer.status == NZG_DONE || answer.status == NZG_OPEN) answer = nzg_decoder_list(&decoder, out, sizeof text);
     nzg_decoder_close(&decoder);
     nzg_decoder_close(&decoder);
+    return answer;
+}
+
+/* A recording: what it shows is counted, and the descriptors of its first device that has some. Without memory nothing is held. */
+static struct nzg_answer by_capture(uint8_t *out) {
+    static uint8_t shown[1 << 16];
+    struct nzg_capture capture = {0};
+    struct nzg_recorded it = {0};
+    struct nzg_answer answer = nzg_capture_open(&capture), got = {0, 0, 0, 0};
+    size_t at = 0, count = 0;
+    for (; answer.status <= NZG_OPEN && at < length; at += answer.length) {
+        answer = nzg_capture_feed(&capture, bytes + at, length - at < 700 ? length - at : 700);
+        for (uint8_t kind = NZG_REQUEST; answer.status == NZG_OPEN && kind <= NZG_UNENDED; kind++)
+            for (nzg_size n = 0; (got = nzg_capture_get(&capture, kind, n, &it, shown, sizeof shown)).status == NZG_DONE; n++) count += got.length + it.finding;
+    }
+    if (answer.status == NZG_NO_MEMORY && nzg_capture_end(&capture).status != NZG_CLOSED) answer.status = 99;
+    if (answer.status == NZG_OPEN) answer = (struct nzg_answer){NZG_LACKING, 0, 0, 0};
+    for (nzg_size n = 0; answer.status == NZG_LACKING && nzg_capture_get(&capture, NZG_SEEN, n, &it, shown, 0).status == NZG_DONE; n++)
+        answer = nzg_capture_file(&capture, it.bus, it.device, out, sizeof text - 1);
+    if (answer.status == NZG_DONE) out[answer.length++] = (uint8_t)count;
+    nzg_capture_close(&capture);
+    nzg_capture_close(&capture);
     return answer;
 }
 
@@ -134,6 +156,7 @@ static struct nzg_answer call(int kind, uint8_t *out) {
     case FAULT_TEXT: return nzg_fault_text(bytes, length, out, sizeof text);
     case TROUBLE_TEXT: return nzg_trouble_text(&trouble, out, sizeof text);
     case ENUMERATE_LOG: return nzg_enumerate_log(bytes, length, NZG_FULL, 16, 3, (const uint8_t *)"....a", 5, out, sizeof text);
+    case CAPTURE: return by_capture(out);
     default: return in_pieces(out);
     }
 }

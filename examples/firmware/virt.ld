@@ -1,4 +1,4 @@
-/* The same at the places of QEMU's virt, all of which is RAM: code for RISC-V takes three quarters as much again. */
+/* The same at the places of QEMU's virt, all of which is RAM: code for RISC-V takes half as much again. */
 ENTRY(start)
 MEMORY {
     flash (rx) : ORIGIN = 0x80000000, LENGTH = 24K

@@ -30,6 +30,9 @@ struct nzg_transfer { uint16_t naks, nak_count, kept; uint8_t address, packet, s
 struct nzg_write { struct nzg_transfer transfer; };
 struct nzg_host { void *held; };
 struct nzg_decoder { void *held; };
+struct nzg_recorded { uint64_t time, begun, count; uint32_t length, status; uint16_t bus, device; uint8_t setup[8], ending, finding;
+    bool is_cut, has_time, has_begun, has_device; };
+struct nzg_capture { void *held; };
 struct nzg_answer nzg_show(const uint8_t *, size_t, bool, uint8_t *, size_t);
 struct nzg_answer nzg_check(const uint8_t *, size_t, bool, uint8_t *, size_t);
 struct nzg_answer nzg_explain(const uint8_t *, size_t, uint32_t, uint8_t, uint8_t *, size_t);
@@ -92,9 +95,15 @@ struct nzg_answer nzg_decoder_open(struct nzg_decoder *);
 struct nzg_answer nzg_decoder_feed(struct nzg_decoder *, const uint8_t *, size_t);
 struct nzg_answer nzg_decoder_list(struct nzg_decoder *, uint8_t *, size_t);
 void nzg_decoder_close(struct nzg_decoder *);
+struct nzg_answer nzg_capture_open(struct nzg_capture *);
+struct nzg_answer nzg_capture_feed(struct nzg_capture *, const uint8_t *, size_t);
+struct nzg_answer nzg_capture_get(struct nzg_capture *, uint8_t, size_t, struct nzg_recorded *, uint8_t *, size_t);
+struct nzg_answer nzg_capture_end(struct nzg_capture *);
+struct nzg_answer nzg_capture_file(struct nzg_capture *, uint16_t, uint16_t, uint8_t *, size_t);
+void nzg_capture_close(struct nzg_capture *);
 """
 STATUSES = ("done", "open", "set_fault", "file_fault", "list_fault", "description_fault", "trailing", "no_room", "no_memory",
-            "closed", "bad_argument", "trouble", "unanswered", "no_bytes", "text_fault")
+            "closed", "bad_argument", "trouble", "unanswered", "no_bytes", "text_fault", "capture_fault", "lacking")
 SPEEDS = ("low", "full", "high", "super")
 _TYPES = {"void": None, "void *": ctypes.c_void_p, "bool": ctypes.c_bool, "size_t": ctypes.c_size_t, "uint8_t": ctypes.c_uint8,
           "uint16_t": ctypes.c_uint16, "uint32_t": ctypes.c_uint32, "uint64_t": ctypes.c_uint64,

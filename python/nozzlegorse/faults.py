@@ -14,6 +14,8 @@ _NAMES = {
     "trouble": "NoAnswer Busy Stalled TooLong Unexpected Malformed Memory",
     "unanswered": "Nothing Closed Shape Room",
     "damage": "Empty Pid Reserved Length Crc5 Crc16",
+    "capture_fault": "Magic Order Length Trailer Version Long Interfaces Options Interface Data Line",
+    "lacking": "device configuration",
 }
 _STEPS = ("", "first", "address", "device", "header {i}", "set {i}", "qualifier", "other_header {i}", "other_set {i}", "languages",
           "text {l:04x} {i:02x}", "configure")
@@ -43,7 +45,7 @@ class Fault(ValueError):
     def __str__(self) -> str:
         words = {"list_fault": "listing fault", "trailing": "trailing bytes"}.get(self.kind, self.kind.replace("_", " "))
         words += f" {self.number} ({self.name})" if self.number else ""
-        if self.kind in ("set_fault", "file_fault", "trailing"):
+        if self.kind in ("set_fault", "file_fault", "trailing", "capture_fault"):
             words += f" at {self.place}"
         elif self.kind == "list_fault":
             words += f" line {self.place}"

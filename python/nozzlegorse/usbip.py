@@ -155,10 +155,10 @@ def _open(parser: Words, bridge: Bridge, given: argparse.Namespace, owner: type)
 def _plug_in(bridge: Bridge, given: argparse.Namespace, it: Named, owner: type, bus_id: str) -> None:
     """The device of a file, with its owner."""
     with open(it.name, "rb") as opened:
-        data = opened.read()
+        file = opened.read()
     mine = owner(it.answers) if it.answers else owner()
     try:
-        file = with_strings(data) if given.with_strings else data
+        file = with_strings(file) if given.with_strings else file
         plug = Plug(file, mine, _speed(it.speed or given.first.speed, file), bus_id, bridge.tell)
     except Fault as fault:
         raise ValueError(f"{it.name}: {refusal(file, fault)}") from None

@@ -27,6 +27,10 @@ pub enum Kind {
     Trouble,
     /// The device doesn't take this answer to a request: 1 to 4.
     Unanswered,
+    /// The bytes are no recording: 1 to 11, in the part at a place.
+    Capture,
+    /// Of a device of a recording there came: 1 no device descriptor, 2 no configuration with the index that is the place.
+    Lacking,
     /// The file of a host has no bytes, or a handle holds nothing: it doesn't come.
     Other,
 }
@@ -167,6 +171,20 @@ impl Fault {
             ],
             Kind::Trouble => &["NoAnswer", "Busy", "Stalled", "TooLong", "Unexpected", "Malformed", "Memory"],
             Kind::Unanswered => &["Nothing", "Closed", "Shape", "Room"],
+            Kind::Capture => &[
+                "Magic",
+                "Order",
+                "Length",
+                "Trailer",
+                "Version",
+                "Long",
+                "Interfaces",
+                "Options",
+                "Interface",
+                "Data",
+                "Line",
+            ],
+            Kind::Lacking => &["device", "configuration"],
             Kind::Text | Kind::Trailing | Kind::Memory | Kind::Other => &[],
         };
         names.get((self.number as usize).wrapping_sub(1)).unwrap_or(&"")
@@ -186,6 +204,8 @@ impl fmt::Display for Fault {
             Kind::Argument => "bad argument",
             Kind::Trouble => "trouble",
             Kind::Unanswered => "unanswered",
+            Kind::Capture => "capture fault",
+            Kind::Lacking => "lacking",
             Kind::Other => "nothing held",
         };
         write!(f, "{words}")?;
@@ -193,7 +213,7 @@ impl fmt::Display for Fault {
             write!(f, " {} ({})", self.number, self.name())?;
         }
         match (self.kind, self.step) {
-            (Kind::Set | Kind::File | Kind::Trailing, _) => write!(f, " at {}", self.place)?,
+            (Kind::Set | Kind::File | Kind::Trailing | Kind::Capture, _) => write!(f, " at {}", self.place)?,
             (Kind::Listing, _) => write!(f, " line {}", self.place)?,
             (Kind::Text, _) => write!(f, " line {} column {}", self.place, self.column)?,
             (_, Some(step)) if self.message.is_empty() => write!(f, " in {step}")?,
@@ -222,6 +242,8 @@ pub(crate) fn done(answer: nzg_answer) -> Result<nzg_answer, Fault> {
         11 => Kind::Trouble,
         12 => Kind::Unanswered,
         14 => Kind::Text,
+        15 => Kind::Capture,
+        16 => Kind::Lacking,
         _ => Kind::Other,
     };
     let column = if kind == Kind::Text { answer.length } else { 0 };

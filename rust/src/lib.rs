@@ -1,5 +1,6 @@
 #![doc = include_str!("../README.md")]
 #![warn(missing_docs)]
+mod capture;
 mod descriptor;
 mod ends;
 mod fault;
@@ -8,6 +9,7 @@ mod packet;
 mod sys;
 mod tree;
 
+pub use capture::{Capture, DeviceAddress, Ending, Forbidden, Recorded, Request};
 pub use descriptor::{
     check, descriptors, judge, remarks, Descriptor, Descriptors, Endpoint, Field, Finding, Input, Part, Remark, Role,
     TransferType,

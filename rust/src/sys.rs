@@ -54,6 +54,15 @@ structs! {
     nzg_write { nzg_transfer: transfer; }
     nzg_host { *mut c_void: held; }
     nzg_decoder { *mut c_void: held; }
+    nzg_recorded {
+        u64: time begun count;
+        u32: length status;
+        u16: bus device;
+        [u8; 8]: setup;
+        u8: ending finding;
+        bool: is_cut has_time has_begun has_device;
+    }
+    nzg_capture { *mut c_void: held; }
 }
 
 extern "C" {
@@ -145,4 +154,12 @@ extern "C" {
     pub fn nzg_decoder_feed(decoder: *mut nzg_decoder, piece: *const u8, len: usize) -> nzg_answer;
     pub fn nzg_decoder_list(decoder: *mut nzg_decoder, text: *mut u8, room: usize) -> nzg_answer;
     pub fn nzg_decoder_close(decoder: *mut nzg_decoder);
+    pub fn nzg_capture_open(capture: *mut nzg_capture) -> nzg_answer;
+    pub fn nzg_capture_feed(capture: *mut nzg_capture, bytes: *const u8, len: usize) -> nzg_answer;
+    pub fn nzg_capture_get(
+        capture: *mut nzg_capture, kind: u8, number: usize, recorded: *mut nzg_recorded, data: *mut u8, room: usize,
+    ) -> nzg_answer;
+    pub fn nzg_capture_end(capture: *mut nzg_capture) -> nzg_answer;
+    pub fn nzg_capture_file(capture: *mut nzg_capture, bus: u16, device: u16, bytes: *mut u8, room: usize) -> nzg_answer;
+    pub fn nzg_capture_close(capture: *mut nzg_capture);
 }

@@ -1,3 +1,4 @@
+mod CaptureValues
 mod DecoderValues
 mod DeviceLemmas
 mod Due

@@ -1,5 +1,5 @@
 -- Answers and faults as numbers, and what is put into the caller's buffer.
-use Rattle.std.specs.Prelude.{◌≡◌, ℕ, ◌<◌, ◌⊎◌, List, ◌++◌, length, drop, Some}
+use Rattle.std.specs.Prelude.{◌≡◌, ℕ, ◌<◌, ◌⊎◌, List, ◌++◌, length, drop, None, Some}
 use Rattle.usb_c.specs.declared.answer.Verdict.{Verdict}
 use Rattle.usb_c.specs.declared.answer.Verdict.TheVariants as verdicts
 use Rattle.usb_c.specs.declared.answer.Answer.{Answer}
@@ -10,6 +10,7 @@ use Rattle.usb_file_data.specs.FileFaults.{why_number as file_number}
 use Rattle.usb_file_data.specs.Numbers.{write_number}
 use Rattle.usb_listing.specs.Listings.{why_number as list_number}
 use Rattle.usb_device.specs.Accepted.{fault_number as description_number, unanswered_number, refusal_of}
+use Rattle.usb_capture.specs.FaultNumbers.{fault_number as capture_number}
 use Rattle.usb_host.specs.Why.{why_number as trouble_number}
 use Rattle.usb_fields.specs.declared.packet.Speed.{Speed}
 use Rattle.usb_file_data.specs.File.{File}
@@ -63,6 +64,9 @@ answer_of (verdicts.Trouble trouble) = numbers 11 (trouble_number trouble.why) 0
 answer_of (verdicts.Failed why) = numbers 11 (trouble_number why) 0 0
 answer_of (verdicts.Unanswered why) = numbers 12 (unanswered_number why) 0 0
 answer_of (verdicts.Unwritten why) = numbers 13 (write_number why) 0 0
+answer_of (verdicts.Capture why at) = numbers 15 (capture_number why) at 0
+answer_of (verdicts.Lack None) = numbers 16 1 0 0
+answer_of (verdicts.Lack (Some index)) = numbers 16 2 index 0
 
 -- the answer is the numbers of a verdict that holds
 pub record AnswersOn (Says : Verdict → Type 0) (answer : Answer) : Type 0 where

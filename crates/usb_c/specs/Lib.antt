@@ -1,5 +1,6 @@
 pub mod Answers
 pub mod BusPackets
+pub mod Captures
 pub mod Conformance
 pub mod Decoders
 pub mod DescriptorFields

@@ -3,6 +3,7 @@ ghost use Rattle.std.specs.Prelude.{◌≡◌};
 ghost use Rattle.usb_c.specs.Answers.{broken_answer, numbers, refused_set};
 ghost use Rattle.usb_c.specs.inside.Refusals.{refused_description, refused_file, refused_input, refused_list, refused_text, wants_memory};
 
+use usb_capture::CaptureFault;
 use usb_device::{DescriptionFault, Unanswered};
 use usb_file::WriteFault;
 use usb_file_data::{FileFault, FileWhy, InputFault};
@@ -16,7 +17,8 @@ use usb_set::{SetFault, SetWhy};
 #[repr(C)]
 pub struct Answer {
     /// 0 done, 1 open, 2 a fault of a set, 3 of a file, 4 of a listing, 5 of a description, 6 bytes after the set, 7 no
-    /// room, 8 no memory, 9 closed, 10 a bad argument, 11 trouble, 12 an answer that isn't taken, 13 no bytes, 14 of a text.
+    /// room, 8 no memory, 9 closed, 10 a bad argument, 11 trouble, 12 an answer that isn't taken, 13 no bytes, 14 of a text, 15 of a
+    /// recording, 16 a descriptor that a recording lacks.
     pub status: u32,
     /// The number of the fault.
     pub number: u32,
@@ -31,7 +33,8 @@ pub struct Answer {
 pub enum Verdict {
     /// All went well, and this many bytes were taken or written.
     Done(usize),
-    /// A transaction of a write is due: a data packet has this many of the data, from this place on.
+    /// A transaction of a write is due: a data packet has this many of the data, from this place on. Or a recording ends, with this
+    /// many bytes of a part that begins at this place.
     Due(usize, usize),
     /// The bytes are an input: 1 a set, 2 a descriptor file, 3 a dump.
     Judged(u8),
@@ -39,7 +42,8 @@ pub enum Verdict {
     Open(usize),
     /// The bytes are no input. This many bytes of an explanation were written.
     Broken(InputFault, usize),
-    /// What is wrong with the bytes was written: the number of the fault of a set, its place, and how many bytes that are.
+    /// What is wrong with the bytes was written: the number of the fault of a set, its place, and how many bytes that are. Or
+    /// descriptors of a recording were: 2 a descriptor file, 3 a dump.
     Meant(u8, usize, usize),
     /// The text is no listing.
     List(ListFault),
@@ -63,6 +67,10 @@ pub enum Verdict {
     Failed(Why),
     /// The device doesn't take this answer to a request.
     Unanswered(Unanswered),
+    /// The bytes are no recording: why, and the place of the part that has the fault.
+    Capture(CaptureFault, u64),
+    /// No device descriptor came whole, or the configuration with this index didn't.
+    Lack(Option<u8>),
     /// The file has no bytes. That of a host always has some: `usb_host::laws`.
     Unwritten(WriteFault),
 }
@@ -114,6 +122,9 @@ impl Verdict {
             Verdict::Failed(why) => numbers(11, why.number(), 0, 0),
             Verdict::Unanswered(why) => numbers(12, why.number(), 0, 0),
             Verdict::Unwritten(why) => numbers(13, why.number(), 0, 0),
+            Verdict::Capture(why, at) => numbers(15, why.number(), at as usize, 0),
+            Verdict::Lack(None) => numbers(16, 1, 0, 0),
+            Verdict::Lack(Some(index)) => numbers(16, 2, usize::from(index), 0),
         }
     }
 }

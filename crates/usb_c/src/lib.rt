@@ -14,6 +14,8 @@
 //!
 //! `nzg_packet_parse` and `nzg_packet_write` are packets of the bus from PID to CRC: `specs/BusPackets.antt`.
 //!
+//! `nzg_capture_feed` takes a recording in pieces, and `nzg_capture_get` gives what it shows: `specs/Captures.antt`.
+//!
 //! Each call comes to a `Verdict`, which is given as the numbers of an [`Answer`]. [`NzgTransaction`], [`NzgPacket`],
 //! [`NzgOutcome`], [`NzgTrouble`], [`NzgFinding`] and [`NzgRemark`] are transactions, outcomes, findings and remarks as
 //! numbers.
@@ -21,6 +23,9 @@
 
 mod answer;
 mod buffer;
+mod capture;
+mod capture_handle;
+mod capture_item;
 mod conformance;
 mod decoder;
 mod decoder_handle;
@@ -46,6 +51,7 @@ pub mod laws;
 mod loose;
 mod outcome;
 mod packet;
+mod recorded;
 mod remark;
 mod remark_text;
 mod step;
@@ -62,6 +68,11 @@ mod write;
 
 pub use answer::Answer;
 pub use buffer::{nzg_build, nzg_check, nzg_enumerate, nzg_explain, nzg_show};
+pub use capture::{
+    nzg_capture_close, nzg_capture_end, nzg_capture_feed, nzg_capture_file, nzg_capture_get,
+    nzg_capture_open,
+};
+pub use capture_handle::NzgCapture;
 pub use conformance::{NzgOpenTransfer, nzg_judge_acked, nzg_judge_device};
 pub use decoder::{nzg_decoder_close, nzg_decoder_feed, nzg_decoder_list, nzg_decoder_open};
 pub use decoder_handle::NzgDecoder;
@@ -90,6 +101,7 @@ pub use host_opening::nzg_host_open_with;
 pub use judging::nzg_judge;
 pub use outcome::NzgTrouble;
 pub use packet::{NzgPacketFields, nzg_crc5, nzg_crc16, nzg_packet_parse, nzg_packet_write};
+pub use recorded::NzgRecorded;
 pub use remark::{NzgRemark, nzg_remarks};
 pub use remark_text::nzg_remark_text;
 pub use step::NzgStep;

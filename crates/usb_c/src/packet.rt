@@ -48,7 +48,7 @@ pub extern "C" fn nzg_packet_parse(bytes: &[u8], packet: &mut NzgPacketFields) -
     }
 }
 
-fn damage_number(damage: Damage) -> u8
+pub(crate) fn damage_number(damage: Damage) -> u8
     ensures { result ≡ damage_number damage }
 {
     match damage {

@@ -1,20 +1,39 @@
 -- Clocks and their options.
-use Rattle.std.proofs.Common.{◌≡◌, ℕ, zero, suc, ◌-◌, ◌^◌, ◌<◌, ◌≤◌, List, length, drop, Bool, true, false, nat_lt, Option, Some, None, refl, sym, ◌∙◌, ap, arith}
-use Rattle.std.proofs.Math.Nat.{one-le-pow}
+use Rattle.std.proofs.Common.{◌≡◌, ℕ, zero, suc, ◌+◌, ◌-◌, ◌*◌, ◌/◌, ◌^◌, ◌<◌, ◌≤◌, List, length, drop, true, false, nat_lt, Option, Some, None, refl, sym, ◌∙◌, ap, arith}
+use Rattle.std.proofs.Math.Nat.{mul-div-mul_right, mul-div_cancel, mul_assoc, one-le-pow}
+use Rattle.std.proofs.lemmas.Nat.{pow-add}
 use Rattle.std.proofs.lemmas.Bool.Decides.{nat_tests}
 use Rattle.std.specs.Option.{option_and_then}
 use Rattle.std.specs.Prelude.{if◌then◌else◌}
 use Rattle.usb_capture.specs.declared.clock.Clock.{Clock}
 use Rattle.usb_capture.specs.declared.order.ByteOrder.{ByteOrder}
-use Rattle.usb_capture.specs.Clocks.{clock_after, clock_with, option_length, options_end, units_per_second}
+use Rattle.usb_capture.specs.Clocks.{clock_after, clock_with, elapsed, option_length, options_end}
 
--- a second has units
-pub some_units : (resolution : ℕ) → 0 < units_per_second resolution
-some_units resolution = by_test (nat_lt resolution 128)
-  where
-    by_test : (t : Bool) → 0 < (if t then 10 ^ resolution else 2 ^ (resolution - 128))
-    by_test true = (let h = one-le-pow resolution 10 (omega arith) in omega (arith, h))
-    by_test false = (let h = one-le-pow (resolution - 128) 2 (omega arith) in omega (arith, h))
+pub some_tens : (n : ℕ) → 0 < 10 ^ n
+some_tens n = (let h = one-le-pow n 10 (omega arith) in omega (arith, h))
+
+-- units that are powers of ten, of at least a nanosecond, of less, and powers of two
+pub elapsed_coarse : (resolution units : ℕ) → resolution < 10 → elapsed resolution units ≡ units * 10 ^ (9 - resolution)
+elapsed_coarse resolution units few =
+    let t : nat_lt resolution 128 ≡ true = grind (arith, nat_tests) in
+    let n : 9 ≡ (9 - resolution) + resolution = omega arith in
+    ap (λ b. units * 1000000000 / (if b then 10 ^ resolution else 2 ^ (resolution - 128))) t
+    ∙ ap (λ m. units * m / 10 ^ resolution) (ap (λ m. 10 ^ m) n ∙ pow-add 10 (9 - resolution) resolution)
+    ∙ ap (λ m. m / 10 ^ resolution) (sym (mul_assoc units (10 ^ (9 - resolution)) (10 ^ resolution)))
+    ∙ mul-div_cancel (units * 10 ^ (9 - resolution)) (some_tens resolution)
+
+pub elapsed_fine : (resolution units : ℕ) → 10 ≤ resolution → resolution < 128 → elapsed resolution units ≡ units / 10 ^ (resolution - 9)
+elapsed_fine resolution units few many =
+    let t : nat_lt resolution 128 ≡ true = grind (arith, nat_tests) in
+    let n : resolution ≡ (resolution - 9) + 9 = omega arith in
+    ap (λ b. units * 1000000000 / (if b then 10 ^ resolution else 2 ^ (resolution - 128))) t
+    ∙ ap (λ m. units * 1000000000 / m) (ap (λ m. 10 ^ m) n ∙ pow-add 10 (resolution - 9) 9)
+    ∙ mul-div-mul_right units (10 ^ (resolution - 9)) (omega arith)
+
+pub elapsed_binary : (resolution units : ℕ) → 128 ≤ resolution → elapsed resolution units ≡ units * 1000000000 / 2 ^ (resolution - 128)
+elapsed_binary resolution units many =
+    let t : nat_lt resolution 128 ≡ false = grind (arith, nat_tests) in
+    ap (λ b. units * 1000000000 / (if b then 10 ^ resolution else 2 ^ (resolution - 128))) t
 
 -- the options end here
 pub at_end : (order : ByteOrder) (most : ℕ) (b : List ℕ) (clock : Clock) → options_end order b ≡ true → clock_after order most b clock ≡ Some clock

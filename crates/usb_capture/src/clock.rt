@@ -1,6 +1,6 @@
 //! The clock of an interface (draft-ietf-opsawg-pcapng, Interface Description Block Options).
-ghost use Rattle.std.specs.Prelude.{◌≡◌, ◌<◌, ◌^◌, SomeIff};
-ghost use Rattle.usb_capture.specs.Clocks.{clock_after, clock_of, clock_with, elapsed, option_length, options_end, time_of, units_per_second};
+ghost use Rattle.std.specs.Prelude.{◌≡◌, ◌<◌, ◌/◌, ◌^◌};
+ghost use Rattle.usb_capture.specs.Clocks.{clock_after, clock_of, clock_with, elapsed, option_length, options_end, time_of};
 
 use crate::order::ByteOrder;
 use usb_fields::{after, byte_at};
@@ -83,27 +83,30 @@ impl Clock {
         }
     }
 
-    /// So many units in nanoseconds.
+    /// So many units in nanoseconds. No number of 128 bits is divided: a processor has no instruction for it, and a library for C no
+    /// function.
+    #[tactic(auto, using(crate::proofs::Clocks::elapsed_coarse, crate::proofs::Clocks::elapsed_fine, crate::proofs::Clocks::elapsed_binary))]
     fn elapsed(self, units: u64) -> u128
         ensures value { result ≡ elapsed self.resolution units }
         ensures bound { result < 2 ^ 94 }
     {
-        let nanoseconds = u128::from(units) * 1_000_000_000;
-        match self.units_per_second() {
-            Some(units_per_second) => nanoseconds / units_per_second,
-            None => 0,
+        if self.resolution < 10 {
+            u128::from(units) * u128::from(10u64.pow(u32::from(9 - self.resolution)))
+        } else if self.resolution < 128 {
+            u128::from(nanoseconds_of(units, u32::from(self.resolution - 9)))
+        } else {
+            (u128::from(units) * 1_000_000_000) >> u32::from(self.resolution - 128)
         }
     }
+}
 
-    /// How many units a second has, if 128 bits hold it: else none of a count of 64 bits makes a nanosecond.
-    fn units_per_second(self) -> Option<u128>
-        ensures { SomeIff result (units_per_second self.resolution < 2 ^ 128) (units_per_second self.resolution) }
-    {
-        if self.resolution < 128 {
-            10u128.checked_pow(u32::from(self.resolution))
-        } else {
-            2u128.checked_pow(u32::from(self.resolution - 128))
-        }
+/// So many units in nanoseconds, of which one has 10 to the power of this.
+fn nanoseconds_of(units: u64, exponent: u32) -> u64
+    ensures { result ≡ units / 10 ^ exponent }
+{
+    match 10u64.checked_pow(exponent) {
+        Some(each) => units / each,
+        None => 0,
     }
 }
 

@@ -29,7 +29,7 @@ frames_counted (f ∷ earlier) = by (tally_of earlier).link ∙ ap one_more (fra
     by None = refl
     by (Some link) = refl
 
-reversed : {A : Type 0} (o : Option A) (xs : List A) → reverse xs ++ option_to_list o ≡ reverse (option_to_list o ++ xs)
+pub reversed : {A : Type 0} (o : Option A) (xs : List A) → reverse xs ++ option_to_list o ≡ reverse (option_to_list o ++ xs)
 reversed None xs = append-nil (reverse xs)
 reversed (Some x) xs = sym (reverse_onto xs x [])
 

@@ -9,3 +9,4 @@ pub mod RecordingTellers
 pub mod Requests
 pub mod Statuses
 pub mod Telling
+pub mod Following

@@ -7,15 +7,15 @@ use usb_capture::{PacketFinding, RecordedPacket, Transaction};
 
 /// Something that is wrong in a packet of the bus, or in a transaction.
 #[derive(Clone, Copy, Debug)]
-pub(crate) struct BusFinding {
+pub struct BusFinding {
     /// The number of the frame that has the packet, or the token of the transaction.
-    pub(crate) number: u64,
+    pub number: u64,
     /// When that was captured.
-    pub(crate) time: Option<u64>,
+    pub time: Option<u64>,
     /// The address in the token, if there is one.
-    pub(crate) address: Option<u8>,
+    pub address: Option<u8>,
     /// What is wrong.
-    pub(crate) finding: PacketFinding,
+    pub finding: PacketFinding,
 }
 
 impl BusFinding {
@@ -48,7 +48,7 @@ impl BusFinding {
     }
 
     /// The device, if it is known: the number of a bus is 0.
-    pub(crate) fn device(&self) -> Option<DeviceAddress>
+    pub fn device(&self) -> Option<DeviceAddress>
         ensures { result ≡ device_of self.now }
     {
         Some(at_address(self.address?))

@@ -32,7 +32,7 @@ fn put_finding(text: &mut Text, finding: Finding) -> Result<(), AllocError>
 }
 
 /// What was wrong, with the sections of USB 2.0 that say so.
-fn finding_words(finding: Finding) -> &'static str
+pub fn finding_words(finding: Finding) -> &'static str
     ensures { result.now ≡ finding_words finding }
 {
     match finding {
@@ -118,7 +118,7 @@ fn put_frame(text: &mut Text, number: u64) -> Result<(), AllocError>
 }
 
 /// What is wrong in a packet or a transaction, with the sections of USB 2.0 that say so.
-fn packet_words(finding: PacketFinding) -> &'static str
+pub fn packet_words(finding: PacketFinding) -> &'static str
     ensures { result.now ≡ packet_words finding }
 {
     match finding {

@@ -1,8 +1,11 @@
 //! A device of a recording.
-ghost use Rattle.std.specs.Prelude.{◌≡◌};
-ghost use Rattle.usb_capture_lines.specs.Recordings.{first_seen, is_seen_in, with_findings};
+ghost use Rattle.std.specs.Prelude.{◌≡◌, OnOk};
+ghost use Rattle.std.specs.List.{position};
+ghost use Rattle.usb_capture_lines.specs.Recordings.{first_seen, is_seen_in, met, met_all, with_findings};
 
+use crate::bus_finding::BusFinding;
 use crate::selection::DeviceAddress;
+use std::alloc::AllocError;
 
 /// A device of a recording, and what was found.
 #[derive(Clone, Copy, Debug, PartialEq, Eq, Hash)]
@@ -43,4 +46,39 @@ impl SeenDevice {
             ..self
         }
     }
+}
+
+/// Counts so many findings more of a device, which may be a new one.
+pub(crate) fn meet(
+    devices: &mut Vec<SeenDevice>,
+    device: Option<DeviceAddress>,
+    found: usize,
+) -> Result<(), AllocError>
+    ensures { OnOk result (devices.new.items ≡ met device found devices.old.items) }
+{
+    match place_of(devices, device) {
+        Some(place) => devices[place] = devices[place].with_findings(found),
+        None => devices.push(SeenDevice::first(device, found))?,
+    }
+    Ok(())
+}
+
+/// Counts what is wrong in packets.
+pub(crate) fn meet_all(
+    devices: &mut Vec<SeenDevice>,
+    found: &[BusFinding],
+) -> Result<(), AllocError>
+    ensures { OnOk result (devices.new.items ≡ met_all found.now devices.old.items) }
+{
+    for finding in found {
+        meet(devices, finding.device(), 1)?;
+    }
+    Ok(())
+}
+
+/// Which of these devices this is, if it is one of them.
+fn place_of(devices: &[SeenDevice], device: Option<DeviceAddress>) -> Option<usize>
+    ensures { result ≡ position (is_seen_in device) devices.now }
+{
+    devices.iter().position(|seen| seen.is_at(device))
 }

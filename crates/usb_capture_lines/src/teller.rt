@@ -1,7 +1,6 @@
 //! What is known of a recording so far, and what was said of it.
 ghost use Rattle.std.specs.Prelude.{◌≡◌, ◌++◌, ◌∷◌, [], List, Some, None, IfErr, IfOk, OnOk, is_some, length};
 ghost use Rattle.std.specs.Io.KnownBytes.{Appends};
-ghost use Rattle.std.specs.List.{position};
 ghost use Rattle.std.specs.Option.{option_to_list};
 ghost use Rattle.usb_capture.specs.DeviceFiles.{IsLack, IsMade};
 ghost use Rattle.usb_capture.specs.declared.control_transfer.ControlTransfer.{ControlTransfer};
@@ -11,7 +10,7 @@ ghost use Rattle.usb_capture.specs.DeviceReadings.{HasCurrent};
 ghost use Rattle.usb_capture.specs.Findings.{findings};
 ghost use Rattle.usb_text.specs.Output.{Held};
 ghost use Rattle.usb_capture_lines.specs.Observations.{Observed};
-ghost use Rattle.usb_capture_lines.specs.Recordings.{address_of, asked_at, bus_lines, counted, finds_any, first_part, is_seen_in, last_lines, lines_of, met, met_all, met_in, open_lines, over_lines};
+ghost use Rattle.usb_capture_lines.specs.Recordings.{address_of, asked_at, bus_lines, counted, finds_any, first_part, last_lines, lines_of, met, met_all, met_in, open_lines, over_lines};
 ghost use Rattle.usb_capture_lines.specs.Telling.{HasSaid};
 
 use crate::bus_finding::BusFinding;
@@ -19,7 +18,7 @@ use crate::completed::Completed;
 use crate::finding_lines::{put_bus_findings, put_findings};
 use crate::last_lines::{finds_any, put_counts, put_cut, put_devices, put_first_line};
 use crate::observer::Observer;
-use crate::seen_device::SeenDevice;
+use crate::seen_device::{SeenDevice, meet, meet_all};
 use crate::selection::{DeviceAddress, Selection, time_of};
 use crate::tally::Tally;
 use crate::transfer_line::put_transfer;
@@ -149,7 +148,8 @@ impl Teller {
     {
         let found = self.conversations.take(&transfer)?;
         self.say(&transfer, &found, w)?;
-        self.meet(Some(DeviceAddress::of(&transfer)), found.len())?;
+        let device = Some(DeviceAddress::of(&transfer));
+        meet(&mut self.devices, device, found.len())?;
         self.readings.take(transfer)?;
         Ok(())
     }
@@ -161,7 +161,7 @@ impl Teller {
         ensures others { self.new ≡ record self.old { devices = self.new.devices } }
     {
         self.say_findings(found, w)?;
-        self.meet_all(found)?;
+        meet_all(&mut self.devices, found)?;
         Ok(())
     }
 
@@ -172,17 +172,6 @@ impl Teller {
         let mut text = Text::new(self.alloc);
         put_bus_findings(&mut text, &self.selection, self.tally.origin, found)?;
         write_all(w, text.as_bytes())
-    }
-
-    /// Counts what is wrong in packets.
-    fn meet_all(&mut self, found: &[BusFinding]) -> Result<(), AllocError>
-        ensures met { OnOk result (self.new.devices.items ≡ met_all found.now self.old.devices.items) }
-        ensures others { self.new ≡ record self.old { devices = self.new.devices } }
-    {
-        for finding in found {
-            self.meet(finding.device(), 1)?;
-        }
-        Ok(())
     }
 
     /// Writes the lines of a transfer in which this was found.
@@ -203,18 +192,6 @@ impl Teller {
             found,
         )?;
         write_all(w, text.as_bytes())
-    }
-
-    /// Counts so many findings more of a device.
-    fn meet(&mut self, device: Option<DeviceAddress>, found: usize) -> Result<(), AllocError>
-        ensures met { OnOk result (self.new.devices.items ≡ met device found self.old.devices.items) }
-        ensures others { self.new ≡ record self.old { devices = self.new.devices } }
-    {
-        match place_of(&self.devices, device) {
-            Some(place) => self.devices[place] = self.devices[place].with_findings(found),
-            None => self.devices.push(SeenDevice::first(device, found))?,
-        }
-        Ok(())
     }
 
     /// Whether a frame was taken.
@@ -311,11 +288,4 @@ fn put_wanted(
     }
     put_transfer(text, selection.data, origin, transfer)?;
     put_findings(text, found)
-}
-
-/// Which of these devices this is, if it is one of them.
-fn place_of(devices: &[SeenDevice], device: Option<DeviceAddress>) -> Option<usize>
-    ensures { result ≡ position (is_seen_in device) devices.now }
-{
-    devices.iter().position(|seen| seen.is_at(device))
 }
