@@ -14,7 +14,7 @@ ALLOCATED = 2  # SHF_ALLOC
 GROUPS = {
     "a device": r"device_(?!image)\w+",
     "the image of a device": r"device_image",
-    "a device, its image, and another judged beside": r"device_\w+|judge_device",
+    "a device with its image and a judge": r"device_\w+|judge_device",
     "a host": r"host_\w+",
     "both ends": r"(?:device|host)_\w+",
     "a transfer": r"transfer_\w+",
@@ -32,7 +32,7 @@ BOUNDED = ("thumbv7em", "thumbv6m", "riscv32imac")
 BOUNDS = {
     "a device": (5_000, 6_250, 7_750),
     "the image of a device": (33_000, 39_000, 52_000),
-    "a device, its image, and another judged beside": (46_000, 58_000, 74_000),
+    "a device with its image and a judge": (46_000, 58_000, 74_000),
     "a host": (32_000, 40_000, 51_000),
     "both ends": (59_000, 75_000, 96_000),
     "a transfer": (3_000, 3_750, 5_250),
@@ -46,15 +46,11 @@ BOUNDS = {
     "everything": (256_000, 275_000, 337_000),
 }
 # Of a device: all that a program keeps but the room that it lends, and each frame of the calls.
-STRUCT, STRUCT_BOUND, FRAME_BOUNDS = "nzg_device", 330, (200, 220, 240)
+STRUCT, STRUCT_BOUND, FRAME_BOUND = "nzg_device", 330, 200
 
 
 def bound_of(target, group):
     return BOUNDS[group][BOUNDED.index(target)] if target in BOUNDED and group in BOUNDS else None
-
-
-def frame_bound(target):
-    return FRAME_BOUNDS[BOUNDED.index(target)] if target in BOUNDED else None
 
 
 def sections(path):

@@ -55,6 +55,8 @@ OF_X86 = r'"(?:target-cpu|target-features|tune-cpu|probe-stack|stack-probe-size|
 # that is half as large again; a device and a host keep it, without which they take half as many instructions again.
 INLINED = r"\b(?:alwaysinline|inlinehint)\b"
 OF_TEXTS = re.compile(r'define internal [^@]*@"(?:usb_(?:explain|hex|listing|names|remarks|text)|itoa|memchr)::.* (#\d+) \{\n')
+# Nor is what decides about a request, but for the reads that are asked most: it is there once then, with a small frame.
+OF_REQUESTS = re.compile(r'define internal [^@]*@"usb_device::(?:endpoint_zero::EndpointZero::decision|request::Request::(?:change_feature|[gs]et_\w+))"\(.* (#\d+) \{\n')
 
 # The functions for memory. What they get and give on x86-64 is a pair of words; nzg_lowered_alloc and nzg_lowered_realloc are C, in
 # lowered_memory.c, and say no by a null pointer.
@@ -321,8 +323,7 @@ class Lowering:
         if REFUSED.search(re.sub(r'@"[^"]*"', "", line)):
             refuse("a function of this form isn't known", line)
         if line.startswith("define internal "):
-            found = OF_TEXTS.fullmatch(line) if self.size == SIZES["s"] else None
-            return f"{line[: found.start(1)]}{apart(found[1])} {{\n" if found else line
+            return self.inlined(line) if self.size == SIZES["s"] else line
         head = re.fullmatch(r"define (?:noundef )?(zeroext )?(void|ptr|i1|i8|i16|i32|i64) @(\w+)\(([^{}]*)\{\n", line)
         if not head or not PARAMETERS.fullmatch(head[4]):
             refuse("an export of this type isn't known", line)
@@ -332,6 +333,13 @@ class Lowering:
             return f"define void @{name}({rest.replace('ptr ', 'ptr sret([24 x i8]) ', 1)}{{\n"
         if kind in ("i1", "i8", "i16") and not is_widened:
             return line.replace(f"{kind} @", f"zeroext {kind} @", 1)
+        return line
+
+    def inlined(self, line):
+        """The first line of a function of small code, which isn't inlined where that makes it smaller."""
+        for forms, word in ((OF_TEXTS, ""), (OF_REQUESTS, "noinline ")):
+            if found := forms.fullmatch(line):
+                return f"{line[: found.start(1)]}{word}{apart(found[1])} {{\n"
         return line
 
     def ended(self, line):

@@ -10,7 +10,9 @@ ghost use Rattle.usb_device.specs.Transactions.{sent_told, speed_told};
 use crate::answer::{Answer, Verdict, refused_description, refused_file};
 use crate::buffer::fill_done;
 use std::alloc::Global;
-use usb_device::{EndpointZero, Image, NzgPacket, NzgTransaction, sent, speed_of, tell, write_image};
+use usb_device::{
+    EndpointZero, Image, NzgPacket, NzgTransaction, sent, speed_of, tell, write_image,
+};
 use usb_fields::Speed;
 use usb_file::read_file;
 
