@@ -9,13 +9,14 @@ Their `kind` and members, with times in nanoseconds and bytes as hexadecimal dig
     device      bus, device, the number of findings, and descriptors: those that `usbdesc capture --file` writes
     end         cut: place and length of a part that isn't whole; fault
 
-Findings are T1 of a transfer, C1 to C8 of a device's conversation, P1 to P12 of packets. It ends in 1 where something is found, and in
-3 where the file isn't read to its end."""
+Findings are T1 of a transfer, C1 to C8 of a device's conversation, P1 to P12 of packets. It ends in 1 where something is found, in 2
+where the lines can't be written, and in 3 where the file isn't read to its end."""
 from __future__ import annotations
 
 import json
 import sys
 
+from ._output import written
 from .faults import Fault
 from .recordings import Capture
 
@@ -32,32 +33,36 @@ def _members(it) -> dict:
     return {"kind": kind, "bus": bus, "device": device, **members}
 
 
-def _last(capture: Capture, fault: Exception | None):
-    """The lines of the devices, each with its descriptors, and of the end."""
+def _objects(capture: Capture, faults: list[Exception]):
+    """What the lines have: first what is over, then the devices, each with its descriptors, and the end. What stops the reading is
+    among the faults then."""
+    try:
+        for it in capture:
+            yield _members(it)
+    except (Fault, OSError) as fault:
+        faults.append(fault)
     for seen in capture.devices:
         try:
             descriptors = capture.file(*seen.device).hex() if seen.device else None
         except Fault:
             descriptors = None
         yield {**_members(seen), "descriptors": descriptors}
-    yield {"kind": "end", "cut": None if fault else capture.cut, "fault": str(fault) if fault else None}
+    yield {"kind": "end", "cut": None if faults else capture.cut, "fault": str(faults[0]) if faults else None}
 
 
 def main(words: list[str]) -> int:
     if len(words) != 1 or words[0].startswith("-"):
         print(__doc__, file=sys.stderr)
         return 2
-    fault = None
+    faults: list[Exception] = []
     with Capture(words[0]) as capture:
-        try:
-            for it in capture:
-                print(json.dumps(_members(it)))
-        except (Fault, OSError) as it:
-            fault = it
-            print(f"nozzlegorse: {fault}", file=sys.stderr)
-        for line in _last(capture, fault):
-            print(json.dumps(line))
-        return 3 if fault else int(any(seen.findings for seen in capture.devices))
+        failed = written(f"{json.dumps(it)}\n" for it in _objects(capture, faults))
+        if failed:
+            print(f"nozzlegorse.capture: standard output: {failed.strerror}", file=sys.stderr)
+            return 2
+        for fault in faults:
+            print(f"nozzlegorse.capture: {fault}", file=sys.stderr)
+        return 3 if faults else int(any(seen.findings for seen in capture.devices))
 
 
 if __name__ == "__main__":

@@ -16,6 +16,7 @@ import re
 import sys
 
 from . import _library as c
+from ._output import written
 from ._refusals import refusal
 from .command.targets import Refused, targets_of
 from .faults import Fault, done
@@ -68,13 +69,13 @@ class _Words(argparse.ArgumentParser):
         self.exit(2, f"{self.prog}: {message}\n")
 
 
-def _written(text: str, output: str | None) -> None:
-    if output is None:
-        sys.stdout.write(text)
-        sys.stdout.flush()
-        return
-    with open(output, "w", encoding="ascii") as it:
-        it.write(text)
+def _saved(text: str, output: str) -> OSError | None:
+    try:
+        with open(output, "w", encoding="ascii") as it:
+            it.write(text)
+    except OSError as fault:
+        return fault
+    return None
 
 
 def main(words: list[str] | None = None) -> int:
@@ -89,13 +90,14 @@ def main(words: list[str] | None = None) -> int:
     if isinstance(file, Refused):
         parser.error(str(file))
     try:
-        _written(c_text(file.data, given.speed, given.name), given.output)
+        text = c_text(file.data, given.speed, given.name)
     except Fault as fault:
         parser.error(f"{given.file}: {refusal(file.data, fault)}")
     except ValueError as fault:
         parser.error(f"argument --name: {fault}")
-    except OSError as fault:
-        parser.error(f"{fault.filename or 'standard output'}: {fault.strerror}")
+    failed = written([text]) if given.output is None else _saved(text, given.output)
+    if failed:
+        parser.error(f"{given.output or 'standard output'}: {failed.strerror}")
     return 0
 
 
