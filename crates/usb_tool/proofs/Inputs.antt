@@ -15,7 +15,6 @@ use Rattle.usb_tool.specs.Inputs.{Faulty}
 use Rattle.usb_tool.specs.inside.Taking.{IsNone}
 use Rattle.usb_tool.specs.inside.Telling.{EndsWith, IsCut}
 use Rattle.usb_tool.specs.declared.fault.ToolFault.{ToolFault}
-use Rattle.usb_tool.specs.declared.fault.ToolFault.TheVariants as faults
 use Rattle.usb_tool.proofs.Refusals.{IsTold, as_told, cut_short, is_told}
 
 none_shown : (shows : Faulty) (b : List ℕ) (e : InputFault) → shows b e → IsNone shows b (as_told e)

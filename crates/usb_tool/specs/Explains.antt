@@ -1,5 +1,5 @@
 -- What `explain` tells of its input.
-use Rattle.std.specs.Prelude.{◌≡◌, ℕ, List, not, ◌&&◌, Option, Some, None, if◌then◌else◌, codes, ◌⊎◌, Bool, true, false, ◌++◌, length, Ok, Err}
+use Rattle.std.specs.Prelude.{◌≡◌, ℕ, List, not, ◌&&◌, Option, Some, None, codes, ◌⊎◌, Bool, true, false, ◌++◌, length, Ok, Err}
 use Rattle.usb_explain.specs.declared.manner.Manner.{Manner}
 use Rattle.std.specs.Io.KnownBytes.{Appends, Keeps}
 use Rattle.usb_explain.specs.Explanations.{explanation}
