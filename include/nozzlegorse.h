@@ -434,7 +434,7 @@ enum nzg_ending { NZG_NO_END = 0, NZG_ALL_DONE = 1, NZG_WITH_STALL = 2, NZG_WITH
 struct nzg_recorded {
     uint64_t time;       /* of a request when it ended, or began where its end has not come; of a finding in packets when those came */
     uint64_t begun;      /* of a request when the host controller got it */
-    uint64_t count;      /* of a finding in packets the number of its frame, from 1; of a device how many findings it has */
+    nzg_size count;      /* of a finding in packets the number of its frame, from 1; of a device how many findings it has */
     uint32_t length;     /* of a request how many bytes of data came or went; the recording may have fewer */
     uint32_t status;     /* of a request that failed or was not taken: that of the host's system */
     uint16_t bus, device;

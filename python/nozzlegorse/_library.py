@@ -30,7 +30,7 @@ struct nzg_transfer { uint16_t naks, nak_count, kept; uint8_t address, packet, s
 struct nzg_write { struct nzg_transfer transfer; };
 struct nzg_host { void *held; };
 struct nzg_decoder { void *held; };
-struct nzg_recorded { uint64_t time, begun, count; uint32_t length, status; uint16_t bus, device; uint8_t setup[8], ending, finding;
+struct nzg_recorded { uint64_t time, begun; size_t count; uint32_t length, status; uint16_t bus, device; uint8_t setup[8], ending, finding;
     bool is_cut, has_time, has_begun, has_device; };
 struct nzg_capture { void *held; };
 struct nzg_answer nzg_show(const uint8_t *, size_t, bool, uint8_t *, size_t);

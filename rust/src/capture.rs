@@ -138,7 +138,7 @@ impl Capture {
     /// The devices so far, in the order in which they are first seen, each with how many findings it has: `None` of packets of which no
     /// device is known.
     pub fn devices(&mut self) -> Vec<(Option<DeviceAddress>, u64)> {
-        self.all(5).into_iter().map(|(it, _)| (device(&it), it.count)).collect()
+        self.all(5).into_iter().map(|(it, _)| (device(&it), it.count as u64)).collect()
     }
 
     /// The descriptors of a device that came, as `usbdesc capture --file` writes them: a descriptor file, or a dump where strings are
@@ -182,7 +182,7 @@ fn forbidden((it, words): (nzg_recorded, Vec<u8>), in_packets: bool) -> Forbidde
     };
     let message = text_of((Default::default(), words)).expect("no fault");
     let time = Some(it.time).filter(|_| it.has_time);
-    Forbidden { name, message, time, device: device(&it), frame: Some(it.count).filter(|&count| count > 0) }
+    Forbidden { name, message, time, device: device(&it), frame: Some(it.count as u64).filter(|&count| count > 0) }
 }
 
 fn request(it: nzg_recorded, data: Vec<u8>, found: Vec<Forbidden>) -> Request {

@@ -55,7 +55,8 @@ structs! {
     nzg_host { *mut c_void: held; }
     nzg_decoder { *mut c_void: held; }
     nzg_recorded {
-        u64: time begun count;
+        u64: time begun;
+        usize: count;
         u32: length status;
         u16: bus device;
         [u8; 8]: setup;

@@ -16,7 +16,7 @@ pub struct NzgRecorded {
     /// Of a request when it was given to the host controller, in nanoseconds.
     pub begun: u64,
     /// Of a finding in packets the number of its frame, of a device how many findings it has.
-    pub count: u64,
+    pub count: usize,
     /// Of a request how many bytes of data came or went.
     pub length: u32,
     /// Of a request the status of the host's system, where it failed or was refused.
@@ -97,7 +97,7 @@ impl NzgRecorded {
     {
         NzgRecorded {
             time: found.time.unwrap_or(0),
-            count: found.number,
+            count: found.number as usize,
             device: u16::from(found.address.unwrap_or(0)),
             finding: packet_number(found.finding),
             has_time: found.time.is_some(),
@@ -110,7 +110,7 @@ impl NzgRecorded {
     pub(crate) fn of_device(seen: &SeenDevice) -> NzgRecorded
         ensures { result ≡ device_numbers seen.now }
     {
-        let count = seen.findings;
+        let count = seen.findings as usize;
         match seen.address {
             Some(address) => NzgRecorded {
                 count,
