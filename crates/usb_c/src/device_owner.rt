@@ -1,5 +1,5 @@
 //! What the owner of such a device has a say in.
-ghost use Rattle.std.specs.Prelude.{◌≡◌, ◌⊎◌, ℕ, List, None, is_some, length};
+ghost use Rattle.std.specs.Prelude.{◌≡◌, ◌⊎◌, ℕ, List, None, Some, IfErr, OnOk, is_some, length};
 ghost use Rattle.usb_device.specs.Beside.{carried_out_in, refused_in, rejected, unaccepted, unanswered, unfit_bytes, written_in, Gives, accepted, answered};
 ghost use Rattle.usb_device.specs.Offers.{has_head, offer_in};
 ghost use Rattle.usb_device.specs.Requests.{answer_to};
@@ -7,8 +7,8 @@ ghost use Rattle.usb_device.specs.View.{device_of, IsOf};
 ghost use Rattle.usb_c.specs.Answers.{AnswersOn, answer_of};
 ghost use Rattle.usb_c.specs.Devices.{Changes, TellsWrite, setup_told, taken_or};
 
-use crate::answer::{Answer, Verdict};
-use usb_device::{EndpointZero, Image};
+use crate::answer::{Answer, numbers};
+use usb_device::{EndpointZero, Image, Unanswered};
 use usb_fields::Setup;
 
 /// The bytes of a request (USB 2.0, 9.3).
@@ -38,10 +38,7 @@ pub extern "C" fn nzg_device_answer_with(
     ensures answer { (image : List ℕ) → result ≡ answer_of (taken_or (unanswered (unfit_bytes (length kept.old) bytes.now) (refused_in (device_of image kept.old device.old).stage))) }
     ensures same { (result ≡ answer_of (taken_or None)) ⊎ ((device.new ≡ device.old) × (kept.new ≡ kept.old)) }
 {
-    match device.answer_with(kept, bytes) {
-        Ok(()) => Verdict::Done(0).answer(),
-        Err(why) => Verdict::Unanswered(why).answer(),
-    }
+    taken(device.answer_with(kept, bytes))
 }
 
 /// Accepts that request, which has no data or brings some to the device; or the data of a write, once all have come. The room
@@ -52,9 +49,17 @@ pub extern "C" fn nzg_device_accept(device: &mut EndpointZero, room_size: usize)
     ensures answer { (image : List ℕ) → (kept : List ℕ) → result ≡ answer_of (taken_or (unaccepted room_size (device_of image kept device.old).stage)) }
     ensures same { (result ≡ answer_of (taken_or None)) ⊎ (device.new ≡ device.old) }
 {
-    match device.accept(room_size) {
-        Ok(()) => Verdict::Done(0).answer(),
-        Err(why) => Verdict::Unanswered(why).answer(),
+    taken(device.accept(room_size))
+}
+
+/// The numbers that say whether an answer was taken. A device's calls make them without a verdict, which has room for more.
+fn taken(it: Result<(), Unanswered>) -> Answer
+    ensures ok { OnOk it (result ≡ answer_of (taken_or None)) }
+    ensures err { IfErr it (λ why. result ≡ answer_of (taken_or (Some why))) }
+{
+    match it {
+        Ok(()) => numbers(0, 0, 0, 0),
+        Err(why) => numbers(12, why.number(), 0, 0),
     }
 }
 
@@ -68,18 +73,12 @@ pub extern "C" fn nzg_device_written(
 ) -> Answer
     ensures { AnswersOn (λ verdict. (image : List ℕ) → TellsWrite (written_in (device_of image kept.now device.now).stage) setup.old setup.new verdict) result }
 {
-    written(device, kept, setup).answer()
-}
-
-fn written(device: &EndpointZero, kept: &[u8], setup: &mut NzgSetup) -> Verdict
-    ensures { (image : List ℕ) → TellsWrite (written_in (device_of image kept.now device.now).stage) setup.old setup.new result }
-{
     match device.written(kept) {
         Some((request, bytes)) => {
             setup.bytes = request.to_bytes();
-            Verdict::Done(bytes.len())
+            numbers(0, 0, 0, bytes.len())
         }
-        None => Verdict::Open(0),
+        None => numbers(1, 0, 0, 0),
     }
 }
 

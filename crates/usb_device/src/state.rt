@@ -1,7 +1,8 @@
 //! What a device keeps from one request to the next.
-ghost use Rattle.std.specs.Prelude.{◌≡◌};
+ghost use Rattle.std.specs.Prelude.{◌≡◌, fold};
 
-use crate::halts::halt_bit;
+use crate::halts::{changed as changed_halts, halt_bit};
+use crate::image::Image;
 use crate::stage::Change;
 
 /// The state of a device (USB 2.0, 9.1.1): with address 0 it is in the Default state, with another
@@ -30,7 +31,9 @@ pub struct State {
 }
 
 impl State {
-    ghost use Rattle.usb_device.specs.States.{zero, has_address, is_configured};
+    ghost use Rattle.usb_device.specs.States.{zero, has_address, is_configured, without_halt};
+    ghost use Rattle.usb_device.specs.Requests.{interface_addresses, selected_settings};
+    ghost use Rattle.usb_device.specs.Offers.{offer_in};
     ghost use Rattle.usb_device.specs.inside.Reactions.{changed};
 
     /// The state of a new device, and of one after a bus reset.
@@ -75,11 +78,10 @@ impl State {
 
     /// Carries out what a request asks for.
     #[tactic(auto, unfolding(crate::specs::States::first_alternates))]
-    pub(crate) fn change(&mut self, change: Change)
-        ensures { self.new ≡ changed self.old change }
+    pub(crate) fn change(&mut self, image: Image<'_>, change: Change)
+        ensures { self.new ≡ changed image.entry.bytes.now self.old change }
     {
         match change {
-            Change::Nothing => {}
             Change::Address(address) => self.address = address,
             Change::Configuration(value) => {
                 self.selected = value;
@@ -87,11 +89,22 @@ impl State {
                 self.halts = 0;
             }
             Change::Wakeup(on) => self.wakeup = on,
-            Change::Halts(halts) => self.halts = halts,
-            Change::Alternate(number, alternate, halts) => {
+            Change::Halt(endpoint, on) => self.halts = changed_halts(self.halts, endpoint, on),
+            Change::Alternate(number, alternate) => {
+                self.halts = self.halts_without(image, number);
                 self.alternates[usize::from(number)] = alternate;
-                self.halts = halts;
             }
+        }
+    }
+
+    /// The halts without those of the endpoints of an interface.
+    #[inline(always)]
+    fn halts_without(&self, image: Image<'_>, number: u8) -> u32
+        ensures { result ≡ fold without_halt self.now.halts (interface_addresses (selected_settings (offer_in image.entry.bytes.now) self.now) number) }
+    {
+        match image.sets().with_value(self.selected) {
+            Some(c) => c.without_interface(self.halts, number),
+            None => self.halts,
         }
     }
 }
