@@ -10,7 +10,7 @@ mod freedom;
 use crate::halts;
 use crate::image::Image;
 use crate::piece::{Place, find_inlined};
-use crate::sets::Set;
+use crate::sets::{Set, Settings};
 use crate::stage::{Change, Decision};
 use crate::state::State;
 use usb_fields::{Class, Direction, Recipient, Setup, descriptor_type, feature, request};
@@ -27,10 +27,10 @@ pub(crate) struct Request<'r> {
 }
 
 impl<'r> Request<'r> {
-    ghost use Rattle.usb_device.specs.Requests.{answer_to, does, feature_of, get_configuration, get_descriptor, get_interface, get_status, halt_feature, has_value, is_device, is_interface, names_endpoint, names_endpoint_zero, names_interface, row, shown_attributes, set_address, set_configuration, set_interface, status_of_device, status_of_endpoint, status_of_interface, tells, wakeup_feature};
+    ghost use Rattle.usb_device.specs.Requests.{answer_to, does, feature_of, get_configuration, get_descriptor, get_interface, get_status, halt_feature, has_value, is_device, is_interface, names_endpoint, names_endpoint_zero, names_interface, row, selected_settings, shown_attributes, set_address, set_configuration, set_interface, status_of_device, status_of_endpoint, status_of_interface, tells, wakeup_feature};
     ghost use Rattle.usb_device.specs.Offers.{offer_in};
     ghost use Rattle.usb_fields.specs.Setup.{recipient_of};
-    ghost use Rattle.usb_device.specs.inside.Sets.{set_of};
+    ghost use Rattle.usb_device.specs.inside.Sets.{set_of, settings_left};
     ghost use Rattle.usb_device.specs.inside.Places.{IsPlace};
     ghost use Rattle.usb_device.specs.inside.Reactions.{changed, found_outcome, says, AsksFor};
 
@@ -297,11 +297,10 @@ impl<'r> Request<'r> {
         }
         let number = self.setup.index as u8;
         let alternate = self.setup.value as u8;
-        match self.selected() {
-            Some(c) if c.has_alternate(number, alternate) => {
-                self.done(Change::Alternate(number, alternate))
-            }
-            _ => Decision::Refused,
+        if self.settings().has_alternate(number, alternate) {
+            self.done(Change::Alternate(number, alternate))
+        } else {
+            Decision::Refused
         }
     }
 
@@ -363,6 +362,14 @@ impl<'r> Request<'r> {
         self.image.sets().with_value(self.state.selected)
     }
 
+    /// Its settings.
+    #[inline(always)]
+    fn settings(&self) -> Settings<'r>
+        ensures { settings_left result ≡ selected_settings (offer_in self.now.image.bytes.now) self.now.state.now }
+    {
+        self.state.settings(self.image)
+    }
+
     /// bmAttributes of the selected configuration, and where none is selected of the first.
     fn shown_attributes(&self) -> u16
         ensures { result ≡ shown_attributes (offer_in self.now.image.bytes.now) self.now.state.now }
@@ -382,10 +389,7 @@ impl<'r> Request<'r> {
     fn names_interface(&self) -> bool
         ensures { result ≡ names_interface (offer_in self.now.image.bytes.now) self.now.state.now self.now.setup.index }
     {
-        match self.selected() {
-            Some(c) => self.setup.index < 256 && c.has_interface(self.setup.index as u8),
-            None => false,
-        }
+        self.setup.index < 256 && self.settings().has_interface(self.setup.index as u8)
     }
 
     /// Whether wIndex is endpoint zero.
@@ -403,9 +407,10 @@ impl<'r> Request<'r> {
             return None;
         }
         let address = self.setup.index as u8;
-        match self.selected() {
-            Some(c) if c.has_endpoint(&self.state.alternates, address) => Some(address),
-            _ => None,
+        if self.settings().has_endpoint(&self.state.alternates, address) {
+            Some(address)
+        } else {
+            None
         }
     }
 }

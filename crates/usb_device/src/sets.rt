@@ -5,7 +5,7 @@ ghost use Rattle.std.specs.List.{list_any};
 ghost use Rattle.std.specs.Option.{option_map};
 ghost use Rattle.usb_device.specs.inside.Sets.{endpoint_of, endpoints_left, set_of, setting_of, settings_left, sets_left};
 ghost use Rattle.usb_device.specs.Freedoms.{has_isochronous, is_other_setting};
-ghost use Rattle.usb_device.specs.Requests.{address_of, can_wake, has_endpoint, has_value, interface_addresses, is_alternate, is_of_interface};
+ghost use Rattle.usb_device.specs.Requests.{address_of, can_wake, has_endpoint, has_value, interface_addresses, is_alternate, is_of_interface, settings_of};
 ghost use Rattle.usb_device.specs.States.{without_halt};
 
 use crate::halts::without;
@@ -49,6 +49,17 @@ impl<'a> Sets<'a> {
         None
     }
 
+    /// The settings of that one, and none where there is no such.
+    #[tactic(auto, using(crate::proofs::PieceLemmas::no_pieces))]
+    pub(crate) fn settings_of(&self, value: u8) -> Settings<'a>
+        ensures { settings_left result ≡ settings_of (find (has_value value) (sets_left self.now)) }
+    {
+        match self.with_value(value) {
+            Some(set) => set.settings,
+            None => Settings { pieces: &[] },
+        }
+    }
+
     /// Whether one has this bConfigurationValue.
     pub(crate) fn has_value(&self, value: u8) -> bool
         ensures { result ≡ list_any (has_value value) (sets_left self.now) }
@@ -84,82 +95,6 @@ pub(crate) struct Set<'a> {
     pub(crate) settings: Settings<'a>,
 }
 
-impl<'a> Set<'a> {
-    /// Whether an interface has this number.
-    pub(crate) fn has_interface(&self, number: u8) -> bool
-        ensures { result ≡ list_any (is_of_interface number) (set_of self.now).settings }
-    {
-        for setting in self.settings {
-            if setting.number == number {
-                return true;
-            }
-        }
-        false
-    }
-
-    /// Whether an interface with this number has this alternate setting.
-    pub(crate) fn has_alternate(&self, number: u8, alternate: u8) -> bool
-        ensures { result ≡ list_any (is_alternate number alternate) (set_of self.now).settings }
-    {
-        for setting in self.settings {
-            if setting.number == number && setting.alternate == u16::from(alternate) {
-                return true;
-            }
-        }
-        false
-    }
-
-    /// Whether that interface has another one.
-    pub(crate) fn has_other(&self, number: u8, alternate: u8) -> bool
-        ensures { result ≡ list_any (is_other_setting number alternate) (set_of self.now).settings }
-    {
-        for setting in self.settings {
-            if setting.number == number && setting.alternate != u16::from(alternate) {
-                return true;
-            }
-        }
-        false
-    }
-
-    /// Whether a setting that is chosen has an endpoint with this address.
-    pub(crate) fn has_endpoint(&self, alternates: &[u8; 256], address: u8) -> bool
-        ensures { result ≡ list_any (has_endpoint alternates.now address) (set_of self.now).settings }
-    {
-        for setting in self.settings {
-            if setting.has_endpoint(alternates, address) {
-                return true;
-            }
-        }
-        false
-    }
-
-    /// Whether a setting that is chosen has an isochronous endpoint with this address.
-    pub(crate) fn has_isochronous(&self, alternates: &[u8; 256], address: u8) -> bool
-        ensures { result ≡ list_any (has_isochronous alternates.now address) (set_of self.now).settings }
-    {
-        for setting in self.settings {
-            if setting.has_isochronous(alternates, address) {
-                return true;
-            }
-        }
-        false
-    }
-
-    /// The halts without those of the endpoints of all settings of an interface.
-    #[tactic(auto, using(crate::proofs::OfferLemmas::halts_more))]
-    pub(crate) fn without_interface(&self, halts: u32, number: u8) -> u32
-        ensures { result ≡ fold without_halt halts (interface_addresses (set_of self.now).settings number) }
-    {
-        let mut left = halts;
-        for setting in self.settings {
-            if setting.number == number {
-                left = setting.without_endpoints(left);
-            }
-        }
-        left
-    }
-}
-
 /// The settings of a set.
 #[derive(Clone, Copy)]
 pub(crate) struct Settings<'a> {
@@ -181,6 +116,82 @@ impl<'a> Iterator for Settings<'a> {
             alternate: piece.number,
             endpoints: Endpoints { bytes: piece.body },
         })
+    }
+}
+
+impl<'a> Settings<'a> {
+    /// Whether an interface has this number.
+    pub(crate) fn has_interface(&self, number: u8) -> bool
+        ensures { result ≡ list_any (is_of_interface number) (settings_left self.now) }
+    {
+        for setting in *self {
+            if setting.number == number {
+                return true;
+            }
+        }
+        false
+    }
+
+    /// Whether an interface with this number has this alternate setting.
+    pub(crate) fn has_alternate(&self, number: u8, alternate: u8) -> bool
+        ensures { result ≡ list_any (is_alternate number alternate) (settings_left self.now) }
+    {
+        for setting in *self {
+            if setting.number == number && setting.alternate == u16::from(alternate) {
+                return true;
+            }
+        }
+        false
+    }
+
+    /// Whether that interface has another one.
+    pub(crate) fn has_other(&self, number: u8, alternate: u8) -> bool
+        ensures { result ≡ list_any (is_other_setting number alternate) (settings_left self.now) }
+    {
+        for setting in *self {
+            if setting.number == number && setting.alternate != u16::from(alternate) {
+                return true;
+            }
+        }
+        false
+    }
+
+    /// Whether a setting that is chosen has an endpoint with this address.
+    pub(crate) fn has_endpoint(&self, alternates: &[u8; 256], address: u8) -> bool
+        ensures { result ≡ list_any (has_endpoint alternates.now address) (settings_left self.now) }
+    {
+        for setting in *self {
+            if setting.has_endpoint(alternates, address) {
+                return true;
+            }
+        }
+        false
+    }
+
+    /// Whether a setting that is chosen has an isochronous endpoint with this address.
+    pub(crate) fn has_isochronous(&self, alternates: &[u8; 256], address: u8) -> bool
+        ensures { result ≡ list_any (has_isochronous alternates.now address) (settings_left self.now) }
+    {
+        for setting in *self {
+            if setting.has_isochronous(alternates, address) {
+                return true;
+            }
+        }
+        false
+    }
+
+    /// The halts without those of the endpoints of all settings of an interface.
+    #[tactic(auto, using(crate::proofs::OfferLemmas::halts_more))]
+    pub(crate) fn without_interface(&self, halts: u32, number: u8) -> u32
+        ensures { result ≡ fold without_halt halts (interface_addresses (settings_left self.now) number) }
+    {
+        let mut left = halts;
+        for setting in *self {
+            if setting.number == number {
+                left = setting.without_endpoints(left);
+            }
+        }
+        left
     }
 }
 

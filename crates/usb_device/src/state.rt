@@ -1,8 +1,9 @@
 //! What a device keeps from one request to the next.
-ghost use Rattle.std.specs.Prelude.{◌≡◌, fold};
+ghost use Rattle.std.specs.Prelude.{◌≡◌};
 
 use crate::halts::{changed as changed_halts, halt_bit};
 use crate::image::Image;
+use crate::sets::Settings;
 use crate::stage::Change;
 
 /// The state of a device (USB 2.0, 9.1.1): with address 0 it is in the Default state, with another
@@ -31,8 +32,9 @@ pub struct State {
 }
 
 impl State {
-    ghost use Rattle.usb_device.specs.States.{zero, has_address, is_configured, without_halt};
-    ghost use Rattle.usb_device.specs.Requests.{interface_addresses, selected_settings};
+    ghost use Rattle.usb_device.specs.States.{zero, has_address, is_configured};
+    ghost use Rattle.usb_device.specs.inside.Sets.{settings_left};
+    ghost use Rattle.usb_device.specs.Requests.{selected_settings};
     ghost use Rattle.usb_device.specs.Offers.{offer_in};
     ghost use Rattle.usb_device.specs.inside.Reactions.{changed};
 
@@ -91,21 +93,19 @@ impl State {
             Change::Wakeup(on) => self.wakeup = on,
             Change::Halt(endpoint, on) => self.halts = changed_halts(self.halts, endpoint, on),
             Change::Alternate(number, alternate) => {
-                self.halts = self.halts_without(image, number);
+                let settings = self.settings(image);
+                self.halts = settings.without_interface(self.halts, number);
                 self.alternates[usize::from(number)] = alternate;
             }
         }
     }
 
-    /// The halts without those of the endpoints of an interface.
-    #[inline(always)]
-    fn halts_without(&self, image: Image<'_>, number: u8) -> u32
-        ensures { result ≡ fold without_halt self.now.halts (interface_addresses (selected_settings (offer_in image.entry.bytes.now) self.now) number) }
+    /// The settings of the selected configuration.
+    #[inline(never)]
+    pub(crate) fn settings<'a>(&self, image: Image<'a>) -> Settings<'a>
+        ensures { settings_left result ≡ selected_settings (offer_in image.entry.bytes.now) self.now }
     {
-        match image.sets().with_value(self.selected) {
-            Some(c) => c.without_interface(self.halts, number),
-            None => self.halts,
-        }
+        image.sets().settings_of(self.selected)
     }
 }
 
