@@ -2,7 +2,6 @@
 //!
 //! The functions are inlined, so that a response, which is of several shapes, needs no room in memory.
 ghost use Rattle.std.specs.Prelude.{◌≡◌, ◌∷◌, [], find, IfSome, if◌then◌else◌};
-ghost use Rattle.std.specs.Option.{option_map};
 ghost use Rattle.usb_device.specs.Step.{is_set_address};
 
 mod freedom;
@@ -10,7 +9,7 @@ mod freedom;
 use crate::halts;
 use crate::image::Image;
 use crate::piece::{Place, find_inlined};
-use crate::sets::{Set, Settings};
+use crate::sets::Settings;
 use crate::stage::{Change, Decision};
 use crate::state::State;
 use usb_fields::{Class, Direction, Recipient, Setup, descriptor_type, feature, request};
@@ -30,7 +29,7 @@ impl<'r> Request<'r> {
     ghost use Rattle.usb_device.specs.Requests.{answer_to, does, feature_of, get_configuration, get_descriptor, get_interface, get_status, halt_feature, has_value, is_device, is_interface, names_endpoint, names_endpoint_zero, names_interface, row, selected_settings, shown_attributes, set_address, set_configuration, set_interface, status_of_device, status_of_endpoint, status_of_interface, tells, wakeup_feature};
     ghost use Rattle.usb_device.specs.Offers.{offer_in};
     ghost use Rattle.usb_fields.specs.Setup.{recipient_of};
-    ghost use Rattle.usb_device.specs.inside.Sets.{set_of, settings_left};
+    ghost use Rattle.usb_device.specs.inside.Sets.{settings_left};
     ghost use Rattle.usb_device.specs.inside.Places.{IsPlace};
     ghost use Rattle.usb_device.specs.inside.Reactions.{changed, found_outcome, says, AsksFor};
 
@@ -355,14 +354,7 @@ impl<'r> Request<'r> {
         matches!(self.setup.recipient(), Recipient::Interface)
     }
 
-    /// The selected configuration.
-    fn selected(&self) -> Option<Set<'r>>
-        ensures { option_map set_of result ≡ find (has_value self.now.state.now.selected) (offer_in self.now.image.bytes.now).sets }
-    {
-        self.image.sets().with_value(self.state.selected)
-    }
-
-    /// Its settings.
+    /// The settings of the selected configuration.
     #[inline(always)]
     fn settings(&self) -> Settings<'r>
         ensures { settings_left result ≡ selected_settings (offer_in self.now.image.bytes.now) self.now.state.now }
@@ -374,12 +366,11 @@ impl<'r> Request<'r> {
     fn shown_attributes(&self) -> u16
         ensures { result ≡ shown_attributes (offer_in self.now.image.bytes.now) self.now.state.now }
     {
-        let shown = if self.state.is_configured() {
-            self.selected()
-        } else {
-            self.image.sets().next()
-        };
-        match shown {
+        let mut sets = self.image.sets();
+        if self.state.is_configured() {
+            return sets.attributes_of(self.state.selected);
+        }
+        match sets.next() {
             Some(c) => c.attributes,
             None => 0,
         }

@@ -2,10 +2,9 @@
 ghost use Rattle.std.specs.Prelude.{◌≡◌, find, fold, map};
 ghost use Rattle.std.specs.Iterator.{YieldsFirstBy, item_count};
 ghost use Rattle.std.specs.List.{list_any};
-ghost use Rattle.std.specs.Option.{option_map};
 ghost use Rattle.usb_device.specs.inside.Sets.{endpoint_of, endpoints_left, set_of, setting_of, settings_left, sets_left};
 ghost use Rattle.usb_device.specs.Freedoms.{has_isochronous, is_other_setting};
-ghost use Rattle.usb_device.specs.Requests.{address_of, can_wake, has_endpoint, has_value, interface_addresses, is_alternate, is_of_interface, settings_of};
+ghost use Rattle.usb_device.specs.Requests.{address_of, attributes_of, can_wake, has_endpoint, has_value, interface_addresses, is_alternate, is_of_interface, settings_of};
 ghost use Rattle.usb_device.specs.States.{without_halt};
 
 use crate::halts::without;
@@ -37,27 +36,29 @@ impl<'a> Iterator for Sets<'a> {
 }
 
 impl<'a> Sets<'a> {
-    /// The first with this bConfigurationValue.
-    pub(crate) fn with_value(&self, value: u8) -> Option<Set<'a>>
-        ensures { option_map set_of result ≡ find (has_value value) (sets_left self.now) }
-    {
-        for set in *self {
-            if set.value == value {
-                return Some(set);
-            }
-        }
-        None
-    }
-
-    /// The settings of that one, and none where there is no such.
+    /// The settings of the first with this bConfigurationValue, and none where there is no such.
     #[tactic(auto, using(crate::proofs::PieceLemmas::no_pieces))]
     pub(crate) fn settings_of(&self, value: u8) -> Settings<'a>
         ensures { settings_left result ≡ settings_of (find (has_value value) (sets_left self.now)) }
     {
-        match self.with_value(value) {
-            Some(set) => set.settings,
-            None => Settings { pieces: &[] },
+        for set in *self {
+            if set.value == value {
+                return set.settings;
+            }
         }
+        Settings { pieces: &[] }
+    }
+
+    /// bmAttributes of the first with this bConfigurationValue, and 0 where there is no such.
+    pub(crate) fn attributes_of(&self, value: u8) -> u16
+        ensures { result ≡ attributes_of (find (has_value value) (sets_left self.now)) }
+    {
+        for set in *self {
+            if set.value == value {
+                return set.attributes;
+            }
+        }
+        0
     }
 
     /// Whether one has this bConfigurationValue.
