@@ -1,5 +1,5 @@
 //! What the owner of such a device has a say in.
-ghost use Rattle.std.specs.Prelude.{◌≡◌, ◌⊎◌, ℕ, List, None, Some, IfErr, OnOk, is_some, length};
+ghost use Rattle.std.specs.Prelude.{◌≡◌, ◌⊎◌, ℕ, List, None, is_some, length};
 ghost use Rattle.usb_device.specs.Beside.{carried_out_in, refused_in, rejected, unaccepted, unanswered, unfit_bytes, written_in, Gives, accepted, answered};
 ghost use Rattle.usb_device.specs.Offers.{has_head, offer_in};
 ghost use Rattle.usb_device.specs.Requests.{answer_to};
@@ -8,7 +8,7 @@ ghost use Rattle.usb_c.specs.Answers.{AnswersOn, answer_of};
 ghost use Rattle.usb_c.specs.Devices.{Changes, TellsWrite, setup_told, taken_or};
 
 use crate::answer::{Answer, numbers};
-use usb_device::{EndpointZero, Image, Unanswered};
+use usb_device::{EndpointZero, Image};
 use usb_fields::Setup;
 
 /// The bytes of a request (USB 2.0, 9.3).
@@ -38,7 +38,10 @@ pub extern "C" fn nzg_device_answer_with(
     ensures answer { (image : List ℕ) → result ≡ answer_of (taken_or (unanswered (unfit_bytes (length kept.old) bytes.now) (refused_in (device_of image kept.old device.old).stage))) }
     ensures same { (result ≡ answer_of (taken_or None)) ⊎ ((device.new ≡ device.old) × (kept.new ≡ kept.old)) }
 {
-    taken(device.answer_with(kept, bytes))
+    match device.answer_with(kept, bytes) {
+        Ok(()) => numbers(0, 0, 0, 0),
+        Err(why) => numbers(12, why.number(), 0, 0),
+    }
 }
 
 /// Accepts that request, which has no data or brings some to the device; or the data of a write, once all have come. The room
@@ -49,15 +52,7 @@ pub extern "C" fn nzg_device_accept(device: &mut EndpointZero, room_size: usize)
     ensures answer { (image : List ℕ) → (kept : List ℕ) → result ≡ answer_of (taken_or (unaccepted room_size (device_of image kept device.old).stage)) }
     ensures same { (result ≡ answer_of (taken_or None)) ⊎ (device.new ≡ device.old) }
 {
-    taken(device.accept(room_size))
-}
-
-/// The numbers that say whether an answer was taken. A device's calls make them without a verdict, which has room for more.
-fn taken(it: Result<(), Unanswered>) -> Answer
-    ensures ok { OnOk it (result ≡ answer_of (taken_or None)) }
-    ensures err { IfErr it (λ why. result ≡ answer_of (taken_or (Some why))) }
-{
-    match it {
+    match device.accept(room_size) {
         Ok(()) => numbers(0, 0, 0, 0),
         Err(why) => numbers(12, why.number(), 0, 0),
     }
