@@ -398,7 +398,10 @@ impl<'r> Request<'r> {
             return None;
         }
         let address = self.setup.index as u8;
-        if self.settings().has_endpoint(&self.state.alternates, address) {
+        if self
+            .settings()
+            .has_endpoint(&self.state.alternates, address)
+        {
             Some(address)
         } else {
             None
