@@ -52,11 +52,25 @@ DECLARED = re.compile(r"rattle_(?:re|de)?alloc|llvm\.(?:mem(?:set|move|cpy)|trap
 # Attributes that say something of x86-64, or ask for what isn't there elsewhere.
 OF_X86 = r'"(?:target-cpu|target-features|tune-cpu|probe-stack|stack-probe-size|frame-pointer)"="[^"]*"|\b(?:sanitize_address|uwtable(?:\(\w+\))?)\b'
 # What the sources say is inlined, for speed. In the smallest code none of it is. In small code what writes and reads texts isn't, by which
-# that is half as large again; a device and a host keep it, without which they take half as many instructions again.
+# that is half as large again, nor is a search for a piece; a device and a host keep it, without which they take half as many instructions again.
 INLINED = r"\b(?:alwaysinline|inlinehint)\b"
-OF_TEXTS = re.compile(r'define internal [^@]*@"(?:usb_(?:explain|hex|listing|names|remarks|text)|itoa|memchr)::.* (#\d+) \{\n')
-# Nor is what decides about a request, but for the reads that are asked most: it is there once then, with a small frame.
-OF_REQUESTS = re.compile(r'define internal [^@]*@"usb_device::(?:endpoint_zero::EndpointZero::decision|request::Request::(?:change_feature|[gs]et_\w+))"\(.* (#\d+) \{\n')
+OF_TEXTS = re.compile(r'define internal [^@]*@"(?:(?:usb_(?:explain|hex|listing|names|remarks|text)|itoa|memchr)::|usb_device::piece::find_inlined").* (#\d+) \{\n')
+# Nor is what decides about a request, and what a device does in several calls: each is there once then, with a small frame.
+OF_DEVICES = re.compile(
+    r'define internal [^@]*@"(?:usb_device::(?:endpoint_zero::EndpointZero::(?:begin_data|decision|packet)'
+    r"|request::Request::(?:change_feature|[gs]et_\w+|shown_attributes)|sets::Set(?:ting)?sIterator::next|string_table::number_at)|usb_fields::bytes::after"
+    r'|core::slice::edits::copy_over::<i8,[^"]*)"\(.* (#\d+) \{\n'
+)
+# What is smaller where it is called than a call of it.
+OF_CALLS = re.compile(
+    r'define internal [^@]*@"(?:usb_device::(?:endpoint_zero::EndpointZero::(?:begin_other|found|is_left|sends_status)'
+    r'|transaction::(?:sent|tell))|usb_fields::setup::Setup::(?:class|direction|from_bytes|recipient))"\(.* (#\d+) \{\n'
+)
+# What is smaller in some of the places where it is called.
+OF_FEW = re.compile(r'define internal [^@]*@"usb_device::(?:beside::is_open|sets::Settings::has_alternate)"\(.* (#\d+) \{\n')
+
+# Two kinds of a function's attributes more: those without what is inlined, and those that don't say either.
+APART, JOINED = 7, 8
 
 # The functions for memory. What they get and give on x86-64 is a pair of words; nzg_lowered_alloc and nzg_lowered_realloc are C, in
 # lowered_memory.c, and say no by a null pointer.
@@ -163,9 +177,9 @@ def constant(line):
     return f"{cut[1]}<{{ {', '.join(kinds)} }}> <{{ {', '.join(values)} }}>{cut[4]}\n"
 
 
-def apart(number):
-    """The attributes of a number without what is inlined."""
-    return f"{number}000"
+def numbered(number, kind):
+    """The number of a kind of attributes, which no other has."""
+    return f"#{kind}{number[1:]:0>4}"
 
 
 RULES = {}
@@ -336,10 +350,10 @@ class Lowering:
         return line
 
     def inlined(self, line):
-        """The first line of a function of small code, which isn't inlined where that makes it smaller."""
-        for forms, word in ((OF_TEXTS, ""), (OF_REQUESTS, "noinline ")):
+        """The first line of a function of small code, which is inlined or not as makes it smaller."""
+        for forms, word, kind in ((OF_TEXTS, "", APART), (OF_DEVICES, "noinline ", APART), (OF_CALLS, "alwaysinline ", JOINED), (OF_FEW, "inlinehint ", JOINED)):
             if found := forms.fullmatch(line):
-                return f"{line[: found.start(1)]}{word}{apart(found[1])} {{\n"
+                return f"{line[: found.start(1)]}{word}{numbered(found[1], kind)} {{\n"
         return line
 
     def ended(self, line):
@@ -358,7 +372,10 @@ class Lowering:
         unwinding = "" if "nounwind" in kept else "nounwind "
         made = kept.replace("{ ", f"{{ {unwinding}{self.size}", 1)
         number = line.split()[1]
-        return made + (re.sub(INLINED, "", made).replace(number, apart(number), 1) if self.size == SIZES["s"] else "")
+        if self.size != SIZES["s"]:
+            return made
+        plain = re.sub(INLINED, "", made)
+        return made + plain.replace(number, numbered(number, APART), 1) + re.sub(r"\bnoinline\b", "", plain).replace(number, numbered(number, JOINED), 1)
 
     def outside(self, line):
         """A line outside of functions."""

@@ -76,7 +76,8 @@ pub enum Verdict {
 }
 
 /// Four numbers, the third of them a place.
-fn numbers(status: u32, number: u8, place: usize, length: usize) -> Answer
+#[inline]
+pub(crate) fn numbers(status: u32, number: u8, place: usize, length: usize) -> Answer
     ensures { result ≡ numbers status number place length }
 {
     Answer {

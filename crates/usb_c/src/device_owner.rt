@@ -7,7 +7,7 @@ ghost use Rattle.usb_device.specs.View.{device_of, IsOf};
 ghost use Rattle.usb_c.specs.Answers.{AnswersOn, answer_of};
 ghost use Rattle.usb_c.specs.Devices.{Changes, TellsWrite, setup_told, taken_or};
 
-use crate::answer::{Answer, Verdict};
+use crate::answer::{Answer, numbers};
 use usb_device::{EndpointZero, Image};
 use usb_fields::Setup;
 
@@ -39,8 +39,8 @@ pub extern "C" fn nzg_device_answer_with(
     ensures same { (result ≡ answer_of (taken_or None)) ⊎ ((device.new ≡ device.old) × (kept.new ≡ kept.old)) }
 {
     match device.answer_with(kept, bytes) {
-        Ok(()) => Verdict::Done(0).answer(),
-        Err(why) => Verdict::Unanswered(why).answer(),
+        Ok(()) => numbers(0, 0, 0, 0),
+        Err(why) => numbers(12, why.number(), 0, 0),
     }
 }
 
@@ -53,8 +53,8 @@ pub extern "C" fn nzg_device_accept(device: &mut EndpointZero, room_size: usize)
     ensures same { (result ≡ answer_of (taken_or None)) ⊎ (device.new ≡ device.old) }
 {
     match device.accept(room_size) {
-        Ok(()) => Verdict::Done(0).answer(),
-        Err(why) => Verdict::Unanswered(why).answer(),
+        Ok(()) => numbers(0, 0, 0, 0),
+        Err(why) => numbers(12, why.number(), 0, 0),
     }
 }
 
@@ -68,18 +68,12 @@ pub extern "C" fn nzg_device_written(
 ) -> Answer
     ensures { AnswersOn (λ verdict. (image : List ℕ) → TellsWrite (written_in (device_of image kept.now device.now).stage) setup.old setup.new verdict) result }
 {
-    written(device, kept, setup).answer()
-}
-
-fn written(device: &EndpointZero, kept: &[u8], setup: &mut NzgSetup) -> Verdict
-    ensures { (image : List ℕ) → TellsWrite (written_in (device_of image kept.now device.now).stage) setup.old setup.new result }
-{
     match device.written(kept) {
         Some((request, bytes)) => {
             setup.bytes = request.to_bytes();
-            Verdict::Done(bytes.len())
+            numbers(0, 0, 0, bytes.len())
         }
-        None => Verdict::Open(0),
+        None => numbers(1, 0, 0, 0),
     }
 }
 

@@ -1,10 +1,10 @@
 //! The device's end of the control transfers of endpoint zero.
-ghost use Rattle.std.specs.Prelude.{◌≡◌, ◌<◌, ◌≤◌, ◌==◌, ℕ, List, true, false, if◌then◌else◌, [], take, length};
+ghost use Rattle.std.specs.Prelude.{◌≡◌, ◌<◌, ◌≤◌, ◌==◌, ℕ, List, true, false, if◌then◌else◌, [], take, length, IfSome};
 ghost use Rattle.usb_fields.specs.Packets.{sent_of, StallReply, DataReply};
 ghost use Rattle.usb_fields.specs.Setup.{setup_of};
 ghost use Rattle.usb_fields.specs.declared.packet.Toggle.TheVariants.{Data1};
 ghost use Rattle.usb_device.specs.Offers.{offer_in, packet_in};
-ghost use Rattle.usb_device.specs.Requests.{answer_to};
+ghost use Rattle.usb_device.specs.Requests.{answer_to, get_descriptor};
 ghost use Rattle.usb_device.specs.Step.{begun, carried_out, Sending};
 ghost use Rattle.usb_device.specs.Stages.{request_of, stage_at};
 
@@ -67,7 +67,7 @@ impl EndpointZero {
     ghost use Rattle.usb_device.specs.Step.{new_device};
     ghost use Rattle.usb_device.specs.View.{acked_over, served_over, device_of, replied, IsOf};
     ghost use Rattle.usb_device.specs.inside.Places.{bytes_at, IsPlace};
-    ghost use Rattle.usb_device.specs.inside.Reactions.{is_sending, outcome_of, received_by, sent_by, IsAsked};
+    ghost use Rattle.usb_device.specs.inside.Reactions.{found_outcome, is_sending, outcome_of, received_by, sent_by, IsAsked};
 
     /// That of a new device.
     pub fn new() -> EndpointZero
@@ -166,8 +166,8 @@ impl EndpointZero {
             state: &self.state,
             setup: Setup::from_bytes(&bytes),
         };
-        match request.decide_read() {
-            Some(decision) => self.enter(image, decision),
+        match request.find_read() {
+            Some(found) => self.enter_found(image, found),
             None => self.begin_other(image),
         }
     }
@@ -196,6 +196,34 @@ impl EndpointZero {
         request.decide()
     }
 
+    /// What GET_DESCRIPTOR finds, where that is the request.
+    #[inline(never)]
+    fn found(&self, image: Image<'_>) -> Option<Place>
+        ensures answer { found_outcome image.entry.bytes.now self.now.state (request_of self.now) result ≡ get_descriptor (offer_in image.entry.bytes.now) self.now.state (request_of self.now) }
+        ensures within { IfSome result (IsPlace image.entry.bytes.now) }
+    {
+        let request = Request {
+            image,
+            state: &self.state,
+            setup: Setup::from_bytes(&self.request),
+        };
+        request.get_descriptor()
+    }
+
+    /// The transfer of GET_DESCRIPTOR, which finds this.
+    #[inline(always)]
+    fn enter_found(&mut self, image: Image<'_>, found: Option<Place>)
+        requires { IfSome found (IsPlace image.bytes.now) }
+        ensures device { (room : List ℕ) → device_of image.entry.bytes.now room self.new ≡ record (device_of image.entry.bytes.now room self.old) { stage = begun (request_of self.old) (found_outcome image.entry.bytes.now self.old.state (request_of self.old) found) } }
+        ensures of { (room : List ℕ) → 0 < packet_in image.entry.bytes.now → IsOf image.entry.bytes.now room self.new }
+    {
+        match found {
+            Some(_) if self.setup().length == 0 => self.wait(Stage::StatusIn),
+            Some(place) => self.send_descriptor(image, place),
+            None => self.wait(Stage::Halted),
+        }
+    }
+
     /// The transfer of the request, about which this is decided.
     #[inline(always)]
     fn enter(&mut self, image: Image<'_>, decision: Decision)
@@ -204,7 +232,10 @@ impl EndpointZero {
         ensures of { (room : List ℕ) → 0 < packet_in image.entry.bytes.now → IsOf image.entry.bytes.now room self.new }
     {
         match decision {
-            Decision::Descriptor(place) => self.send_descriptor(image, place),
+            Decision::Descriptor => {
+                let found = self.found(image);
+                self.enter_found(image, found);
+            }
             Decision::Byte(byte) => self.send_own(image, [byte, 0], 1),
             Decision::Status(first) => self.send_own(image, [first, 0], 2),
             Decision::Done(_) => self.wait(Stage::StatusIn),
@@ -356,7 +387,7 @@ impl EndpointZero {
         ensures { self.new ≡ record self.old { state = carried_out self.old.state (answer_to (offer_in image.entry.bytes.now) self.old.state (request_of self.old)) } }
     {
         if let Decision::Done(change) = self.decision(image) {
-            self.state.change(change);
+            self.state.change(image, change);
         }
     }
 

@@ -7,7 +7,7 @@ ghost use Rattle.usb_device.specs.inside.Places.{bytes_at, IsPlace};
 ghost use Rattle.usb_device.specs.inside.Sets.{sets_left};
 
 use crate::file_image::{HEAD, LANGUAGE, SETS, VERSION};
-use crate::piece::{Place, find, find_inlined};
+use crate::piece::{Place, find};
 use crate::sets::Sets;
 use crate::string_table;
 use usb_fields::{descriptor_type, word_at};
@@ -99,7 +99,7 @@ fn find_string(pieces: &[u8], index: u8, language: u16) -> Option<Place>
     ensures found { option_map (bytes_at pieces.now) result ≡ option_and_then (string_in index) (find_in (pieces_of pieces.now) 128 0 language) }
     ensures within { IfSome result (IsPlace pieces.now) }
 {
-    let strings = find_inlined(pieces, LANGUAGE, 0, language)?;
+    let strings = find(pieces, LANGUAGE, 0, language)?;
     let place = string_table::find(strings.bytes(pieces), index)?;
     Some(Place {
         start: strings.start + place.start,

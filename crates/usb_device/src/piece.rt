@@ -5,7 +5,7 @@ ghost use Rattle.usb_device.specs.Images.{body_of, count_in, find_in, has_key, h
 ghost use Rattle.usb_device.specs.inside.Places.{bytes_at, piece_of, IsPlace};
 
 use std::alloc::AllocError;
-use usb_fields::{after, byte_at, prefix, word_at, word_bytes};
+use usb_fields::{after, byte_at, word_at, word_bytes};
 
 /// How many bytes there are before those of a piece.
 const HEADER: usize = 8;
@@ -84,15 +84,25 @@ pub(crate) fn first(pieces: &[u8]) -> Option<(Piece<'_>, &[u8])>
     if pieces.len() < HEADER {
         return None;
     }
-    let ahead = after(pieces, HEADER);
-    let count = count(pieces);
+    let (body, later) = cut(after(pieces, HEADER), count(pieces));
     let piece = Piece {
         kind: byte_at(pieces, 0),
         index: byte_at(pieces, 1),
         number: word_at(pieces, 2),
-        body: prefix(ahead, count),
+        body,
     };
-    Some((piece, after(ahead, count)))
+    Some((piece, later))
+}
+
+/// The first so many bytes, or all if there are fewer, and the others.
+#[tactic(auto, using(std::proofs::lemmas::List::take_min, std::proofs::lemmas::List::drop_min))]
+#[inline(always)]
+fn cut(bytes: &[u8], count: usize) -> (&[u8], &[u8])
+    ensures first { result.0.now ≡ take count bytes.now }
+    ensures others { result.1.now ≡ drop count bytes.now }
+{
+    let count = count.min(bytes.len());
+    (&bytes[..count], &bytes[count..])
 }
 
 /// The place of the bytes of the first of the pieces that these numbers name.

@@ -2,15 +2,14 @@
 //!
 //! The functions are inlined, so that a response, which is of several shapes, needs no room in memory.
 ghost use Rattle.std.specs.Prelude.{◌≡◌, ◌∷◌, [], find, IfSome, if◌then◌else◌};
-ghost use Rattle.std.specs.Option.{option_map};
 ghost use Rattle.usb_device.specs.Step.{is_set_address};
 
 mod freedom;
 
 use crate::halts;
 use crate::image::Image;
-use crate::piece::find_inlined;
-use crate::sets::Set;
+use crate::piece::{Place, find_inlined};
+use crate::sets::Settings;
 use crate::stage::{Change, Decision};
 use crate::state::State;
 use usb_fields::{Class, Direction, Recipient, Setup, descriptor_type, feature, request};
@@ -27,11 +26,12 @@ pub(crate) struct Request<'r> {
 }
 
 impl<'r> Request<'r> {
-    ghost use Rattle.usb_device.specs.Requests.{answer_to, does, feature_of, get_configuration, get_descriptor, get_interface, get_status, halt_feature, has_value, is_device, is_interface, names_endpoint, names_endpoint_zero, names_interface, row, shown_attributes, set_address, set_configuration, set_interface, status_of_device, status_of_endpoint, status_of_interface, tells, wakeup_feature};
+    ghost use Rattle.usb_device.specs.Requests.{answer_to, does, feature_of, get_configuration, get_descriptor, get_interface, get_status, halt_feature, has_value, is_device, is_interface, names_endpoint, names_endpoint_zero, names_interface, row, selected_settings, shown_attributes, set_address, set_configuration, set_interface, status_of_device, status_of_endpoint, status_of_interface, tells, wakeup_feature};
     ghost use Rattle.usb_device.specs.Offers.{offer_in};
     ghost use Rattle.usb_fields.specs.Setup.{recipient_of};
-    ghost use Rattle.usb_device.specs.inside.Sets.{set_of};
-    ghost use Rattle.usb_device.specs.inside.Reactions.{changed, says, AsksFor};
+    ghost use Rattle.usb_device.specs.inside.Sets.{settings_left};
+    ghost use Rattle.usb_device.specs.inside.Places.{IsPlace};
+    ghost use Rattle.usb_device.specs.inside.Reactions.{changed, found_outcome, says, AsksFor};
 
     /// The answer.
     #[tactic(auto, unfolding(crate::specs::Requests::answer_to, crate::specs::Requests::answer_of))]
@@ -46,26 +46,22 @@ impl<'r> Request<'r> {
         }
     }
 
-    /// The answer to GET_DESCRIPTOR for a device descriptor or a set, and `None` to any other request.
+    /// What GET_DESCRIPTOR finds for a device descriptor or a set, and `None` for any other request.
     #[tactic(auto, unfolding(crate::specs::Requests::answer_to, crate::specs::Requests::answer_of))]
     #[inline(always)]
-    pub(crate) fn decide_read(&self) -> Option<Decision>
-        ensures answer { IfSome result (λ d. says self.now d ≡ answer_to (offer_in self.now.image.bytes.now) self.now.state.now self.now.setup) }
-        ensures asked { IfSome result (AsksFor self.now) }
+    pub(crate) fn find_read(&self) -> Option<Option<Place>>
+        ensures answer { IfSome result (λ found. found_outcome self.now.image.bytes.now self.now.state.now self.now.setup found ≡ answer_to (offer_in self.now.image.bytes.now) self.now.state.now self.now.setup) }
+        ensures within { IfSome result (λ found. IfSome found (IsPlace self.now.image.bytes.now)) }
     {
         let [index, kind] = self.setup.value.to_le_bytes();
         let is_read = self.setup.request_type == READ_OF_DEVICE
             && self.setup.request == request::GET_DESCRIPTOR
             && (kind == descriptor_type::DEVICE || kind == descriptor_type::CONFIGURATION);
-        if !is_read {
-            return None;
+        if is_read {
+            Some(find_inlined(self.image.bytes, kind, index, 0))
+        } else {
+            None
         }
-        let decision = match find_inlined(self.image.bytes, kind, index, 0) {
-            Some(_) if self.setup.length == 0 => Decision::Done(Change::Nothing),
-            Some(place) => Decision::Descriptor(place),
-            None => Decision::Refused,
-        };
-        Some(decision)
     }
 
     /// The answer to a standard request, by bRequest (table 9-4).
@@ -79,7 +75,7 @@ impl<'r> Request<'r> {
             request::CLEAR_FEATURE => self.change_feature(false),
             request::SET_FEATURE => self.change_feature(true),
             request::SET_ADDRESS => self.set_address(),
-            request::GET_DESCRIPTOR => self.get_descriptor(),
+            request::GET_DESCRIPTOR => Decision::Descriptor,
             request::GET_CONFIGURATION => self.get_configuration(),
             request::SET_CONFIGURATION => self.set_configuration(),
             request::GET_INTERFACE => self.get_interface(),
@@ -196,11 +192,7 @@ impl<'r> Request<'r> {
             return Decision::Refused;
         }
         match self.endpoint() {
-            Some(endpoint) => self.done(Change::Halts(halts::changed(
-                self.state.halts,
-                endpoint,
-                on,
-            ))),
+            Some(endpoint) => self.done(Change::Halt(endpoint, on)),
             None => Decision::Refused,
         }
     }
@@ -222,24 +214,18 @@ impl<'r> Request<'r> {
         }
     }
 
-    /// GET_DESCRIPTOR (9.4.3).
+    /// GET_DESCRIPTOR (9.4.3): where that is, or `None` where it is refused.
     #[inline(always)]
-    fn get_descriptor(&self) -> Decision
-        ensures answer { says self.now result ≡ get_descriptor (offer_in self.now.image.bytes.now) self.now.state.now self.now.setup }
-        ensures asked { AsksFor self.now result }
+    pub(crate) fn get_descriptor(&self) -> Option<Place>
+        ensures answer { found_outcome self.now.image.bytes.now self.now.state.now self.now.setup result ≡ get_descriptor (offer_in self.now.image.bytes.now) self.now.state.now self.now.setup }
+        ensures within { IfSome result (IsPlace self.now.image.bytes.now) }
     {
-        if !self.is_to_device() {
-            return Decision::Refused;
+        let brings = self.setup.length != 0 && self.setup.direction() == Direction::Out;
+        if brings || !self.is_to_device() {
+            return None;
         }
         let [index, kind] = self.setup.value.to_le_bytes();
-        match self.image.find(kind, index, self.setup.index) {
-            Some(_) if self.setup.length == 0 => Decision::Done(Change::Nothing),
-            Some(place) => match self.setup.direction() {
-                Direction::In => Decision::Descriptor(place),
-                Direction::Out => Decision::Refused,
-            },
-            None => Decision::Refused,
-        }
+        self.image.find(kind, index, self.setup.index)
     }
 
     /// GET_CONFIGURATION (9.4.2).
@@ -310,19 +296,17 @@ impl<'r> Request<'r> {
         }
         let number = self.setup.index as u8;
         let alternate = self.setup.value as u8;
-        match self.selected() {
-            Some(c) if c.has_alternate(number, alternate) => {
-                let halts = c.without_interface(self.state.halts, number);
-                self.done(Change::Alternate(number, alternate, halts))
-            }
-            _ => Decision::Refused,
+        if self.settings().has_alternate(number, alternate) {
+            self.done(Change::Alternate(number, alternate))
+        } else {
+            Decision::Refused
         }
     }
 
     /// What is done where no data stage is asked for.
     #[inline(always)]
     fn done(&self, change: Change) -> Decision
-        ensures answer { says self.now result ≡ does self.now.setup (changed self.now.state.now change) }
+        ensures answer { says self.now result ≡ does self.now.setup (changed self.now.image.bytes.now self.now.state.now change) }
         ensures asked { AsksFor self.now result }
     {
         if self.setup.length == 0 {
@@ -370,23 +354,23 @@ impl<'r> Request<'r> {
         matches!(self.setup.recipient(), Recipient::Interface)
     }
 
-    /// The selected configuration.
-    fn selected(&self) -> Option<Set<'r>>
-        ensures { option_map set_of result ≡ find (has_value self.now.state.now.selected) (offer_in self.now.image.bytes.now).sets }
+    /// The settings of the selected configuration.
+    #[inline(always)]
+    fn settings(&self) -> Settings<'r>
+        ensures { settings_left result ≡ selected_settings (offer_in self.now.image.bytes.now) self.now.state.now }
     {
-        self.image.sets().with_value(self.state.selected)
+        self.state.settings(self.image)
     }
 
     /// bmAttributes of the selected configuration, and where none is selected of the first.
     fn shown_attributes(&self) -> u16
         ensures { result ≡ shown_attributes (offer_in self.now.image.bytes.now) self.now.state.now }
     {
-        let shown = if self.state.is_configured() {
-            self.selected()
-        } else {
-            self.image.sets().next()
-        };
-        match shown {
+        let mut sets = self.image.sets();
+        if self.state.is_configured() {
+            return sets.attributes_of(self.state.selected);
+        }
+        match sets.next() {
             Some(c) => c.attributes,
             None => 0,
         }
@@ -396,10 +380,7 @@ impl<'r> Request<'r> {
     fn names_interface(&self) -> bool
         ensures { result ≡ names_interface (offer_in self.now.image.bytes.now) self.now.state.now self.now.setup.index }
     {
-        match self.selected() {
-            Some(c) => self.setup.index < 256 && c.has_interface(self.setup.index as u8),
-            None => false,
-        }
+        self.setup.index < 256 && self.settings().has_interface(self.setup.index as u8)
     }
 
     /// Whether wIndex is endpoint zero.
@@ -417,9 +398,13 @@ impl<'r> Request<'r> {
             return None;
         }
         let address = self.setup.index as u8;
-        match self.selected() {
-            Some(c) if c.has_endpoint(&self.state.alternates, address) => Some(address),
-            _ => None,
+        if self
+            .settings()
+            .has_endpoint(&self.state.alternates, address)
+        {
+            Some(address)
+        } else {
+            None
         }
     }
 }

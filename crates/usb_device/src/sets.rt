@@ -2,10 +2,9 @@
 ghost use Rattle.std.specs.Prelude.{◌≡◌, find, fold, map};
 ghost use Rattle.std.specs.Iterator.{YieldsFirstBy, item_count};
 ghost use Rattle.std.specs.List.{list_any};
-ghost use Rattle.std.specs.Option.{option_map};
 ghost use Rattle.usb_device.specs.inside.Sets.{endpoint_of, endpoints_left, set_of, setting_of, settings_left, sets_left};
 ghost use Rattle.usb_device.specs.Freedoms.{has_isochronous, is_other_setting};
-ghost use Rattle.usb_device.specs.Requests.{address_of, can_wake, has_endpoint, has_value, interface_addresses, is_alternate, is_of_interface};
+ghost use Rattle.usb_device.specs.Requests.{address_of, attributes_of, can_wake, has_endpoint, has_value, interface_addresses, is_alternate, is_of_interface, settings_of};
 ghost use Rattle.usb_device.specs.States.{without_halt};
 
 use crate::halts::without;
@@ -37,16 +36,29 @@ impl<'a> Iterator for Sets<'a> {
 }
 
 impl<'a> Sets<'a> {
-    /// The first with this bConfigurationValue.
-    pub(crate) fn with_value(&self, value: u8) -> Option<Set<'a>>
-        ensures { option_map set_of result ≡ find (has_value value) (sets_left self.now) }
+    /// The settings of the first with this bConfigurationValue, and none where there is no such.
+    #[tactic(auto, using(crate::proofs::PieceLemmas::no_pieces))]
+    pub(crate) fn settings_of(&self, value: u8) -> Settings<'a>
+        ensures { settings_left result ≡ settings_of (find (has_value value) (sets_left self.now)) }
     {
         for set in *self {
             if set.value == value {
-                return Some(set);
+                return set.settings;
             }
         }
-        None
+        Settings { pieces: &[] }
+    }
+
+    /// bmAttributes of the first with this bConfigurationValue, and 0 where there is no such.
+    pub(crate) fn attributes_of(&self, value: u8) -> u16
+        ensures { result ≡ attributes_of (find (has_value value) (sets_left self.now)) }
+    {
+        for set in *self {
+            if set.value == value {
+                return set.attributes;
+            }
+        }
+        0
     }
 
     /// Whether one has this bConfigurationValue.
@@ -84,82 +96,6 @@ pub(crate) struct Set<'a> {
     pub(crate) settings: Settings<'a>,
 }
 
-impl<'a> Set<'a> {
-    /// Whether an interface has this number.
-    pub(crate) fn has_interface(&self, number: u8) -> bool
-        ensures { result ≡ list_any (is_of_interface number) (set_of self.now).settings }
-    {
-        for setting in self.settings {
-            if setting.number == number {
-                return true;
-            }
-        }
-        false
-    }
-
-    /// Whether an interface with this number has this alternate setting.
-    pub(crate) fn has_alternate(&self, number: u8, alternate: u8) -> bool
-        ensures { result ≡ list_any (is_alternate number alternate) (set_of self.now).settings }
-    {
-        for setting in self.settings {
-            if setting.number == number && setting.alternate == u16::from(alternate) {
-                return true;
-            }
-        }
-        false
-    }
-
-    /// Whether that interface has another one.
-    pub(crate) fn has_other(&self, number: u8, alternate: u8) -> bool
-        ensures { result ≡ list_any (is_other_setting number alternate) (set_of self.now).settings }
-    {
-        for setting in self.settings {
-            if setting.number == number && setting.alternate != u16::from(alternate) {
-                return true;
-            }
-        }
-        false
-    }
-
-    /// Whether a setting that is chosen has an endpoint with this address.
-    pub(crate) fn has_endpoint(&self, alternates: &[u8; 256], address: u8) -> bool
-        ensures { result ≡ list_any (has_endpoint alternates.now address) (set_of self.now).settings }
-    {
-        for setting in self.settings {
-            if setting.has_endpoint(alternates, address) {
-                return true;
-            }
-        }
-        false
-    }
-
-    /// Whether a setting that is chosen has an isochronous endpoint with this address.
-    pub(crate) fn has_isochronous(&self, alternates: &[u8; 256], address: u8) -> bool
-        ensures { result ≡ list_any (has_isochronous alternates.now address) (set_of self.now).settings }
-    {
-        for setting in self.settings {
-            if setting.has_isochronous(alternates, address) {
-                return true;
-            }
-        }
-        false
-    }
-
-    /// The halts without those of the endpoints of all settings of an interface.
-    #[tactic(auto, using(crate::proofs::OfferLemmas::halts_more))]
-    pub(crate) fn without_interface(&self, halts: u32, number: u8) -> u32
-        ensures { result ≡ fold without_halt halts (interface_addresses (set_of self.now).settings number) }
-    {
-        let mut left = halts;
-        for setting in self.settings {
-            if setting.number == number {
-                left = setting.without_endpoints(left);
-            }
-        }
-        left
-    }
-}
-
 /// The settings of a set.
 #[derive(Clone, Copy)]
 pub(crate) struct Settings<'a> {
@@ -181,6 +117,82 @@ impl<'a> Iterator for Settings<'a> {
             alternate: piece.number,
             endpoints: Endpoints { bytes: piece.body },
         })
+    }
+}
+
+impl<'a> Settings<'a> {
+    /// Whether an interface has this number.
+    pub(crate) fn has_interface(&self, number: u8) -> bool
+        ensures { result ≡ list_any (is_of_interface number) (settings_left self.now) }
+    {
+        for setting in *self {
+            if setting.number == number {
+                return true;
+            }
+        }
+        false
+    }
+
+    /// Whether an interface with this number has this alternate setting.
+    pub(crate) fn has_alternate(&self, number: u8, alternate: u8) -> bool
+        ensures { result ≡ list_any (is_alternate number alternate) (settings_left self.now) }
+    {
+        for setting in *self {
+            if setting.number == number && setting.alternate == u16::from(alternate) {
+                return true;
+            }
+        }
+        false
+    }
+
+    /// Whether that interface has another one.
+    pub(crate) fn has_other(&self, number: u8, alternate: u8) -> bool
+        ensures { result ≡ list_any (is_other_setting number alternate) (settings_left self.now) }
+    {
+        for setting in *self {
+            if setting.number == number && setting.alternate != u16::from(alternate) {
+                return true;
+            }
+        }
+        false
+    }
+
+    /// Whether a setting that is chosen has an endpoint with this address.
+    pub(crate) fn has_endpoint(&self, alternates: &[u8; 256], address: u8) -> bool
+        ensures { result ≡ list_any (has_endpoint alternates.now address) (settings_left self.now) }
+    {
+        for setting in *self {
+            if setting.has_endpoint(alternates, address) {
+                return true;
+            }
+        }
+        false
+    }
+
+    /// Whether a setting that is chosen has an isochronous endpoint with this address.
+    pub(crate) fn has_isochronous(&self, alternates: &[u8; 256], address: u8) -> bool
+        ensures { result ≡ list_any (has_isochronous alternates.now address) (settings_left self.now) }
+    {
+        for setting in *self {
+            if setting.has_isochronous(alternates, address) {
+                return true;
+            }
+        }
+        false
+    }
+
+    /// The halts without those of the endpoints of all settings of an interface.
+    #[tactic(auto, using(crate::proofs::OfferLemmas::halts_more))]
+    pub(crate) fn without_interface(&self, halts: u32, number: u8) -> u32
+        ensures { result ≡ fold without_halt halts (interface_addresses (settings_left self.now) number) }
+    {
+        let mut left = halts;
+        for setting in *self {
+            if setting.number == number {
+                left = setting.without_endpoints(left);
+            }
+        }
+        left
     }
 }
 

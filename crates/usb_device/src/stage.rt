@@ -2,7 +2,6 @@
 ghost use Rattle.std.specs.Prelude.{◌≡◌};
 ghost use Rattle.usb_device.specs.Stages.{toggle_at};
 
-use crate::piece::Place;
 use usb_fields::{Answer, Toggle};
 
 /// What a device answers to a transaction, with the bytes left out.
@@ -45,23 +44,23 @@ impl Reaction {
 /// What a request changes in the state.
 #[derive(Clone, Copy)]
 pub(crate) enum Change {
-    Nothing,
     Address(u8),
     /// Selects a configuration, or none.
     Configuration(u8),
     /// Enables or disables remote wakeup.
     Wakeup(bool),
-    /// The endpoints that are halted from then on.
-    Halts(u32),
-    /// The interface, its alternate setting, and the endpoints that are halted from then on.
-    Alternate(u8, u8, u32),
+    /// Halts the endpoint with this address, or ends its halt.
+    Halt(u8, bool),
+    /// Chooses an interface's alternate setting. None of its endpoints is halted from then on.
+    Alternate(u8, u8),
 }
 
 /// What the device does about a request.
+// A few bytes, which are cheap to hand on: a descriptor is looked for where it is sent.
 #[derive(Clone, Copy)]
 pub(crate) enum Decision {
-    /// The descriptor that is here in the image, cut to wLength.
-    Descriptor(Place),
+    /// What the image has for GET_DESCRIPTOR, cut to wLength.
+    Descriptor,
     /// One byte.
     Byte(u8),
     /// The two bytes of a status, of which the second is 0.

@@ -1,7 +1,9 @@
 //! What a device keeps from one request to the next.
 ghost use Rattle.std.specs.Prelude.{◌≡◌};
 
-use crate::halts::halt_bit;
+use crate::halts::{changed as changed_halts, halt_bit};
+use crate::image::Image;
+use crate::sets::Settings;
 use crate::stage::Change;
 
 /// The state of a device (USB 2.0, 9.1.1): with address 0 it is in the Default state, with another
@@ -31,6 +33,9 @@ pub struct State {
 
 impl State {
     ghost use Rattle.usb_device.specs.States.{zero, has_address, is_configured};
+    ghost use Rattle.usb_device.specs.inside.Sets.{settings_left};
+    ghost use Rattle.usb_device.specs.Requests.{selected_settings};
+    ghost use Rattle.usb_device.specs.Offers.{offer_in};
     ghost use Rattle.usb_device.specs.inside.Reactions.{changed};
 
     /// The state of a new device, and of one after a bus reset.
@@ -75,11 +80,10 @@ impl State {
 
     /// Carries out what a request asks for.
     #[tactic(auto, unfolding(crate::specs::States::first_alternates))]
-    pub(crate) fn change(&mut self, change: Change)
-        ensures { self.new ≡ changed self.old change }
+    pub(crate) fn change(&mut self, image: Image<'_>, change: Change)
+        ensures { self.new ≡ changed image.entry.bytes.now self.old change }
     {
         match change {
-            Change::Nothing => {}
             Change::Address(address) => self.address = address,
             Change::Configuration(value) => {
                 self.selected = value;
@@ -87,12 +91,21 @@ impl State {
                 self.halts = 0;
             }
             Change::Wakeup(on) => self.wakeup = on,
-            Change::Halts(halts) => self.halts = halts,
-            Change::Alternate(number, alternate, halts) => {
+            Change::Halt(endpoint, on) => self.halts = changed_halts(self.halts, endpoint, on),
+            Change::Alternate(number, alternate) => {
+                let settings = self.settings(image);
+                self.halts = settings.without_interface(self.halts, number);
                 self.alternates[usize::from(number)] = alternate;
-                self.halts = halts;
             }
         }
+    }
+
+    /// The settings of the selected configuration.
+    #[inline(never)]
+    pub(crate) fn settings<'a>(&self, image: Image<'a>) -> Settings<'a>
+        ensures { settings_left result ≡ selected_settings (offer_in image.entry.bytes.now) self.now }
+    {
+        image.sets().settings_of(self.selected)
     }
 }
 

@@ -135,7 +135,11 @@ impl EndpointZero {
     fn is_left(&self, image: Image<'_>) -> bool
         ensures { result ≡ is_left (answer_to (offer_in image.entry.bytes.now) self.now.state (request_of self.now)) }
     {
-        matches!(self.decision(image), Decision::Refused)
+        match self.decision(image) {
+            Decision::Descriptor => self.found(image).is_none(),
+            Decision::Refused => true,
+            _ => false,
+        }
     }
 
     /// The request that was carried out, in its status stage: as

@@ -38,10 +38,8 @@ impl<'r> Request<'r> {
         }
         let number = self.setup.index as u8;
         let alternate = self.setup.value as u8;
-        match self.selected() {
-            Some(c) => c.has_alternate(number, alternate) && !c.has_other(number, alternate),
-            None => false,
-        }
+        let settings = self.settings();
+        settings.has_alternate(number, alternate) && !settings.has_other(number, alternate)
     }
 
     /// ENDPOINT_HALT of endpoint zero, or of an isochronous endpoint (9.4.5).
@@ -63,12 +61,10 @@ impl<'r> Request<'r> {
     fn names_isochronous(&self) -> bool
         ensures { result ≡ names_isochronous (offer_in self.now.image.bytes.now) self.now.state.now self.now.setup.index }
     {
-        match self.selected() {
-            Some(c) => {
-                self.setup.index < 256
-                    && c.has_isochronous(&self.state.alternates, self.setup.index as u8)
-            }
-            None => false,
-        }
+        let index = self.setup.index;
+        index < 256
+            && self
+                .settings()
+                .has_isochronous(&self.state.alternates, index as u8)
     }
 }

@@ -2,8 +2,8 @@ use Rattle.std.proofs.Common.{◌≡◌}
 use Rattle.std.specs.List.{list_any}
 use Rattle.usb_device.specs.Freedoms.{is_other_setting}
 use Rattle.usb_device.specs.inside.Sets.{settings_left}
-use Rattle.usb_device.proofs.sets.Set.has_other.Given as goal
+use Rattle.usb_device.proofs.sets.Settings.has_other.Given as goal
 
 abbrev pub invariant-loop-setting : goal.invariant-loop-setting
 invariant-loop-setting l =
-    list_any (is_other_setting l.number l.alternate) (settings_left l.setting-iterator) ≡ list_any (is_other_setting l.number l.alternate) (settings_left l.fn.self.settings)
+    list_any (is_other_setting l.number l.alternate) (settings_left l.setting-iterator) ≡ list_any (is_other_setting l.number l.alternate) (settings_left l.fn.self)

@@ -2,8 +2,8 @@ use Rattle.std.proofs.Common.{◌≡◌, fold}
 use Rattle.usb_device.specs.Requests.{interface_addresses}
 use Rattle.usb_device.specs.States.{without_halt}
 use Rattle.usb_device.specs.inside.Sets.{settings_left}
-use Rattle.usb_device.proofs.sets.Set.without_interface.Given as goal
+use Rattle.usb_device.proofs.sets.Settings.without_interface.Given as goal
 
 abbrev pub invariant-loop-setting : goal.invariant-loop-setting
 invariant-loop-setting l =
-    fold without_halt l.left (interface_addresses (settings_left l.setting-iterator) l.number) ≡ fold without_halt l.fn.halts (interface_addresses (settings_left l.fn.self.settings) l.number)
+    fold without_halt l.left (interface_addresses (settings_left l.setting-iterator) l.number) ≡ fold without_halt l.fn.halts (interface_addresses (settings_left l.fn.self) l.number)

@@ -2,8 +2,8 @@ use Rattle.std.proofs.Common.{◌≡◌}
 use Rattle.std.specs.List.{list_any}
 use Rattle.usb_device.specs.Requests.{is_of_interface}
 use Rattle.usb_device.specs.inside.Sets.{settings_left}
-use Rattle.usb_device.proofs.sets.Set.has_interface.Given as goal
+use Rattle.usb_device.proofs.sets.Settings.has_interface.Given as goal
 
 abbrev pub invariant-loop-setting : goal.invariant-loop-setting
 invariant-loop-setting l =
-    list_any (is_of_interface l.number) (settings_left l.setting-iterator) ≡ list_any (is_of_interface l.number) (settings_left l.fn.self.settings)
+    list_any (is_of_interface l.number) (settings_left l.setting-iterator) ≡ list_any (is_of_interface l.number) (settings_left l.fn.self)
