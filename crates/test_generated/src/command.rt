@@ -7,9 +7,9 @@ use usb_bus::Fate;
 use usb_fields::Speed;
 use usb_host::{Choice, Limits, NamedStrings};
 use usb_tool::{
-    Building, EnumerateFlags, Enumeration, Explanation, Look, Manner, Settings, Source, Taken, Task,
-    ToolFault, Work, run_build, run_build_as, run_check, run_enumerate, run_enumeration, run_explain,
-    run_show, run_work,
+    Building, EnumerateFlags, Enumeration, Explanation, Look, Manner, Settings, Source, Taken,
+    Task, ToolFault, Work, run_build, run_build_as, run_check, run_enumerate, run_enumeration,
+    run_explain, run_show, run_work,
 };
 
 /// How an input is explained.
