@@ -30,7 +30,7 @@ GROUPS = {
 # What none may be over, of proved code and of code near to that: of thumbv7em, thumbv6m and riscv32imac.
 BOUNDED = ("thumbv7em", "thumbv6m", "riscv32imac")
 BOUNDS = {
-    "a device": (5_000, 6_250, 7_750),
+    "a device": (5_000, 6_300, 8_000),
     "the image of a device": (33_000, 39_000, 52_000),
     "a device with its image and a judge": (46_000, 58_000, 74_000),
     "a host": (32_000, 40_000, 51_000),
