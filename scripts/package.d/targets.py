@@ -24,7 +24,8 @@ OPTIONS = {
 SIZES = dict.fromkeys(OPTIONS, "s") | {"wasm32": "z"}
 # Of small code functions that are the same are one.
 SMALL = ["-Xclang", "-fmerge-functions"]
-# Once what is inlined is chosen, each function is as small as it can be.
+# Once what is inlined is chosen, each function is as small as it can be, but for i386, which has no flash: a shift of 64 bits would be a
+# call there.
 SMALLEST = ["-mllvm", "-force-attribute=minsize"]
 SECTIONS = ["-ffunction-sections", "-fdata-sections"]
 # What makes WebAssembly smaller, and what of it the processor `lime1` has.
@@ -64,7 +65,7 @@ def object_of(text, target, room, guard=False, size=None, *more):
     if size:
         run(*words, "-emit-llvm", code, "-o", once)
         os.replace(once, code)
-    run(*words, *(SMALLEST if size == "s" else ()), *more, code, "-o", made)
+    run(*words, *(SMALLEST if size == "s" and target != "i386" else ()), *more, code, "-o", made)
     os.remove(code)
     return made
 
