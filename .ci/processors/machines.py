@@ -72,7 +72,7 @@ def program(target, made, room, parts=PARTS, between=f"{targets.HERE}/lowered_me
     """The program of these parts over a library's objects."""
     more = [] if target == "x86_64" else [targets.compiled(between, target, f"{room}/lowered_memory.o")]
     if target == "wasm32":
-        more.append(targets.compiled(f"{targets.HERE}/wasm_multiply.c", target, f"{room}/wasm_multiply.o"))
+        more.append(targets.compiled(f"{targets.HERE}/wasm_wide.c", target, f"{room}/wasm_wide.o"))
     fits(target, room)
     objects = [compiled(target, name, room) for name in (*parts, "runtime")]
     return linked(target, [*objects, *more, *made], room, f"{room}/{parts[1]}")
@@ -90,9 +90,9 @@ def ran(target, made, folder, seconds=3600):
     return ended.stdout, ended.returncode
 
 
-def in_node(package, program, is_bounded, said):
-    """Whether all texts of testdata are the same by the package for npm and by the program, and the module is within its bound."""
-    words = ["node", f"{ROOT}/.ci/processors/wasm.mjs", package, program, f"{ROOT}/testdata", *["bounded"] * is_bounded]
+def in_node(package, program, said):
+    """Whether all texts of testdata are the same by the package for npm and by the program."""
+    words = ["node", f"{ROOT}/.ci/processors/wasm.mjs", package, program, f"{ROOT}/testdata"]
     ended = subprocess.run(words, capture_output=True, text=True, check=False)
     for line in (ended.stdout + ended.stderr).splitlines():
         said(f"npm: {line}")

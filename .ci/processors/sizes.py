@@ -1,10 +1,12 @@
 """How much flash each group of exports takes for a processor: code and constants that a linker keeps for them, without what the
 compiler's run-time library and the functions for memory add. Of a device also its struct, and the longest frame of its functions."""
 
+import gzip
 import re
 import struct
 
 import declared
+import targets
 from playing.built import LLD, fail, run
 
 NOT_THERE = 8  # SHT_NOBITS
@@ -47,6 +49,19 @@ BOUNDS = {
 }
 # Of a device: all that a program keeps but the room that it lends, and each frame of the calls.
 STRUCT, STRUCT_BOUND, FRAME_BOUND = "nzg_device", 330, 200
+
+
+# A module for npm, as it is and packed by gzip: with every call, and without those for recordings.
+OF_NPM = {"every call": (320_000, 128_000), "all calls but those for recordings": (320_000, 110_000)}
+
+
+def modules(made, room):
+    """The sizes of the modules for npm of an object, each with its bounds."""
+    for (what, bounds), prefix in zip(OF_NPM.items(), ("", "nzg_capture_")):
+        names = [it for it in declared.calls(declared.text_of_header()) if not prefix or not it.startswith(prefix)]
+        with open(targets.shrunk(targets.wasm(made, room, names)), "rb") as it:
+            module = it.read()
+        yield what, (len(module), len(gzip.compress(module, 9, mtime=0))), bounds
 
 
 def bound_of(target, group):

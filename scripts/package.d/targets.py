@@ -103,7 +103,7 @@ def plain_package(made, target, version, room, epoch):
 
 def wasm(made, room, names=None):
     """The module with every export, or with these, and the two for memory. The stack lies first, so that one too deep is a trap."""
-    parts = [made, *(compiled(f"{HERE}/{name}.c", "wasm32", f"{room}/{name}.o") for name in ("lowered_memory", "wasm_memory", "wasm_multiply"))]
+    parts = [made, *(compiled(f"{HERE}/{name}.c", "wasm32", f"{room}/{name}.o") for name in ("lowered_memory", "wasm_memory", "wasm_wide"))]
     names = [*(names or declared.calls(declared.text_of_header())), "nzg_lowered_alloc", "rattle_dealloc"]
     run(linker(room, "wasm-ld"), "--no-entry", "--gc-sections", "--stack-first", "-z", "stack-size=1048576", "-O2", "--strip-all", "--compress-relocations",
         *(f"--export={it}" for it in names), *parts, "-o", f"{room}/nozzlegorse.wasm")
