@@ -10,7 +10,7 @@ import targets
 from playing.built import CLANG, LLD, ROOT, fail, run
 
 PLACE = f"{ROOT}/callers/targets"
-PARTS = ("platform", "steps", "ends", "scripts", "facts", "words")
+PARTS = ("platform", "steps", "ends", "scripts", "facts", "words", "recordings")
 SEMIHOSTING = ["-nographic", "-monitor", "none", "-serial", "none", "-semihosting-config", "enable=on,target=native"]
 ARM = ["qemu-system-arm", "-M", "mps2-an386", "-cpu", "cortex-m4", *SEMIHOSTING]
 RISCV = ["qemu-system-riscv32", "-M", "virt", "-bios", "none", *SEMIHOSTING]

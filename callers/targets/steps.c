@@ -1,6 +1,6 @@
 /* The same calls on every processor. What each gave is printed, so that two processors differ by `cmp`. The files are those that
  * the file `list` names, a line each; `counts` has how many steps each device gets, how often each file is mutated, and whether
- * each request for memory is refused and the stack is measured; `scripts` has steps of both ends. */
+ * each request for memory is refused and the stack is measured; `scripts` has steps of both ends, and `recordings` names recordings. */
 #include "steps.h"
 
 uint8_t file[66000], room[ROOM];
@@ -92,26 +92,39 @@ static bool cuts_a_length(void) {
 static bool cuts_a_length(void) { return false; }
 #endif
 
-int main(void) {
-    if (read_file("list", list, sizeof list - 1) < 0 || read_file("counts", counts, sizeof counts - 1) < 0) return 2;
-    const uint8_t *at = counts, *names = list;
-    struct wanted wanted;
-    wanted.steps = number_of(&at);
-    wanted.mutations = number_of(&at);
-    wanted.more = number_of(&at);
-    if (cuts_a_length()) return 3;
+static void play_recording(uint32_t length, const struct wanted *wanted) { recording(length, wanted->mutations); }
+
+/* Plays each file that a list names. Whether all are there. */
+static bool play_all(const char *named, void (*played)(uint32_t, const struct wanted *), const struct wanted *wanted) {
+    long count = read_file(named, list, sizeof list - 1);
+    if (count < 0) return false;
+    list[count] = 0;
+    const uint8_t *names = list;
     for (uint32_t line = 0; next_name(&names); line++) {
         long length = read_file((char *)name, file, sizeof file);
-        if (length < 0) return 4;
+        if (length < 0) return false;
         say("file ");
         say((char *)name);
         say_list(" ", (uint64_t)length);
         say("\n");
         draw_from(line);
-        play((uint32_t)length, &wanted);
+        played((uint32_t)length, wanted);
     }
+    return true;
+}
+
+int main(void) {
+    if (read_file("counts", counts, sizeof counts - 1) < 0) return 2;
+    const uint8_t *at = counts;
+    struct wanted wanted;
+    wanted.steps = number_of(&at);
+    wanted.mutations = number_of(&at);
+    wanted.more = number_of(&at);
+    if (cuts_a_length()) return 3;
+    if (!play_all("list", play, &wanted)) return 4;
     rules();
     scripts();
+    if (!play_all("recordings", play_recording, &wanted)) return 5;
     struct memory memory = memory_now();
     say_list("requests ", memory.calls);
     say_list(" live ", memory.live);

@@ -48,4 +48,5 @@ void enumerations(uint32_t length);
 void refusals(uint32_t length);
 void stacks(uint32_t length);
 void scripts(void);
+void recording(uint32_t length, uint32_t mutations);
 #endif
