@@ -21,7 +21,7 @@ use Rattle.usb_host.specs.declared.why.Why.{Why}
 use Rattle.usb_device.specs.Accepted.{Accepted}
 use Rattle.usb_device.specs.Requests.{answer}
 use Rattle.usb_device.specs.Step.{DeviceView}
-use Rattle.usb_device.specs.Transactions.{HasRoom}
+use Rattle.usb_device.specs.Replies.{HasRoom}
 use Rattle.usb_device.proofs.Replies.{reply_has_room}
 use Rattle.usb_bus.specs.declared.enumeration.Run.{Run}
 use Rattle.usb_bus.specs.declared.fate.Fate.{Fate}

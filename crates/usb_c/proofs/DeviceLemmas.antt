@@ -3,7 +3,7 @@ use Rattle.std.proofs.Common.{◌≡◌, ◌∙◌, ℕ, ◌≤◌, Bool, true, 
 use Rattle.std.proofs.lemmas.Bool.Decides.{nat_tests}
 use Rattle.usb_fields.specs.Packets.{Reply}
 use Rattle.usb_device.specs.Offers.{has_head, packet_in}
-use Rattle.usb_device.specs.Transactions.{HasRoom}
+use Rattle.usb_device.specs.Replies.{HasRoom}
 use Rattle.usb_device.specs.Step.{DeviceView}
 use Rattle.usb_device.specs.View.{IsOf, device_of, packet_due, reply_with, replied, stage_in}
 use Rattle.usb_device.specs.declared.endpoint_zero.EndpointZero.{EndpointZero}

@@ -11,7 +11,7 @@ use Rattle.usb_host.specs.Transfer.{TransferView, addressed, due, token_due}
 use Rattle.usb_host.specs.Steps.{HostPhase, HostView, ResetDue, Reading, Ended, Wanted, WantsNothing, WantsReset, WantsSent, sends, wanted}
 use Rattle.usb_device.specs.declared.transaction.NzgTransaction.{NzgTransaction}
 use Rattle.usb_c.specs.Hosts.{transaction_due}
-use Rattle.usb_device.specs.Transactions.{sent_told, transaction_of}
+use Rattle.usb_c.specs.Transactions.{sent_told, transaction_of}
 
 abbrev IsWhole : Option Wanted → Type 0
 IsWhole None = Unit {0}

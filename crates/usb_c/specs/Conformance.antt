@@ -8,7 +8,7 @@ use Rattle.usb_device.specs.declared.conformance.Difference.{Difference}
 use Rattle.usb_device.specs.declared.transaction.NzgPacket.{NzgPacket}
 use Rattle.usb_device.specs.Offers.{offer_in, packet_in}
 use Rattle.usb_device.specs.Step.{DeviceView}
-use Rattle.usb_device.specs.Transactions.{toggle_number}
+use Rattle.usb_device.specs.Stages.{toggle_number}
 use Rattle.usb_device.specs.declared.open_transfer.OpenStage.{OpenStage}
 use Rattle.usb_device.specs.declared.open_transfer.OpenStage.TheVariants as stages
 use Rattle.usb_device.specs.declared.open_transfer.OpenTransfer.{OpenTransfer}

@@ -28,7 +28,7 @@ use Rattle.usb_host.specs.Steps.{HostPhase, HostView, ResetDue, Reading, Ended, 
 use Rattle.usb_host.specs.Terms.{IsUnread, everything}
 use Rattle.usb_host.specs.Transfer.{TransferView}
 use Rattle.usb_device.specs.declared.transaction.NzgTransaction.{NzgTransaction}
-use Rattle.usb_device.specs.Transactions.{transaction_of}
+use Rattle.usb_c.specs.Transactions.{transaction_of}
 
 -- The outcome of a host.
 

@@ -1,7 +1,7 @@
 -- A control transfer as numbers, and what calls do to it.
 use Rattle.std.specs.Prelude.{◌≡◌, ℕ, ◌==◌, nat_lt, if◌then◌else◌, List, length, Option, Some, None}
 use Rattle.std.specs.Option.{option_and_then, option_map}
-use Rattle.usb_device.specs.Transactions.{toggle_told}
+use Rattle.usb_c.specs.Transactions.{toggle_told}
 use Rattle.usb_fields.specs.Packets.{Reply}
 use Rattle.usb_fields.specs.Setup.{setup_of}
 use Rattle.usb_fields.specs.declared.packet.Toggle.{Toggle}

@@ -6,7 +6,7 @@ ghost use Rattle.usb_c.specs.Answers.{AnswersOn};
 ghost use Rattle.usb_c.specs.Enumerations.{Enumerates};
 ghost use Rattle.usb_c.specs.Explaining.{ExplainsBy, is_hex, is_loose};
 ghost use Rattle.usb_c.specs.Texts.{Builds, Checks, Shows, manner_told};
-ghost use Rattle.usb_device.specs.Transactions.{speed_told};
+ghost use Rattle.usb_c.specs.Transactions.{speed_told};
 
 use crate::answer::{Answer, Verdict};
 use crate::enumeration::{NzgOutcome, enumerate_bytes};

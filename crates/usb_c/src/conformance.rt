@@ -4,13 +4,11 @@ ghost use Rattle.usb_fields.specs.Setup.{setup_of};
 ghost use Rattle.usb_device.specs.Offers.{has_head};
 ghost use Rattle.usb_device.specs.OpenTransfers.{after_ack};
 ghost use Rattle.usb_c.specs.Conformance.{JudgesDevice, judged_number, numbers_of, stage_number, stage_told, transfer_told};
-ghost use Rattle.usb_device.specs.Transactions.{packet_told, sent_told};
+ghost use Rattle.usb_c.specs.Transactions.{packet_told, sent_told};
 
 use crate::device_owner::NzgSetup;
-use usb_device::{
-    Difference, EndpointZero, Image, NzgPacket, NzgTransaction, OpenStage, OpenTransfer, answer_in,
-    is_ready, judge, sent, tell,
-};
+use crate::transaction::{NzgPacket, NzgTransaction, answer_in, sent, tell};
+use usb_device::{Difference, EndpointZero, Image, OpenStage, OpenTransfer, is_ready, judge};
 use usb_fields::{Setup, Toggle};
 
 /// What a device under test has answered in a transfer whose outcome is open to it. Any numbers may stand there.

@@ -5,14 +5,13 @@ ghost use Rattle.usb_device.specs.Step.{new_device};
 ghost use Rattle.usb_device.specs.View.{acked_over, device_of};
 ghost use Rattle.usb_c.specs.Answers.{AnswersOn};
 ghost use Rattle.usb_c.specs.Devices.{Changes, PutsImage, PutsImageAt, Serves};
-ghost use Rattle.usb_device.specs.Transactions.{sent_told, speed_told};
+ghost use Rattle.usb_c.specs.Transactions.{sent_told, speed_told};
 
 use crate::answer::{Answer, Verdict, refused_description, refused_file};
 use crate::buffer::fill_done;
+use crate::transaction::{NzgPacket, NzgTransaction, sent, speed_of, tell};
 use std::alloc::Global;
-use usb_device::{
-    EndpointZero, Image, NzgPacket, NzgTransaction, sent, speed_of, tell, write_image,
-};
+use usb_device::{EndpointZero, Image, write_image};
 use usb_fields::Speed;
 use usb_file::read_file;
 

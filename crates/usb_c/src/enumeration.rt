@@ -4,15 +4,16 @@ ghost use Rattle.std.specs.List.{list_all};
 ghost use Rattle.usb_listing.specs.Listing.{file_lines};
 ghost use Rattle.usb_c.specs.Answers.{Fills};
 ghost use Rattle.usb_c.specs.Enumerations.{Enumerates, EnumeratesUnder, TellsRun, fate_told, is_fate, outcome_numbers, trouble_numbers};
-ghost use Rattle.usb_device.specs.Transactions.{speed_told};
+ghost use Rattle.usb_c.specs.Transactions.{speed_told};
 ghost use Rattle.usb_c.specs.declared.answer.Verdict.TheVariants as verdicts;
 
 use crate::answer::{Verdict, refused_description, refused_file};
 use crate::buffer::fill_done;
 use crate::outcome::{StepNumbers, numbered, step_numbers};
+use crate::transaction::speed_of;
 use std::alloc::{AllocError, Global};
 use usb_bus::{Fate, Run, enumerate_encoded};
-use usb_device::{Encoded, speed_of};
+use usb_device::Encoded;
 use usb_fields::Speed;
 use usb_file::{DescriptorFile, read_file};
 use usb_host::{Limits, Trouble};

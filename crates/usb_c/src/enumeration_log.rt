@@ -1,15 +1,16 @@
 //! The log of an enumeration.
 ghost use Rattle.std.specs.Prelude.{◌≡◌, IfOk, map};
-ghost use Rattle.usb_device.specs.Transactions.{speed_told};
+ghost use Rattle.usb_c.specs.Transactions.{speed_told};
 ghost use Rattle.usb_c.specs.Answers.{AnswersOn};
 ghost use Rattle.usb_c.specs.Enumerations.{Logs, LogsUnder, TellsLogOf, fate_told};
 
 use crate::answer::{Answer, Verdict, refused_description, refused_file};
 use crate::buffer::fill_done;
 use crate::enumeration::{are_fates, fates_of};
+use crate::transaction::speed_of;
 use std::alloc::Global;
 use usb_bus::{Fate, enumerate_encoded_logged};
-use usb_device::{Encoded, speed_of};
+use usb_device::Encoded;
 use usb_fields::Speed;
 use usb_file::read_file;
 use usb_host::{Limits, Trouble, Why};

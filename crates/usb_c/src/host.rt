@@ -5,16 +5,16 @@ ghost use Rattle.usb_fields.specs.Packets.{Sent};
 ghost use Rattle.usb_host.specs.Steps.{WantsSent, reset, wanted};
 ghost use Rattle.usb_c.specs.Answers.{AnswersOn};
 ghost use Rattle.usb_c.specs.Hosts.{Ends, HostOpens, TakesOne, action_number, asked_in, resets_of, transaction_due};
-ghost use Rattle.usb_device.specs.Transactions.{reply_told, sent_told, speed_told};
+ghost use Rattle.usb_c.specs.Transactions.{reply_told, sent_told, speed_told};
 
 use crate::answer::{Answer, Verdict};
 use crate::host_handle::NzgHost;
 use crate::host_opening::open;
 use crate::outcome::{NzgTrouble, tell_outcome};
 use crate::step::{NzgStep, tell_step};
+use crate::transaction::{NzgTransaction, answer_of, speed_of, told};
 use std::alloc::Global;
 use std::mem::replace;
-use usb_device::{NzgTransaction, answer_of, speed_of, told};
 use usb_host::{Action, Choice};
 
 /// Opens a host that has done nothing, and asks for all that a descriptor file has. One that is held already is freed.

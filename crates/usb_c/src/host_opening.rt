@@ -1,13 +1,13 @@
 //! A host that asks for as much as its caller says, by a handle.
 ghost use Rattle.std.specs.Prelude.{◌≡◌, Some, None};
-ghost use Rattle.usb_device.specs.Transactions.{speed_told};
+ghost use Rattle.usb_c.specs.Transactions.{speed_told};
 ghost use Rattle.usb_c.specs.Answers.{AnswersOn};
 ghost use Rattle.usb_c.specs.Hosts.{HostOpensAt, HostOpensFor, choice_told};
 
 use crate::answer::{Answer, Verdict};
 use crate::host_handle::NzgHost;
+use crate::transaction::speed_of;
 use std::alloc::Global;
-use usb_device::speed_of;
 use usb_fields::Speed;
 use usb_host::{Choice, Host, Limits, NamedStrings};
 

@@ -7,12 +7,12 @@ ghost use Rattle.usb_host.specs.Heard.{heard_of};
 ghost use Rattle.usb_host.specs.Transfer.{begun, due, taken};
 ghost use Rattle.usb_c.specs.Answers.{AnswersOn};
 ghost use Rattle.usb_c.specs.Transfers.{Opens, TakesReply, heard_told, transfer_in, wrong_transfer};
-ghost use Rattle.usb_device.specs.Transactions.{reply_told, sent_told, transaction_of};
+ghost use Rattle.usb_c.specs.Transactions.{reply_told, sent_told, transaction_of};
 
 use crate::answer::{Answer, Verdict};
 use crate::device_owner::NzgSetup;
+use crate::transaction::{NzgTransaction, answer_of, told};
 use crate::transfer_numbers::NzgTransfer;
-use usb_device::{NzgTransaction, answer_of, told};
 use usb_host::Heard;
 
 /// The highest address of a device (USB 2.0, 8.3.2.1).

@@ -1,11 +1,12 @@
 //! A control transfer as numbers.
 ghost use Rattle.std.specs.Prelude.{IfSome, Some, true, ◌≡◌, ◌<◌};
-ghost use Rattle.usb_device.specs.Transactions.{toggle_told};
+ghost use Rattle.usb_c.specs.Transactions.{toggle_told};
 ghost use Rattle.usb_fields.specs.Setup.{setup_of};
 ghost use Rattle.usb_host.specs.Transfer.{begun, is_transfer};
 ghost use Rattle.usb_c.specs.Transfers.{fields_in, stage_in, stage_of, transfer_in, why_in};
 
-use usb_fields::{Setup, Toggle};
+use crate::transaction::{toggle_number, toggle_of};
+use usb_fields::Setup;
 use usb_host::{Transfer, TransferFields, TransferStage, Why, Write};
 
 /// A control transfer at the host's end, as numbers: the struct `nzg_transfer` of nozzlegorse.h. Any numbers are allowed.
@@ -81,7 +82,7 @@ impl NzgTransfer {
         ensures value { result ≡ fields_in self.now }
         ensures request { IfSome result (λ t. t.request ≡ setup_of self.now.setup) }
     {
-        let (Some(stage), Some(awaited)) = (stage_in(self.stage, self.why), toggle_in(self.toggle))
+        let (Some(stage), Some(awaited)) = (stage_in(self.stage, self.why), toggle_of(self.toggle))
         else {
             return None;
         };
@@ -176,25 +177,5 @@ fn stage_numbers(stage: TransferStage) -> (u8, u8)
         TransferStage::StatusIn => (4, 0),
         TransferStage::Completed => (5, 0),
         TransferStage::Failed(why) => (6, why.number()),
-    }
-}
-
-/// The toggle of this number.
-fn toggle_in(number: u8) -> Option<Toggle>
-    ensures { result ≡ toggle_told number }
-{
-    match number {
-        0 => Some(Toggle::Data0),
-        1 => Some(Toggle::Data1),
-        _ => None,
-    }
-}
-
-fn toggle_number(toggle: Toggle) -> u8
-    ensures { toggle_told result ≡ Some toggle }
-{
-    match toggle {
-        Toggle::Data0 => 0,
-        Toggle::Data1 => 1,
     }
 }

@@ -3,7 +3,7 @@ ghost use Rattle.std.specs.Prelude.{◌≡◌, Some};
 ghost use Rattle.usb_fields.specs.Packets.{sent_of};
 ghost use Rattle.usb_fields.specs.Setup.{setup_of};
 ghost use Rattle.usb_device.specs.Beside.{brings_bytes};
-ghost use Rattle.usb_device.specs.Transactions.{reply_told};
+ghost use Rattle.usb_c.specs.Transactions.{reply_told};
 ghost use Rattle.usb_host.specs.Transfer.{begun};
 ghost use Rattle.usb_host.specs.Write.{written};
 ghost use Rattle.usb_c.specs.Answers.{AnswersOn};
@@ -12,9 +12,9 @@ ghost use Rattle.usb_c.specs.Writes.{TellsNext, bytes_of, wrong_write};
 
 use crate::answer::{Answer, Verdict};
 use crate::device_owner::NzgSetup;
+use crate::transaction::{NzgTransaction, answer_of, told};
 use crate::transfer::{tell_heard, wrong_transfer};
 use crate::transfer_numbers::NzgTransfer;
-use usb_device::{NzgTransaction, answer_of, told};
 use usb_fields::{Direction, Setup, Stage, Transaction};
 use usb_host::Write;
 

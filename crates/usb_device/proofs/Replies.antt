@@ -14,7 +14,7 @@ use Rattle.usb_device.specs.declared.state.State.{State}
 use Rattle.usb_device.specs.Requests.{Outcome, answer}
 use Rattle.usb_device.specs.Step.{DeviceStage, Idle, Halted, Sending, StatusOut, Over, StatusIn, Receiving, Written, DeviceView, Served, awaited, gathered, next_packet, replies, served, served_here, served_in, served_out, stalls, status_out}
 use Rattle.usb_device.specs.View.{served_by}
-use Rattle.usb_device.specs.Transactions.{HasRoom}
+use Rattle.usb_device.specs.Replies.{HasRoom}
 
 -- where no rule is broken, packets have at most 64 bytes
 pub packet_fits : (f : DescriptorFile) → findings f ≡ [] → f.device.packet ≤ 64

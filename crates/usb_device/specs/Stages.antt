@@ -33,6 +33,10 @@ source_at n = if n == 1 then Room else if n == 2 then Image else Own
 unfoldable pub toggle_at : ℕ → Toggle
 toggle_at n = if n == 0 then Data0 else Data1
 
+abbrev pub toggle_number : Toggle → ℕ
+toggle_number Data0 = 0
+toggle_number Data1 = 1
+
 -- a data stage, as a device's numbers have it, and its request
 pub record DataStage : Type 0 where
   pub source : Source

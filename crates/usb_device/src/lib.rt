@@ -12,7 +12,7 @@
 //! what the file does. [`Encoded`] is a description without the tree: it owns an image, and proofs alone see its file.
 //!
 //! [`EndpointZero`] is what changes in a device, as numbers that a program in another language can hold: its calls are lent an
-//! image and a room. For such a program [`NzgTransaction`] and [`NzgPacket`] are what passes on the bus.
+//! image and a room.
 //!
 //! What is allowed of a device under test, beside a device of the same descriptors, [`judge`] says, transaction by
 //! transaction.
@@ -25,7 +25,7 @@
 //!   what is allowed of a device under test `specs/Conformance.antt` and `specs/OpenTransfers.antt`.
 //! - How a device goes through a control transfer is `specs/Step.antt`, whatever the table is.
 //! - What the parts of a device mean is `specs/View.antt` and `specs/Stages.antt`: the code has a place in the image, an
-//!   offset and a toggle where the definition has a list of packets. Transactions as numbers are `specs/Transactions.antt`.
+//!   offset and a toggle where the definition has a list of packets.
 #![tactic(auto)]
 
 mod acceptance;
@@ -46,7 +46,6 @@ mod sets;
 mod stage;
 mod state;
 mod string_table;
-mod transaction;
 
 pub use acceptance::DescriptionFault;
 pub use beside::{ROOM, Unanswered, is_open};
@@ -61,6 +60,3 @@ pub use open_transfer::{OpenStage, OpenTransfer};
 pub use request::is_set_address;
 pub use stage::{Reaction, Stage as DeviceStage};
 pub use state::{DeviceState, State};
-pub use transaction::{
-    NzgPacket, NzgTransaction, answer_in, answer_of, sent, speed_of, tell, told,
-};

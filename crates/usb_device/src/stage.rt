@@ -1,6 +1,6 @@
 //! The stage of a device in a transfer, and what a request or a transaction is answered by.
 ghost use Rattle.std.specs.Prelude.{◌≡◌};
-ghost use Rattle.usb_device.specs.Stages.{toggle_at};
+ghost use Rattle.usb_device.specs.Stages.{toggle_at, toggle_number};
 
 use usb_fields::{Answer, Toggle};
 
@@ -171,5 +171,17 @@ pub(crate) fn toggle_at(number: u8) -> Toggle
         Toggle::Data0
     } else {
         Toggle::Data1
+    }
+}
+
+#[tactic(auto, unfolding(crate::specs::Stages::toggle_at))]
+#[inline(always)]
+pub(crate) fn toggle_number(toggle: Toggle) -> u8
+    ensures number { result ≡ toggle_number toggle }
+    ensures back { toggle_at result ≡ toggle }
+{
+    match toggle {
+        Toggle::Data0 => 0,
+        Toggle::Data1 => 1,
     }
 }

@@ -10,7 +10,7 @@ use Rattle.usb_host.specs.declared.why.Why.{Why}
 use Rattle.usb_host.specs.Transfer.{TransferView, due}
 use Rattle.usb_device.specs.Step.{DeviceView}
 use Rattle.usb_device.specs.Requests.{answer}
-use Rattle.usb_device.specs.Transactions.{HasRoom}
+use Rattle.usb_device.specs.Replies.{HasRoom}
 use Rattle.usb_bus.specs.declared.fate.Fate.{Fate}
 use Rattle.usb_bus.specs.declared.wire.change.BitChange.{BitChange}
 use Rattle.usb_bus.specs.Damaged.{IsLegalSent, bits_of}

@@ -5,7 +5,7 @@ ghost use Rattle.usb_host.specs.Transfer.{sent_by};
 ghost use Rattle.usb_text.specs.Lines.{column};
 ghost use Rattle.usb_wire.specs.Damages.{damage_of};
 ghost use Rattle.usb_wire.specs.Packets.{IsLegal, packet_bytes, view_of};
-ghost use Rattle.usb_device.specs.Transactions.{HasRoom};
+ghost use Rattle.usb_device.specs.Replies.{HasRoom};
 ghost use Rattle.usb_bus.specs.Damaged.{HasLegalData, IsLegalSent, bits_of, with_changed};
 ghost use Rattle.usb_bus.specs.PacketLines.{bits_words, changed_lines, damage_name, has_bits, head_words, lines_of, listed, packet_line, packet_lines, packet_name, packet_part, packets_below, pid_name, refused_words, transaction_packets, whole_line};
 ghost use Rattle.usb_bus.specs.inside.Seeing.{AreLegal};

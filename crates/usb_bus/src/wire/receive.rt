@@ -2,7 +2,7 @@
 ghost use Rattle.std.specs.Prelude.{◌≡◌, ◌==◌, ◌&&◌, ◌<◌, IfSome, Some, option_map};
 ghost use Rattle.usb_fields.specs.Packets.{SetupToken, reply_of, sent_of, token_of};
 ghost use Rattle.usb_wire.specs.Packets.{IsLegal, view_of};
-ghost use Rattle.usb_device.specs.Transactions.{HasRoom};
+ghost use Rattle.usb_device.specs.Replies.{HasRoom};
 ghost use Rattle.usb_bus.specs.Wire.{Receives, ack_packet, data_kind, data_packet, heard_reply, heard_sent, heard_token, is_ack, reply_packet, token_packet};
 ghost use Rattle.usb_bus.specs.Damaged.{HasLegalData, IsTakenOf, arriving, bits_of, fitting, reply_number};
 

@@ -8,8 +8,7 @@ ghost use Rattle.usb_device.specs.Stages.{data_bytes, data_of, request_of, sourc
 
 use super::EndpointZero;
 use crate::image::Image;
-use crate::stage::{Source, Stage, toggle_at};
-use crate::transaction::toggle_number;
+use crate::stage::{Source, Stage, toggle_at, toggle_number};
 use usb_fields::{Toggle, after, prefix};
 
 impl EndpointZero {

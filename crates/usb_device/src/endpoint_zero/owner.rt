@@ -9,8 +9,7 @@ ghost use Rattle.usb_device.specs.Stages.{data_of, request_of, stage_at, toggle_
 use super::EndpointZero;
 use crate::beside::{Unanswered, is_open};
 use crate::image::Image;
-use crate::stage::{Decision, Source, Stage, toggle_at};
-use crate::transaction::toggle_number;
+use crate::stage::{Decision, Source, Stage, toggle_at, toggle_number};
 use usb_fields::{Direction, Setup, Toggle, prefix};
 
 impl EndpointZero {

@@ -1,6 +1,6 @@
 use Rattle.std.proofs.Common.{◌≡◌, rules}
 use Rattle.std.specs.Option.{option_and_then, option_map, unwrap_or}
-use Rattle.usb_device.specs.Transactions.{transaction_of}
+use Rattle.usb_c.specs.Transactions.{transaction_of}
 use Rattle.usb_host.specs.Transfer.{due}
 use Rattle.usb_c.specs.Transfers.{transfer_in}
 use Rattle.usb_c.proofs.Due.{due_whole}

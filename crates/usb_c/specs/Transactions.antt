@@ -1,21 +1,18 @@
 -- Transactions and packets as numbers.
-use Rattle.std.specs.Prelude.{ℕ, ◌≤◌, List, ◌++◌, length, drop, take, nat_lt, replicate, ◌==◌, Option, Some, None, if◌then◌else◌}
+use Rattle.std.specs.Prelude.{ℕ, List, ◌++◌, length, drop, take, nat_lt, replicate, ◌==◌, Option, Some, None, if◌then◌else◌}
 use Rattle.std.specs.Option.{option_map}
 use Rattle.usb_fields.specs.declared.packet.Toggle.{Toggle}
 use Rattle.usb_fields.specs.declared.packet.Toggle.TheVariants.{Data0, Data1}
 use Rattle.usb_fields.specs.declared.packet.Speed.{Speed}
 use Rattle.usb_fields.specs.declared.packet.Speed.TheVariants as speeds
 use Rattle.usb_fields.specs.Packets.{Token, SetupToken, InToken, OutToken, Sent, Reply, AckReply, NakReply, StallReply, DataReply, NoReply}
-use Rattle.usb_device.specs.declared.transaction.NzgTransaction.{NzgTransaction}
-use Rattle.usb_device.specs.declared.transaction.NzgPacket.{NzgPacket}
+use Rattle.usb_device.specs.Stages.{toggle_number}
+use Rattle.usb_c.specs.declared.transaction.NzgTransaction.{NzgTransaction}
+use Rattle.usb_c.specs.declared.transaction.NzgPacket.{NzgPacket}
 
 -- the toggle of a number, if it has a meaning
 abbrev pub toggle_told : ℕ → Option Toggle
 toggle_told number = if number == 0 then Some Data0 else if number == 1 then Some Data1 else None
-
-abbrev pub toggle_number : Toggle → ℕ
-toggle_number Data0 = 0
-toggle_number Data1 = 1
 
 -- the speed of a number
 abbrev pub speed_told : ℕ → Option Speed
@@ -43,14 +40,6 @@ token_numbers address (OutToken toggle bytes) =
 
 abbrev pub transaction_of : Sent → NzgTransaction
 transaction_of sent = token_numbers sent.address sent.token
-
--- a reply of at most 64 bytes
-abbrev pub HasRoom : Reply → Type 0
-HasRoom AckReply = Unit {0}
-HasRoom NakReply = Unit {0}
-HasRoom StallReply = Unit {0}
-HasRoom (DataReply toggle bytes) = length bytes ≤ 64
-HasRoom NoReply = Unit {0}
 
 -- the packet of a reply, where another one stood: what stands after its bytes stays
 abbrev pub packet_of : Reply → NzgPacket → NzgPacket

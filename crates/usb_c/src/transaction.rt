@@ -1,9 +1,10 @@
 //! Transactions and packets, as C sees them.
-ghost use Rattle.std.specs.Prelude.{◌≡◌, ◌≤◌, ◌++◌, drop, length};
+ghost use Rattle.std.specs.Prelude.{◌≡◌, ◌≤◌, ◌++◌, Some, drop, length};
 ghost use Rattle.std.specs.Option.{option_map};
 ghost use Rattle.usb_fields.specs.Packets.{reply_of, sent_of};
-ghost use Rattle.usb_device.specs.Stages.{toggle_at};
-ghost use Rattle.usb_device.specs.Transactions.{HasRoom, packet_of, packet_told, reply_told, sent_told, speed_told, toggle_number, toggle_told, transaction_of};
+ghost use Rattle.usb_device.specs.Replies.{HasRoom};
+ghost use Rattle.usb_device.specs.Stages.{toggle_number};
+ghost use Rattle.usb_c.specs.Transactions.{packet_of, packet_told, reply_told, sent_told, speed_told, toggle_told, transaction_of};
 
 use usb_fields::{Answer, Speed, Stage, Toggle, Transaction};
 
@@ -35,7 +36,7 @@ pub struct NzgPacket {
 }
 
 /// The toggle of this number, or `None` where it has no meaning.
-pub fn toggle_of(number: u8) -> Option<Toggle>
+pub(crate) fn toggle_of(number: u8) -> Option<Toggle>
     ensures { result ≡ toggle_told number }
 {
     match number {
@@ -45,11 +46,10 @@ pub fn toggle_of(number: u8) -> Option<Toggle>
     }
 }
 
-#[tactic(auto, unfolding(crate::specs::Stages::toggle_at))]
-#[inline(always)]
+/// The number of a toggle.
 pub(crate) fn toggle_number(toggle: Toggle) -> u8
     ensures number { result ≡ toggle_number toggle }
-    ensures back { toggle_at result ≡ toggle }
+    ensures back { toggle_told result ≡ Some toggle }
 {
     match toggle {
         Toggle::Data0 => 0,
@@ -58,7 +58,7 @@ pub(crate) fn toggle_number(toggle: Toggle) -> u8
 }
 
 /// The speed of this number, or `None` where it has no meaning.
-pub fn speed_of(number: u8) -> Option<Speed>
+pub(crate) fn speed_of(number: u8) -> Option<Speed>
     ensures { result ≡ speed_told number }
 {
     match number {
@@ -70,7 +70,7 @@ pub fn speed_of(number: u8) -> Option<Speed>
 }
 
 /// The transaction that these numbers are, whose OUT has these bytes. `None` where a stage or a toggle has no meaning.
-pub fn sent<'a>(told: &NzgTransaction, bytes: &'a [u8]) -> Option<Transaction<'a>>
+pub(crate) fn sent<'a>(told: &NzgTransaction, bytes: &'a [u8]) -> Option<Transaction<'a>>
     ensures { option_map sent_of result ≡ sent_told told.now bytes.now }
 {
     let stage = match told.stage {
@@ -89,7 +89,7 @@ pub fn sent<'a>(told: &NzgTransaction, bytes: &'a [u8]) -> Option<Transaction<'a
 }
 
 /// A transaction as numbers; of OUT without its bytes.
-pub fn told(transaction: &Transaction<'_>) -> NzgTransaction
+pub(crate) fn told(transaction: &Transaction<'_>) -> NzgTransaction
     ensures { result ≡ transaction_of (sent_of transaction.now) }
 {
     let address = transaction.address;
@@ -116,7 +116,7 @@ pub fn told(transaction: &Transaction<'_>) -> NzgTransaction
 }
 
 /// Writes an answer of at most 64 bytes as a packet.
-pub fn tell(answer: Answer<'_>, packet: &mut NzgPacket)
+pub(crate) fn tell(answer: Answer<'_>, packet: &mut NzgPacket)
     requires { HasRoom (reply_of answer) }
     ensures { packet.new ≡ packet_of (reply_of answer.entry) packet.old }
 {
@@ -148,7 +148,7 @@ fn tell_data(toggle: Toggle, bytes: &[u8], packet: &mut NzgPacket)
 }
 
 /// The answer that these numbers are, or `None` where a reply or the toggle of a data packet has no meaning.
-pub fn answer_of<'a>(reply: u8, toggle: u8, bytes: &'a [u8]) -> Option<Answer<'a>>
+pub(crate) fn answer_of<'a>(reply: u8, toggle: u8, bytes: &'a [u8]) -> Option<Answer<'a>>
     ensures { option_map reply_of result ≡ reply_told reply toggle bytes.now }
 {
     match reply {
@@ -165,7 +165,7 @@ pub fn answer_of<'a>(reply: u8, toggle: u8, bytes: &'a [u8]) -> Option<Answer<'a
 }
 
 /// The answer that a packet says, or `None` where its numbers have no meaning.
-pub fn answer_in(packet: &NzgPacket) -> Option<Answer<'_>>
+pub(crate) fn answer_in(packet: &NzgPacket) -> Option<Answer<'_>>
     ensures { option_map reply_of result ≡ packet_told packet.now }
 {
     if packet.length > 64 {
