@@ -17,8 +17,8 @@ use Rattle.usb_file_data.specs.declared.finding.Part.TheVariants as parts
 use Rattle.usb_file_data.specs.declared.rule.Rule.{Rule}
 use Rattle.usb_file_data.specs.declared.rule.Rule.TheVariants as rules
 use Rattle.usb_file_data.specs.Numbers.{rule_number, rule_numbered}
-use Rattle.usb_file_data.specs.Places.{finding, is_among, when}
-use Rattle.usb_file_data.specs.Findings.{at_configuration, at_device, by_rule, file_in_order, findings, found_from, of_rule, other_in_order, part_in_order, without_sets}
+use Rattle.usb_file_data.specs.Places.{at_each, at_each_counted, finding, is_among, when}
+use Rattle.usb_file_data.specs.Findings.{association_count, at_configuration, at_device, by_rule, extras_in_order, file_in_order, findings, found_from, of_rule, other_in_order, part_in_order, set_in_order, setting_associations, setting_in_order, without_sets}
 use Rattle.usb_file_data.specs.inside.Ends.{AreEnds}
 use Rattle.usb_file_data.specs.Rules.{has_number_gap, interface_numbers, wrong_attributes, wrong_device, wrong_interface_count, wrong_value}
 use Rattle.usb_file_data.specs.Causes.{Broken, attributes_cause, broken_by, device_cause, value_cause}
@@ -265,7 +265,9 @@ not_value false holds none = not_when rules.V10 causes.RepeatedValue parts.Main 
 first_of : (sets : List Configuration) → of_broken rules.V10 (without_sets parts.Main sets) ≡ [] → of_found rules.V10 1 (part_in_order parts.Main sets) ≡ [] → FirstIsRight sets
 first_of [] none here = cc
 first_of (c ∷ cs) none here =
-    let set = none_on rules.V10 1 (at_configuration parts.Main [] 0 c) _ here in
+    let settings = at_each_counted setting_associations (setting_in_order parts.Main 0 c.settings) 0 (association_count c.extras) c.settings in
+    let later = at_each (λ i d. set_in_order parts.Main (take i (c ∷ cs)) i d) 1 cs in
+    let set = none_on rules.V10 1 (at_configuration parts.Main [] 0 c) ((extras_in_order parts.Main 0 c.settings 0 c.extras ++ settings) ++ later) here in
     let value = none_in_four rules.V10 (when (wrong_interface_count c) (broken_by (causes.InterfaceCount c.declared_interfaces (length (interface_numbers c.settings))) parts.Main 0 0 0))
     (when (has_number_gap c) (broken_by causes.NumberGap parts.Main 0 0 0)) (when (wrong_attributes c) (broken_by (attributes_cause c.attributes) parts.Main 0 0 0))
     (when (wrong_value [] c) (broken_by (value_cause c.value) parts.Main 0 0 0)) set.0 in

@@ -168,7 +168,7 @@ fn walk_file(
 }
 
 /// The device descriptor, the main part and the other part.
-#[tactic(auto, using(crate::proofs::Reporting::walked_again, crate::proofs::Reporting::walked_none, crate::proofs::Reporting::walked_on, std::proofs::lemmas::Grind::common_steps))]
+#[tactic(auto, using(crate::proofs::Reporting::reported_again, crate::proofs::Reporting::walked_again, crate::proofs::Reporting::walked_none, crate::proofs::Reporting::walked_on, std::proofs::lemmas::Grind::common_steps))]
 fn check_parts(
     found: &mut Report,
     known: &mut Known,

@@ -19,7 +19,7 @@ use usb_set::{Association, Extra, Sequence};
 ///
 /// Most descriptors own no extras, and most extras are no associations: for them nothing is called.
 #[inline(always)]
-#[tactic(auto, using(crate::proofs::Reporting::walked_again, crate::proofs::Reporting::walked_none, crate::proofs::Reporting::walked_on, std::proofs::lemmas::Grind::common_steps))]
+#[tactic(auto, using(crate::proofs::Reporting::passed_extras, crate::proofs::Reporting::walked_none, std::proofs::lemmas::Grind::common_steps))]
 pub(crate) fn check_extras(
     found: &mut Report,
     interfaces: &Interfaces,
