@@ -85,10 +85,8 @@ unfolding found_at
 told_behind s mine later fs (inl e) =
     let own = map (found s.descriptors) mine in
     let rest = found_from (s.descriptors + 1) later in
-    inl (
-      ap (λ (l : List Found). drop (length (take_while (is_here s) l)) l) e
-      ∙ ap (λ (l : List Found). drop (length l) (own ++ rest)) (mine_first s mine later) ∙ drop-append_seam own rest,
-    )
+    inl (ap (λ (l : List Found). drop (length (take_while (is_here s) l)) l) e
+    ∙ ap (λ (l : List Found). drop (length l) (own ++ rest)) (mine_first s mine later) ∙ drop-append_seam own rest)
 told_behind s mine later fs (inr e) = inr (ap (λ (l : List Found). drop (length (take_while (is_here s) l)) l) e)
 
 -- what is found at a descriptor of this role is at its place

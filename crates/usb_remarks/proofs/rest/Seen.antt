@@ -1,5 +1,5 @@
 -- What of a standing says which descriptors can come next and which findings they have, and how a walk goes on behind one.
-use Rattle.std.proofs.Common.{◌≡◌, ℕ, Bool, true, false, List, [], ◌∷◌, ◌++◌, append_assoc, map, Option, Some, sym, subst}
+use Rattle.std.proofs.Common.{◌≡◌, ℕ, Bool, true, false, List, [], ◌∷◌, ◌++◌, append_assoc, length, map, Option, Some, sym, subst}
 use Rattle.std.specs.List.{AllByRecursion}
 use Rattle.usb_file_data.specs.declared.cause.Found.{Found}
 use Rattle.usb_file_data.specs.declared.finding.Part.{Part}
