@@ -1,5 +1,5 @@
 -- Walks that come to the end of the bytes, and their text.
-use Rattle.std.proofs.Common.{◌≡◌, ◌≤◌, ℕ, zero, suc, List, [], ◌++◌, flat_map, length, map, drop, Option, Some, is_some, ◌==◌, ◌&&◌, sym, ap, subst, ◌∙◌, arith, append-nil, length-drop, Bool, true, false, cond, ◌∷◌, refl}
+use Rattle.std.proofs.Common.{◌≡◌, ◌≤◌, ℕ, zero, suc, List, [], ◌++◌, flat_map, length, map, drop, Option, Some, is_some, sym, ap, subst, ◌∙◌, arith, append-nil, length-drop, ◌∷◌}
 use Rattle.usb_walk.specs.declared.role.Role.{Role}
 use Rattle.usb_remarks.specs.declared.standing.Standing.{Standing}
 use Rattle.usb_remarks.specs.Outline.{Entry, after_next, end_of, entries, entry_next, findings_of, left_next, outline}
