@@ -11,18 +11,18 @@ use Rattle.usb_set.specs.declared.tree.Configuration.{Configuration}
 use Rattle.usb_file_data.specs.declared.file.DescriptorFile.{DescriptorFile}
 use Rattle.usb_file_data.specs.declared.cause.Cause.{Cause}
 use Rattle.usb_file_data.specs.declared.cause.Cause.TheVariants as causes
-use Rattle.usb_file_data.specs.declared.cause.Found.{Found}
 use Rattle.usb_file_data.specs.declared.finding.Finding.{Finding}
 use Rattle.usb_file_data.specs.declared.finding.Part.{Part}
 use Rattle.usb_file_data.specs.declared.finding.Part.TheVariants as parts
 use Rattle.usb_file_data.specs.declared.rule.Rule.{Rule}
 use Rattle.usb_file_data.specs.declared.rule.Rule.TheVariants as rules
 use Rattle.usb_file_data.specs.Numbers.{rule_number, rule_numbered}
-use Rattle.usb_file_data.specs.Places.{finding, is_among, when}
-use Rattle.usb_file_data.specs.Findings.{at_associations, at_configuration, at_device, by_rule, file_in_order, findings, of_rule, other_in_order, part_in_order, without_sets}
+use Rattle.usb_file_data.specs.Places.{at_each, at_each_counted, finding, is_among, when}
+use Rattle.usb_file_data.specs.Findings.{association_count, at_configuration, at_device, by_rule, extras_in_order, file_in_order, findings, found_from, of_rule, other_in_order, part_in_order, set_in_order, setting_associations, setting_in_order, without_sets}
 use Rattle.usb_file_data.specs.inside.Ends.{AreEnds}
 use Rattle.usb_file_data.specs.Rules.{has_number_gap, interface_numbers, wrong_attributes, wrong_device, wrong_interface_count, wrong_value}
-use Rattle.usb_file_data.specs.Causes.{attributes_cause, device_cause, found, value_cause}
+use Rattle.usb_file_data.specs.Causes.{Broken, attributes_cause, broken_by, device_cause, value_cause}
+use Rattle.usb_file_data.proofs.Reporting.{findings_on}
 use Rattle.usb_file_data.proofs.RuleNumbers.{bounds, known, with_number}
 use Rattle.usb_file_data.proofs.Walking.{stands_more, take_all, take_more}
 
@@ -198,36 +198,58 @@ no_right : {A : Type 0} (xs ys : List A) → xs ++ ys ≡ [] → ys ≡ []
 no_right [] ys none = none
 no_right (x ∷ xs) ys none = cc
 
--- the findings of a rule, without their causes
-abbrev of_found : Rule → List Found → List Finding
-of_found r xs = of_rule r (map (λ f. f.finding) xs)
+-- the findings of a rule, without their causes: at a descriptor, and at those from a number on
+abbrev of_broken : Rule → List Broken → List Finding
+of_broken r broken = of_rule r (map (λ b. b.finding) broken)
+
+abbrev of_found : Rule → ℕ → List (List Broken) → List Finding
+of_found r n broken = of_rule r (map (λ f. f.finding) (found_from n broken))
 
 -- where no finding is of a rule, none in a part of the list is
-none_in_two : (r : Rule) (a b : List Found) → of_found r (a ++ b) ≡ [] → (of_found r a ≡ []) × (of_found r b ≡ [])
+none_in_two : (r : Rule) (a b : List Broken) → of_broken r (a ++ b) ≡ [] → (of_broken r a ≡ []) × (of_broken r b ≡ [])
 none_in_two r a b none =
-    let both = sym (ap (of_rule r) (map-append (λ f. f.finding) a b) ∙ filter-append _ (map (λ f. f.finding) a) (map (λ f. f.finding) b)) ∙ none in
-    (no_left (of_found r a) (of_found r b) both, no_right (of_found r a) (of_found r b) both)
+    let both = sym (ap (of_rule r) (map-append (λ b. b.finding) a b) ∙ filter-append _ (map (λ b. b.finding) a) (map (λ b. b.finding) b)) ∙ none in
+    (no_left (of_broken r a) (of_broken r b) both, no_right (of_broken r a) (of_broken r b) both)
 
-none_in_four : (r : Rule) (a b c d : List Found) → of_found r (a ++ b ++ c ++ d) ≡ [] → (of_found r a ≡ []) × (of_found r b ≡ []) × (of_found r c ≡ []) × (of_found r d ≡ [])
+none_in_four : (r : Rule) (a b c d : List Broken) → of_broken r (a ++ b ++ c ++ d) ≡ [] → (of_broken r a ≡ []) × (of_broken r b ≡ []) × (of_broken r c ≡ []) × (of_broken r d ≡ [])
 none_in_four r a b c d none =
     let last = none_in_two r (a ++ b ++ c) d none in
     let third = none_in_two r (a ++ b) c last.0 in
     let first = none_in_two r a b third.0 in
     (first.0, first.1, third.1, last.1)
 
-not_when : (r : Rule) (cause : Cause) (part : Part) (holds : Bool) → of_found r (when holds (found cause part 0 0 0)) ≡ [] → length (of_found r (found cause part 0 0 0 ∷ [])) ≡ 1 → holds ≡ false
+-- none is at the first descriptor, and none at those after it
+none_on : (r : Rule) (n : ℕ) (here : List Broken) (later : List (List Broken)) → of_found r n (here ∷ later) ≡ [] → (of_broken r here ≡ []) × (of_found r (n + 1) later ≡ [])
+none_on r n here later none =
+    let both = sym (ap (of_rule r) (findings_on n here later) ∙ filter-append _ (map (λ b. b.finding) here) (map (λ f. f.finding) (found_from (n + 1) later))) ∙ none in
+    (no_left (of_broken r here) (of_found r (n + 1) later) both, no_right (of_broken r here) (of_found r (n + 1) later) both)
+
+none_before : (r : Rule) (n : ℕ) (xs ys : List (List Broken)) → of_found r n (xs ++ ys) ≡ [] → of_found r n xs ≡ []
+none_before r n [] ys none = refl
+none_before r n (x ∷ xs) ys none =
+    let both = none_on r n x (xs ++ ys) none in
+    ap (of_rule r) (findings_on n x xs) ∙ filter-append _ (map (λ b. b.finding) x) (map (λ f. f.finding) (found_from (n + 1) xs))
+    ∙ ap (λ l. l ++ of_found r (n + 1) xs) both.0 ∙ none_before r (n + 1) xs ys both.1
+
+not_when : (r : Rule) (cause : Cause) (part : Part) (holds : Bool) → of_broken r (when holds (broken_by cause part 0 0 0)) ≡ [] → length (of_broken r (broken_by cause part 0 0 0 ∷ [])) ≡ 1 → holds ≡ false
 not_when r cause part true none one = cc
 not_when r cause part false none one = refl
 
-none_in_file : (r : Rule) (f : DescriptorFile) → of_found r (file_in_order false f) ≡ []
-    → (of_found r (without_sets parts.Main f.sets) ≡ []) × (of_found r (at_device false f.device) ≡ [])
-    × (of_found r (part_in_order parts.Main f.sets) ≡ []) × (of_found r (other_in_order f.other) ≡ [])
-none_in_file r f = none_in_four r (without_sets parts.Main f.sets) (at_device false f.device) (part_in_order parts.Main f.sets) (other_in_order f.other)
+none_at_device : (r : Rule) (f : DescriptorFile) → of_found r 0 (file_in_order false f) ≡ []
+    → (of_broken r (without_sets parts.Main f.sets) ≡ []) × (of_broken r (at_device false f.device) ≡ [])
+none_at_device r f none =
+    none_in_two r (without_sets parts.Main f.sets) (at_device false f.device)
+    (none_on r 0 (without_sets parts.Main f.sets ++ at_device false f.device) (part_in_order parts.Main f.sets ++ other_in_order f.other) none).0
+
+none_in_sets : (r : Rule) (f : DescriptorFile) → of_found r 0 (file_in_order false f) ≡ [] → of_found r 1 (part_in_order parts.Main f.sets) ≡ []
+none_in_sets r f none =
+    none_before r 1 (part_in_order parts.Main f.sets) (other_in_order f.other)
+    (none_on r 0 (without_sets parts.Main f.sets ++ at_device false f.device) (part_in_order parts.Main f.sets ++ other_in_order f.other) none).1
 
 -- a file that breaks no rule has a right device descriptor
 pub device_right : (f : DescriptorFile) → findings f ≡ [] → wrong_device f.device ≡ false
 device_right f none =
-    let all = none_in_file rules.V11 f (no_right _ _ (no_left _ _ (no_left _ _ none))) in
+    let all = none_at_device rules.V11 f (no_right _ _ (no_left _ _ (no_left _ _ none))) in
     not_when rules.V11 (device_cause false f.device) parts.Device (wrong_device f.device) all.1 refl
 
 -- there is a first set, and SET_CONFIGURATION can select it
@@ -236,22 +258,23 @@ FirstIsRight [] = ⊥
 FirstIsRight (c ∷ cs) = wrong_value [] c ≡ false
 
 -- V10 of a set, whatever is wrong with its value
-not_value : (is_zero holds : Bool) → of_found rules.V10 (when holds (found (if is_zero then causes.ZeroValue else causes.RepeatedValue) parts.Main 0 0 0)) ≡ [] → holds ≡ false
+not_value : (is_zero holds : Bool) → of_broken rules.V10 (when holds (broken_by (if is_zero then causes.ZeroValue else causes.RepeatedValue) parts.Main 0 0 0)) ≡ [] → holds ≡ false
 not_value true holds none = not_when rules.V10 causes.ZeroValue parts.Main holds none refl
 not_value false holds none = not_when rules.V10 causes.RepeatedValue parts.Main holds none refl
 
-first_of : (sets : List Configuration) → of_found rules.V10 (without_sets parts.Main sets) ≡ [] → of_found rules.V10 (part_in_order parts.Main sets) ≡ [] → FirstIsRight sets
+first_of : (sets : List Configuration) → of_broken rules.V10 (without_sets parts.Main sets) ≡ [] → of_found rules.V10 1 (part_in_order parts.Main sets) ≡ [] → FirstIsRight sets
 first_of [] none here = cc
 first_of (c ∷ cs) none here =
-    let at = at_configuration parts.Main [] 0 c in
-    let set = none_in_four rules.V10 at (at_associations parts.Main 0 c.settings 0 c.extras) _ _ here in
-    let value = none_in_four rules.V10 (when (wrong_interface_count c) (found (causes.InterfaceCount c.declared_interfaces (length (interface_numbers c.settings))) parts.Main 0 0 0))
-    (when (has_number_gap c) (found causes.NumberGap parts.Main 0 0 0)) (when (wrong_attributes c) (found (attributes_cause c.attributes) parts.Main 0 0 0))
-    (when (wrong_value [] c) (found (value_cause c.value) parts.Main 0 0 0)) set.0 in
+    let settings = at_each_counted setting_associations (setting_in_order parts.Main 0 c.settings) 0 (association_count c.extras) c.settings in
+    let later = at_each (λ i d. set_in_order parts.Main (take i (c ∷ cs)) i d) 1 cs in
+    let set = none_on rules.V10 1 (at_configuration parts.Main [] 0 c) ((extras_in_order parts.Main 0 c.settings 0 c.extras ++ settings) ++ later) here in
+    let value = none_in_four rules.V10 (when (wrong_interface_count c) (broken_by (causes.InterfaceCount c.declared_interfaces (length (interface_numbers c.settings))) parts.Main 0 0 0))
+    (when (has_number_gap c) (broken_by causes.NumberGap parts.Main 0 0 0)) (when (wrong_attributes c) (broken_by (attributes_cause c.attributes) parts.Main 0 0 0))
+    (when (wrong_value [] c) (broken_by (value_cause c.value) parts.Main 0 0 0)) set.0 in
     not_value (c.value == 0) (wrong_value [] c) value.3
 
 -- so has a file that breaks no rule
 pub first_right : (f : DescriptorFile) → findings f ≡ [] → FirstIsRight f.sets
 first_right f none =
-    let all = none_in_file rules.V10 f (no_right _ _ (no_left _ _ (no_left _ _ (no_left _ _ none)))) in
-    first_of f.sets all.0 all.2
+    let all = no_right _ _ (no_left _ _ (no_left _ _ (no_left _ _ none))) in
+    first_of f.sets (none_at_device rules.V10 f all).0 (none_in_sets rules.V10 f all)

@@ -5,9 +5,9 @@ use Rattle.usb_fields.specs.declared.qualifier.Qualifier.{Qualifier}
 use Rattle.usb_set.specs.declared.extra.Association.{Association}
 use Rattle.usb_file_data.specs.declared.cause.Cause.{Cause}
 use Rattle.usb_file_data.specs.declared.cause.Cause.TheVariants as causes
-use Rattle.usb_file_data.specs.declared.cause.Found.{Found}
 use Rattle.usb_file_data.specs.declared.cause.PacketFault.{PacketFault}
 use Rattle.usb_file_data.specs.declared.cause.PacketFault.TheVariants as packets
+use Rattle.usb_file_data.specs.declared.finding.Finding.{Finding}
 use Rattle.usb_file_data.specs.declared.finding.Part.{Part}
 use Rattle.usb_file_data.specs.declared.rule.Rule.{Rule}
 use Rattle.usb_file_data.specs.declared.rule.Rule.TheVariants as rules
@@ -34,9 +34,14 @@ rule_of causes.PacketSize = rules.V12
 rule_of causes.NoInterface = rules.V13
 rule_of causes.MissingInterface = rules.V13
 
--- what is found where a rule is broken by a cause
-abbrev pub found : Cause → Part → ℕ → ℕ → ℕ → Found
-found cause part set setting endpoint = record { finding = finding (rule_of cause) part set setting endpoint; cause = cause }
+-- a broken rule at its place, and why it is broken
+pub record Broken : Type 0 where
+  pub finding : Finding
+  pub cause : Cause
+
+-- the rule that is broken by a cause there
+abbrev pub broken_by : Cause → Part → ℕ → ℕ → ℕ → Broken
+broken_by cause part set setting endpoint = record { finding = finding (rule_of cause) part set setting endpoint; cause = cause }
 
 -- V6: what is wrong with bEndpointAddress
 abbrev pub address_cause : ℕ → Cause

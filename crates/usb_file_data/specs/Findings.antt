@@ -1,9 +1,10 @@
--- All that breaks a rule: at each descriptor, in the order of the bytes, what it breaks; and the same sorted by rule.
+-- All that breaks a rule: for each descriptor, in the order of the bytes, what it breaks; and the same sorted by rule.
 use Rattle.std.specs.Prelude.{ℕ, ◌+◌, List, [], ◌∷◌, ◌++◌, filter, fold, length, map, take, Bool, true, false, ◌==◌, Option, Some, None, if◌then◌else◌}
 use Rattle.std.specs.List.{flat_map}
 use Rattle.usb_fields.specs.declared.device.DeviceDescriptor.{DeviceDescriptor}
 use Rattle.usb_fields.specs.declared.qualifier.Qualifier.{Qualifier}
 use Rattle.usb_set.specs.declared.extra.Extra.{Extra}
+use Rattle.usb_set.specs.declared.extra.Extra.TheVariants as extras
 use Rattle.usb_set.specs.declared.tree.Endpoint.{Endpoint}
 use Rattle.usb_set.specs.declared.tree.Setting.{Setting}
 use Rattle.usb_set.specs.declared.tree.Configuration.{Configuration}
@@ -22,40 +23,47 @@ use Rattle.usb_file_data.specs.declared.finding.Finding.{Finding}
 use Rattle.usb_file_data.specs.declared.rule.Rule.{Rule}
 use Rattle.usb_file_data.specs.Numbers.{every_rule, rule_number}
 use Rattle.usb_file_data.specs.Places.{at_each, at_each_after, at_each_counted, when}
-use Rattle.usb_file_data.specs.Causes.{address_cause, association_cause, attributes_cause, device_cause, found, qualifier_cause, value_cause}
+use Rattle.usb_file_data.specs.Causes.{Broken, address_cause, association_cause, attributes_cause, broken_by, device_cause, qualifier_cause, value_cause}
 use Rattle.usb_file_data.specs.Rules.{binds_missing_interface, has_number_gap, interface_numbers, lacks_default_setting, repeats_address, repeats_setting, shares_address, wrong_address, wrong_attributes, wrong_device, wrong_dumped_device, wrong_endpoint_count, wrong_interface_count, wrong_packet_size, wrong_qualifier, wrong_value}
 
 -- at the first descriptor of a set, given the sets before it in its part
-abbrev pub at_configuration : Part → List Configuration → ℕ → Configuration → List Found
+abbrev pub at_configuration : Part → List Configuration → ℕ → Configuration → List Broken
 at_configuration part before i c =
-    when (wrong_interface_count c) (found (causes.InterfaceCount c.declared_interfaces (length (interface_numbers c.settings))) part i 0 0)
-    ++ when (has_number_gap c) (found causes.NumberGap part i 0 0)
-    ++ when (wrong_attributes c) (found (attributes_cause c.attributes) part i 0 0)
-    ++ when (wrong_value before c) (found (value_cause c.value) part i 0 0)
+    when (wrong_interface_count c) (broken_by (causes.InterfaceCount c.declared_interfaces (length (interface_numbers c.settings))) part i 0 0)
+    ++ when (has_number_gap c) (broken_by causes.NumberGap part i 0 0)
+    ++ when (wrong_attributes c) (broken_by (attributes_cause c.attributes) part i 0 0)
+    ++ when (wrong_value before c) (broken_by (value_cause c.value) part i 0 0)
 
--- at the associations among these extras of a set, of which the first is the n-th of the set
-abbrev pub at_associations : Part → ℕ → List Setting → ℕ → List Extra → List Found
-at_associations part i settings n extras =
-    at_each (λ k a. when (binds_missing_interface settings a) (found (association_cause a) part i k 0)) n (flat_map association_in extras)
+-- at an extra of a set that is an association, before which the set has n of these
+abbrev pub at_extra : Part → ℕ → List Setting → ℕ → Extra → List Broken
+at_extra part i settings n (extras.Association a) = when (binds_missing_interface settings a) (broken_by (association_cause a) part i n 0)
+at_extra part i settings n x = []
 
 -- at the interface descriptor of a setting, given those before it and all of the set
-abbrev pub at_interface : Part → ℕ → List Setting → ℕ → Setting → List Found
+abbrev pub at_interface : Part → ℕ → List Setting → ℕ → Setting → List Broken
 at_interface part i settings j s =
-    when (repeats_setting (take j settings) s) (found causes.RepeatedSetting part i j 0)
-    ++ when (lacks_default_setting settings (take j settings) s) (found causes.NoDefaultSetting part i j 0)
-    ++ when (wrong_endpoint_count s) (found (causes.EndpointCount s.declared_endpoints (length s.endpoints)) part i j 0)
+    when (repeats_setting (take j settings) s) (broken_by causes.RepeatedSetting part i j 0)
+    ++ when (lacks_default_setting settings (take j settings) s) (broken_by causes.NoDefaultSetting part i j 0)
+    ++ when (wrong_endpoint_count s) (broken_by (causes.EndpointCount s.declared_endpoints (length s.endpoints)) part i j 0)
 
 -- at the descriptor of an endpoint, given the settings before its own
-abbrev pub at_endpoint : Part → ℕ → List Setting → ℕ → Setting → ℕ → Endpoint → List Found
+abbrev pub at_endpoint : Part → ℕ → List Setting → ℕ → Setting → ℕ → Endpoint → List Broken
 at_endpoint part i before j s k e =
-    when (wrong_address e.address) (found (address_cause e.address) part i j k)
-    ++ when (repeats_address (take k s.endpoints) e) (found causes.RepeatedAddress part i j k)
-    ++ when (shares_address before s e) (found causes.SharedAddress part i j k)
-    ++ when (wrong_packet_size e.max_packet) (found causes.PacketSize part i j k)
+    when (wrong_address e.address) (broken_by (address_cause e.address) part i j k)
+    ++ when (repeats_address (take k s.endpoints) e) (broken_by causes.RepeatedAddress part i j k)
+    ++ when (shares_address before s e) (broken_by causes.SharedAddress part i j k)
+    ++ when (wrong_packet_size e.max_packet) (broken_by causes.PacketSize part i j k)
+
+-- From here on there is one list for each descriptor, in the order of the bytes.
+
+-- at extras of a set one after another, before which it has n associations
+abbrev pub extras_in_order : Part → ℕ → List Setting → ℕ → List Extra → List (List Broken)
+extras_in_order part i settings n [] = []
+extras_in_order part i settings n (x ∷ xs) = at_extra part i settings n x ∷ extras_in_order part i settings (n + length (association_in x)) xs
 
 -- how many associations there are among the extras
 abbrev pub association_count : List Extra → ℕ
-association_count extras = length (flat_map association_in extras)
+association_count xs = length (flat_map association_in xs)
 
 -- how many there are after an endpoint
 abbrev pub endpoint_associations : Endpoint → ℕ
@@ -66,54 +74,50 @@ abbrev pub setting_associations : Setting → ℕ
 setting_associations s = association_count (setting_extras s)
 
 -- at an endpoint, and then at its extras, where so many associations of the set come before
-abbrev pub endpoint_in_order : Part → ℕ → List Setting → ℕ → Setting → ℕ → ℕ → Endpoint → List Found
+abbrev pub endpoint_in_order : Part → ℕ → List Setting → ℕ → Setting → ℕ → ℕ → Endpoint → List (List Broken)
 endpoint_in_order part i settings j s k n e =
-    at_endpoint part i (take j settings) j s k e ++ at_associations part i settings n e.extras
+    at_endpoint part i (take j settings) j s k e ∷ extras_in_order part i settings n e.extras
 
 -- at the interface of a setting, then at its extras, and then at its endpoints
-abbrev pub setting_in_order : Part → ℕ → List Setting → ℕ → ℕ → Setting → List Found
+abbrev pub setting_in_order : Part → ℕ → List Setting → ℕ → ℕ → Setting → List (List Broken)
 setting_in_order part i settings j n s =
     at_interface part i settings j s
-    ++ at_associations part i settings n s.extras
+    ∷ extras_in_order part i settings n s.extras
     ++ at_each_counted endpoint_associations (endpoint_in_order part i settings j s) 0 (n + association_count s.extras) s.endpoints
 
 -- in a set: at its first descriptor, at its extras, and in its settings
-abbrev pub set_in_order : Part → List Configuration → ℕ → Configuration → List Found
+abbrev pub set_in_order : Part → List Configuration → ℕ → Configuration → List (List Broken)
 set_in_order part before i c =
     at_configuration part before i c
-    ++ at_associations part i c.settings 0 c.extras
+    ∷ extras_in_order part i c.settings 0 c.extras
     ++ at_each_counted setting_associations (setting_in_order part i c.settings) 0 (association_count c.extras) c.settings
 
 -- in the sets of a part
-abbrev pub part_in_order : Part → List Configuration → List Found
+abbrev pub part_in_order : Part → List Configuration → List (List Broken)
 part_in_order part sets = at_each_after (set_in_order part) sets
 
 -- V10 of a part without a set, at the descriptor that announces none
-abbrev pub without_sets : Part → List Configuration → List Found
-without_sets part sets = when (length sets == 0) (found causes.NoConfiguration part 0 0 0)
+abbrev pub without_sets : Part → List Configuration → List Broken
+without_sets part sets = when (length sets == 0) (broken_by causes.NoConfiguration part 0 0 0)
 
 -- at the qualifier
-abbrev pub at_qualifier : Qualifier → List Found
-at_qualifier q = when (wrong_qualifier q) (found (qualifier_cause q) parts.Other 0 0 0)
+abbrev pub at_qualifier : Qualifier → List Broken
+at_qualifier q = when (wrong_qualifier q) (broken_by (qualifier_cause q) parts.Other 0 0 0)
 
 -- at the qualifier, and in the sets after it
-abbrev pub other_in_order : Option Other → List Found
+abbrev pub other_in_order : Option Other → List (List Broken)
 other_in_order None = []
-other_in_order (Some other) =
-    without_sets parts.Other other.sets
-    ++ at_qualifier other.qualifier
-    ++ part_in_order parts.Other other.sets
+other_in_order (Some other) = (without_sets parts.Other other.sets ++ at_qualifier other.qualifier) ∷ part_in_order parts.Other other.sets
 
 -- at the device descriptor, in a dump or in a file
-abbrev pub at_device : Bool → DeviceDescriptor → List Found
-at_device is_dump d = when (if is_dump then wrong_dumped_device d else wrong_device d) (found (device_cause is_dump d) parts.Device 0 0 0)
+abbrev pub at_device : Bool → DeviceDescriptor → List Broken
+at_device is_dump d = when (if is_dump then wrong_dumped_device d else wrong_device d) (broken_by (device_cause is_dump d) parts.Device 0 0 0)
 
 -- at the device, in its sets, and in the other part
-abbrev pub file_in_order : Bool → DescriptorFile → List Found
+abbrev pub file_in_order : Bool → DescriptorFile → List (List Broken)
 file_in_order is_dump f =
-    without_sets parts.Main f.sets
-    ++ at_device is_dump f.device
-    ++ part_in_order parts.Main f.sets
+    (without_sets parts.Main f.sets ++ at_device is_dump f.device)
+    ∷ part_in_order parts.Main f.sets
     ++ other_in_order f.other
 
 -- the part that a set alone is of: `main` for a configuration, `other` for an other-speed configuration
@@ -121,12 +125,23 @@ abbrev pub part_of_kind : SetKind → Part
 part_of_kind kinds.Configuration = parts.Main
 part_of_kind kinds.OtherSpeed = parts.Other
 
--- what is found in an input, in the order of its bytes, each with its cause: in a set alone, which is the only one of its part, in a file, or
--- in a dump, whose device may be one of SuperSpeed
+-- in an input: in a set alone, which is the only one of its part, in a file, or in a dump, whose device may be one of SuperSpeed
+abbrev pub broken_in_order : Input → List (List Broken)
+broken_in_order (inputs.Set set) = part_in_order (part_of_kind set.kind) (set ∷ [])
+broken_in_order (inputs.File file) = file_in_order false file
+broken_in_order (inputs.Dump file) = file_in_order true file
+
+-- what is found where a descriptor of this number breaks a rule
+abbrev pub found : ℕ → Broken → Found
+found n b = record { finding = b.finding; cause = b.cause; descriptor = n }
+
+-- what is found at descriptors one after another, of which the first has this number
+abbrev pub found_from : ℕ → List (List Broken) → List Found
+found_from n broken = at_each (λ k here. map (found k) here) n broken
+
+-- what is found in an input, in the order of its bytes, each with its cause and the number of its descriptor
 abbrev pub found_in_order : Input → List Found
-found_in_order (inputs.Set set) = part_in_order (part_of_kind set.kind) (set ∷ [])
-found_in_order (inputs.File file) = file_in_order false file
-found_in_order (inputs.Dump file) = file_in_order true file
+found_in_order input = found_from 0 (broken_in_order input)
 
 -- the findings without their causes
 abbrev pub findings_in_order : Input → List Finding

@@ -1,7 +1,7 @@
 //! All findings of a file, of a dump, and of a set alone.
 ghost use Rattle.std.specs.Prelude.{◌≡◌, ◌∷◌, [], IfOk, OnOk};
-ghost use Rattle.usb_file_data.specs.Findings.{dump_findings, file_in_order, findings, found_in_order, input_findings, part_in_order, part_of_kind, set_findings};
-ghost use Rattle.usb_file_data.specs.inside.Reports.{reported};
+ghost use Rattle.usb_file_data.specs.Findings.{broken_in_order, dump_findings, file_in_order, findings, found_in_order, input_findings, part_in_order, part_of_kind, set_findings};
+ghost use Rattle.usb_file_data.specs.inside.Reports.{walked};
 
 use crate::cause::Found;
 use crate::configuration::check_any_set;
@@ -32,7 +32,7 @@ pub use std::alloc::AllocError as NoMemory;
 /// # Errors
 ///
 /// Out of memory.
-#[tactic(auto, unfolding(crate::specs::inside::Reports::reported))]
+#[tactic(auto, using(crate::proofs::Reporting::all_findings))]
 pub fn check(alloc: Global, f: &DescriptorFile) -> Result<Vec<Finding>, NoMemory>
     ensures { IfOk result (λ v. v.items ≡ findings f.now) }
 {
@@ -53,7 +53,7 @@ pub fn check(alloc: Global, f: &DescriptorFile) -> Result<Vec<Finding>, NoMemory
 /// # Errors
 ///
 /// Out of memory.
-#[tactic(auto, unfolding(crate::specs::inside::Reports::reported))]
+#[tactic(auto, using(crate::proofs::Reporting::all_findings))]
 pub fn check_dump(alloc: Global, f: &DescriptorFile) -> Result<Vec<Finding>, NoMemory>
     ensures { IfOk result (λ v. v.items ≡ dump_findings f.now) }
 {
@@ -75,7 +75,7 @@ pub fn check_dump(alloc: Global, f: &DescriptorFile) -> Result<Vec<Finding>, NoM
 /// # Errors
 ///
 /// Out of memory.
-#[tactic(auto, unfolding(crate::specs::inside::Reports::reported))]
+#[tactic(auto, using(crate::proofs::Reporting::all_findings))]
 pub fn check_set(alloc: Global, c: &Configuration) -> Result<Vec<Finding>, NoMemory>
     ensures { IfOk result (λ v. v.items ≡ set_findings c.now) }
 {
@@ -96,7 +96,7 @@ pub fn check_set(alloc: Global, c: &Configuration) -> Result<Vec<Finding>, NoMem
 /// # Errors
 ///
 /// Out of memory.
-#[tactic(auto, unfolding(crate::specs::inside::Reports::reported))]
+#[tactic(auto, using(crate::proofs::Reporting::all_findings))]
 pub fn check_input(alloc: Global, input: &Input) -> Result<Vec<Finding>, NoMemory>
     ensures { IfOk result (λ findings. findings.items ≡ input_findings input.now) }
 {
@@ -116,7 +116,7 @@ pub fn check_input(alloc: Global, input: &Input) -> Result<Vec<Finding>, NoMemor
 /// # Errors
 ///
 /// Out of memory.
-#[tactic(auto, unfolding(crate::specs::inside::Reports::reported))]
+#[tactic(auto, using(crate::proofs::Reporting::all_found))]
 pub fn found_in_order(alloc: Global, input: &Input) -> Result<Vec<Found>, NoMemory>
     ensures { IfOk result (λ v. v.items ≡ found_in_order input.now) }
 {
@@ -137,7 +137,7 @@ fn part_of(kind: SetKind) -> Part
 
 /// Goes over an input.
 fn walk(alloc: Global, found: &mut Report, input: &Input) -> Result<(), AllocError>
-    ensures { OnOk result (found.new ≡ reported found.old (found_in_order input.now)) }
+    ensures { OnOk result (found.new ≡ walked found.old (broken_in_order input.now)) }
 {
     match input {
         Input::Set(set) => walk_set(alloc, found, set),
@@ -148,7 +148,7 @@ fn walk(alloc: Global, found: &mut Report, input: &Input) -> Result<(), AllocErr
 
 /// Goes over a set alone.
 fn walk_set(alloc: Global, found: &mut Report, c: &Configuration) -> Result<(), AllocError>
-    ensures { OnOk result (found.new ≡ reported found.old (part_in_order (part_of_kind c.now.kind) (c.now ∷ []))) }
+    ensures { OnOk result (found.new ≡ walked found.old (part_in_order (part_of_kind c.now.kind) (c.now ∷ []))) }
 {
     let mut known = Known::new(alloc);
     check_part(found, &mut known, part_of(c.kind), slice::from_ref(c))
@@ -161,42 +161,44 @@ fn walk_file(
     is_dump: bool,
     f: &DescriptorFile,
 ) -> Result<(), AllocError>
-    ensures { OnOk result (found.new ≡ reported found.old (file_in_order is_dump f.now)) }
+    ensures { OnOk result (found.new ≡ walked found.old (file_in_order is_dump f.now)) }
 {
     let mut known = Known::new(alloc);
     check_parts(found, &mut known, is_dump, f)
 }
 
 /// The device descriptor, the main part and the other part.
-#[tactic(auto, using(crate::proofs::Reporting::reported_again, crate::proofs::Reporting::reported_none, std::proofs::lemmas::Grind::common_steps))]
+#[tactic(auto, using(crate::proofs::Reporting::reported_again, crate::proofs::Reporting::walked_again, crate::proofs::Reporting::walked_none, crate::proofs::Reporting::walked_on, std::proofs::lemmas::Grind::common_steps))]
 fn check_parts(
     found: &mut Report,
     known: &mut Known,
     is_dump: bool,
     f: &DescriptorFile,
 ) -> Result<(), AllocError>
-    ensures { OnOk result (found.new ≡ reported found.old (file_in_order is_dump f.now)) }
+    ensures { OnOk result (found.new ≡ walked found.old (file_in_order is_dump f.now)) }
 {
     check_any_set(found, Place::of(Part::Main, 0), &f.sets)?;
     check_device(found, is_dump, &f.device)?;
+    found.pass(1)?;
     check_part(found, known, Part::Main, &f.sets)?;
     if let Some(other) = &f.other {
         check_any_set(found, Place::of(Part::Other, 0), &other.sets)?;
         check_qualifier(found, &other.qualifier)?;
+        found.pass(1)?;
         check_part(found, known, Part::Other, &other.sets)?;
     }
     Ok(())
 }
 
 /// The sets of a part.
-#[tactic(auto, using(crate::proofs::Reporting::reported_again, crate::proofs::Reporting::reported_none, std::proofs::lemmas::Grind::common_steps))]
+#[tactic(auto, using(crate::proofs::Reporting::walked_again, crate::proofs::Reporting::walked_none, crate::proofs::Reporting::walked_on, std::proofs::lemmas::Grind::common_steps))]
 fn check_part(
     found: &mut Report,
     known: &mut Known,
     part: Part,
     sets: &[Configuration],
 ) -> Result<(), AllocError>
-    ensures { OnOk result (found.new ≡ reported found.old (part_in_order part sets.now)) }
+    ensures { OnOk result (found.new ≡ walked found.old (part_in_order part sets.now)) }
 {
     let mut values = Marks::new();
     for (set, c) in sets.iter().enumerate() {

@@ -1,12 +1,12 @@
 //! V13: an association binds interfaces that are there.
 ghost use Rattle.std.specs.List.{flat_map};
-ghost use Rattle.std.specs.Prelude.{◌≡◌, ◌+◌, ◌∷◌, [], IfOk, OnOk, false, length};
+ghost use Rattle.std.specs.Prelude.{◌≡◌, ◌+◌, [], IfOk, OnOk, false, length};
 ghost use Rattle.usb_set.specs.Owners.{association_in};
 ghost use Rattle.usb_file_data.specs.Causes.{association_cause};
 ghost use Rattle.usb_file_data.specs.Findings.{association_count};
 ghost use Rattle.usb_file_data.specs.inside.Interfaces.{kept, misses_some};
-ghost use Rattle.usb_file_data.specs.inside.Walk.{in_extras};
-ghost use Rattle.usb_file_data.specs.inside.Reports.{reported};
+ghost use Rattle.usb_file_data.specs.inside.Walk.{in_extra, in_extras};
+ghost use Rattle.usb_file_data.specs.inside.Reports.{reported, walked};
 
 use crate::cause::Cause;
 use crate::interfaces::Interfaces;
@@ -15,11 +15,11 @@ use crate::report::Report;
 use std::alloc::AllocError;
 use usb_set::{Association, Extra, Sequence};
 
-/// Of the associations among these extras, of which the first has this number in its set. Answers the number of the next.
+/// Of extras, and past them, of which the first association has this number in its set. Answers the number of the next.
 ///
 /// Most descriptors own no extras, and most extras are no associations: for them nothing is called.
 #[inline(always)]
-#[tactic(auto, using(crate::proofs::Reporting::reported_again, crate::proofs::Reporting::reported_none, std::proofs::lemmas::Grind::common_steps))]
+#[tactic(auto, using(crate::proofs::Reporting::passed_extras, crate::proofs::Reporting::walked_none, std::proofs::lemmas::Grind::common_steps))]
 pub(crate) fn check_extras(
     found: &mut Report,
     interfaces: &Interfaces,
@@ -27,13 +27,14 @@ pub(crate) fn check_extras(
     number: usize,
     extras: &Sequence<Extra>,
 ) -> Result<usize, AllocError>
-    ensures reported { OnOk result (found.new ≡ reported found.old (in_extras place.now (kept interfaces.now).numbers number extras.now)) }
+    ensures reported { OnOk result (found.new ≡ walked found.old (in_extras place.now (kept interfaces.now).numbers number extras.now)) }
     ensures next { IfOk result (λ next. next ≡ number + association_count extras.now) }
 {
     if extras.is_empty() {
         return Ok(number);
     }
     if !has_association(extras) {
+        found.pass(extras.len())?;
         return Ok(number);
     }
     check_each(found, interfaces, *place, number, extras)
@@ -54,7 +55,7 @@ fn has_association(extras: &[Extra]) -> bool
 
 /// The same, extra by extra.
 #[inline(never)]
-#[tactic(auto, using(crate::proofs::Reporting::reported_again, crate::proofs::Reporting::reported_none, std::proofs::lemmas::Grind::common_steps))]
+#[tactic(auto, using(crate::proofs::Reporting::walked_again, crate::proofs::Reporting::walked_none, crate::proofs::Reporting::walked_on, std::proofs::lemmas::Grind::common_steps))]
 fn check_each(
     found: &mut Report,
     interfaces: &Interfaces,
@@ -62,12 +63,13 @@ fn check_each(
     number: usize,
     extras: &[Extra],
 ) -> Result<usize, AllocError>
-    ensures reported { OnOk result (found.new ≡ reported found.old (in_extras place (kept interfaces.now).numbers number extras.now)) }
+    ensures reported { OnOk result (found.new ≡ walked found.old (in_extras place (kept interfaces.now).numbers number extras.now)) }
     ensures next { IfOk result (λ next. next ≡ number + association_count extras.now) }
 {
     let mut next = number;
     for extra in extras {
         next = check_extra(found, interfaces, place, next, extra)?;
+        found.pass(1)?;
     }
     Ok(next)
 }
@@ -81,7 +83,7 @@ fn check_extra(
     number: usize,
     extra: &Extra,
 ) -> Result<usize, AllocError>
-    ensures reported { OnOk result (found.new ≡ reported found.old (in_extras place (kept interfaces.now).numbers number (extra.now ∷ []))) }
+    ensures reported { OnOk result (found.new ≡ reported found.old (in_extra place (kept interfaces.now).numbers number extra.now)) }
     ensures next { IfOk result (λ next. next ≡ number + length (association_in extra.now)) }
 {
     match extra {

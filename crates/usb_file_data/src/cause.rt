@@ -129,4 +129,6 @@ pub struct Found {
     pub finding: Finding,
     /// Why the rule is broken there.
     pub cause: Cause,
+    /// The number of the descriptor that breaks it, from 0, in the order of the bytes. Each descriptor of the input counts.
+    pub descriptor: usize,
 }

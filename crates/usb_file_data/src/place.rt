@@ -16,6 +16,7 @@ pub(crate) struct Place {
 }
 
 impl Place {
+    ghost use Rattle.usb_file_data.specs.Findings.{found};
     ghost use Rattle.usb_file_data.specs.Places.{finding};
     ghost use Rattle.usb_file_data.specs.inside.Walk.{broken, place};
 
@@ -49,14 +50,15 @@ impl Place {
         Place { endpoint, ..self }
     }
 
-    /// What is found here where a rule is broken by the cause.
+    /// What is found here where the descriptor of this number breaks a rule by the cause.
     #[inline(always)]
-    pub(crate) fn found(self, cause: Cause) -> Found
-        ensures { result ≡ broken cause self }
+    pub(crate) fn found(self, cause: Cause, descriptor: usize) -> Found
+        ensures { result ≡ found descriptor (broken cause self) }
     {
         Found {
             finding: self.finding(cause.rule()),
             cause,
+            descriptor,
         }
     }
 

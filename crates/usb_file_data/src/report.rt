@@ -18,6 +18,8 @@ pub(crate) struct Report {
     found: Vec<Found>,
     /// Empty where they are.
     findings: Vec<Finding>,
+    /// The number of the descriptor that the walk is at.
+    descriptor: usize,
 }
 
 impl Model for Report {
@@ -25,12 +27,12 @@ impl Model for Report {
 
     ghost Value = { Reported };
 
-    ghost view = { λ r. record { has_causes = r.has_causes; found = r.found.items; findings = r.findings.items } };
+    ghost view = { λ r. record { has_causes = r.has_causes; found = r.found.items; findings = r.findings.items; descriptor = r.descriptor } };
 }
 
 impl Report {
     ghost use Rattle.usb_file_data.specs.Places.{when};
-    ghost use Rattle.usb_file_data.specs.inside.Reports.{none_reported, reported};
+    ghost use Rattle.usb_file_data.specs.inside.Reports.{none_reported, passed, reported};
     ghost use Rattle.usb_file_data.specs.inside.Walk.{broken};
 
     /// Nothing yet.
@@ -41,10 +43,21 @@ impl Report {
             has_causes,
             found: Vec::new(alloc),
             findings: Vec::new(alloc),
+            descriptor: 0,
         }
     }
 
-    /// Reports that a rule is broken at the place by the cause, where the test holds.
+    /// Goes on to the descriptor that comes so many later.
+    #[inline(always)]
+    pub(crate) fn pass(&mut self, count: usize) -> Result<(), AllocError>
+        ensures { OnOk result (self.new ≡ passed count self.old) }
+    {
+        // No memory holds so many descriptors that this is refused.
+        self.descriptor = self.descriptor.checked_add(count).ok_or(AllocError)?;
+        Ok(())
+    }
+
+    /// Reports that the descriptor breaks a rule at the place by the cause, where the test holds.
     #[inline(always)]
     #[tactic(auto, using(crate::proofs::Reporting::reported_none))]
     pub(crate) fn report(
@@ -68,7 +81,7 @@ impl Report {
         ensures { OnOk result (self.new ≡ reported self.old (broken cause place ∷ [])) }
     {
         if self.has_causes {
-            return self.keep(place.found(cause));
+            return self.keep(place.found(cause, self.descriptor));
         }
         make_room(&mut self.findings)?;
         self.findings.push_reserved(place.finding(cause.rule()));

@@ -7,7 +7,7 @@ ghost use Rattle.usb_file_data.specs.Findings.{association_count, endpoint_assoc
 ghost use Rattle.usb_file_data.specs.inside.Addresses.{claimed, owned, kept as claims};
 ghost use Rattle.usb_file_data.specs.inside.Interfaces.{NoneBreaksV3OrV4, AreEntered, entered, kept as entries, compared_with};
 ghost use Rattle.usb_file_data.specs.inside.Walk.{endpoint_at, in_configuration, in_endpoint, in_interface, in_set, in_setting};
-ghost use Rattle.usb_file_data.specs.inside.Reports.{reported};
+ghost use Rattle.usb_file_data.specs.inside.Reports.{reported, walked};
 
 use crate::addresses::Addresses;
 use crate::association::check_extras;
@@ -54,8 +54,8 @@ struct Earlier {
     addresses: Addresses,
 }
 
-/// Of a set at its place, among the values of those before it in its part.
-#[tactic(auto, using(crate::proofs::Reporting::reported_again, crate::proofs::Reporting::reported_none, std::proofs::lemmas::Grind::common_steps))]
+/// Of a set at its place, and past it, among the values of those before it in its part.
+#[tactic(auto, using(crate::proofs::Reporting::walked_again, crate::proofs::Reporting::walked_none, crate::proofs::Reporting::walked_on, std::proofs::lemmas::Grind::common_steps))]
 pub(crate) fn check_set_at(
     found: &mut Report,
     known: &mut Known,
@@ -63,12 +63,13 @@ pub(crate) fn check_set_at(
     place: Place,
     c: &Configuration,
 ) -> Result<(), AllocError>
-    ensures reported { OnOk result (found.new ≡ reported found.old (in_set place (is_marked values.old) c.now)) }
+    ensures reported { OnOk result (found.new ≡ walked found.old (in_set place (is_marked values.old) c.now)) }
     ensures marked { OnOk result (is_marked values.new ≡ marked (is_marked values.old) c.now.value) }
 {
     let may_break = enter_all(&mut known.whole, &c.settings)?;
     let whole = &known.whole;
     check_configuration(found, whole, values, place, c)?;
+    found.pass(1)?;
     let earlier = &mut known.earlier;
     earlier.interfaces.clear();
     earlier.addresses.clear();
@@ -120,8 +121,8 @@ fn check_configuration(
     check_value(found, values, place, c)
 }
 
-/// Of a setting, before which the set has so many associations. Answers how many it has before the next one.
-#[tactic(auto, using(crate::proofs::Reporting::reported_again, crate::proofs::Reporting::reported_none, std::proofs::lemmas::Grind::common_steps))]
+/// Of a setting, and past it, before which the set has so many associations. Answers how many it has before the next one.
+#[tactic(auto, using(crate::proofs::Reporting::walked_again, crate::proofs::Reporting::walked_none, crate::proofs::Reporting::walked_on, std::proofs::lemmas::Grind::common_steps))]
 fn check_setting(
     found: &mut Report,
     whole: &Interfaces,
@@ -131,12 +132,13 @@ fn check_setting(
     number: usize,
     s: &Setting,
 ) -> Result<usize, AllocError>
-    ensures reported { OnOk result (found.new ≡ reported found.old (in_setting place (entries whole.now).numbers (entries whole.now).alternates (compared_with may_break (entries earlier.old.interfaces)).numbers (compared_with may_break (entries earlier.old.interfaces)).alternates (claims earlier.old.addresses).elsewhere number s.now)) }
+    ensures reported { OnOk result (found.new ≡ walked found.old (in_setting place (entries whole.now).numbers (entries whole.now).alternates (compared_with may_break (entries earlier.old.interfaces)).numbers (compared_with may_break (entries earlier.old.interfaces)).alternates (claims earlier.old.addresses).elsewhere number s.now)) }
     ensures interfaces { OnOk result (may_break ≡ true → entries earlier.new.interfaces ≡ entered place.setting s.now (entries earlier.old.interfaces)) }
     ensures addresses { OnOk result ((claims earlier.new.addresses).elsewhere ≡ owned s.now.number s.now.endpoints (claims earlier.old.addresses).elsewhere) }
     ensures next { IfOk result (λ next. next ≡ number + setting_associations s.now) }
 {
     check_interface(found, whole, &mut earlier.interfaces, may_break, place, s)?;
+    found.pass(1)?;
     let next = check_extras(found, whole, &place, number, &s.extras)?;
     if s.endpoints.is_empty() {
         return Ok(next);
@@ -144,9 +146,9 @@ fn check_setting(
     check_endpoints(found, whole, &mut earlier.addresses, &place, next, s)
 }
 
-/// Of the endpoints of a setting at its place, before which the set has so many associations. Answers how many it has
-/// before the next setting.
-#[tactic(auto, using(crate::proofs::Reporting::reported_again, crate::proofs::Reporting::reported_none, std::proofs::lemmas::Grind::common_steps))]
+/// Of the endpoints of a setting at its place, and past them, before which the set has so many associations. Answers how
+/// many it has before the next setting.
+#[tactic(auto, using(crate::proofs::Reporting::walked_again, crate::proofs::Reporting::walked_none, crate::proofs::Reporting::walked_on, std::proofs::lemmas::Grind::common_steps))]
 fn check_endpoints(
     found: &mut Report,
     whole: &Interfaces,
@@ -155,7 +157,7 @@ fn check_endpoints(
     number: usize,
     s: &Setting,
 ) -> Result<usize, AllocError>
-    ensures reported { OnOk result (found.new ≡ reported found.old (at_each_counted endpoint_associations (endpoint_at place.now (entries whole.now).numbers (claims addresses.old).elsewhere s.now) 0 number s.now.endpoints)) }
+    ensures reported { OnOk result (found.new ≡ walked found.old (at_each_counted endpoint_associations (endpoint_at place.now (entries whole.now).numbers (claims addresses.old).elsewhere s.now) 0 number s.now.endpoints)) }
     ensures addresses { OnOk result ((claims addresses.new).elsewhere ≡ owned s.now.number s.now.endpoints (claims addresses.old).elsewhere) }
     ensures next { IfOk result (λ next. next ≡ number + association_count (flat_map (λ e. e.extras) s.now.endpoints)) }
 {
@@ -164,6 +166,7 @@ fn check_endpoints(
     let mut next = number;
     for (endpoint, e) in s.endpoints.iter().enumerate() {
         check_endpoint(found, addresses, setting.at_endpoint(endpoint), e)?;
+        found.pass(1)?;
         next = check_extras(found, whole, place, next, &e.extras)?;
     }
     Ok(next)

@@ -14,9 +14,10 @@ use Rattle.usb_remarks.specs.Outline.{Entry, after_next, bytes_of, describe, ent
 use Rattle.usb_walk.specs.Owners.{owner_of}
 use Rattle.usb_walk.specs.Roles.{next_role, role_of}
 use Rattle.usb_walk.specs.Trees.{TreeDescriptor, descriptor_length, tree_descriptor}
-use Rattle.usb_walk.specs.Positions.{Counted}
+use Rattle.usb_remarks.specs.Standings.{AreCounted}
+use Rattle.usb_remarks.proofs.Standings.{counted_entered}
 use Rattle.usb_walk.proofs.Cuts.{length_within}
-use Rattle.usb_walk.proofs.Positions.{counted_at, counted_noted, noted_at, same_at}
+use Rattle.usb_walk.proofs.Positions.{counted_noted, noted_at, same_at}
 
 -- ---- the length of a descriptor
 
@@ -116,11 +117,17 @@ left_same running s t fs gs a b e f g = cc
 
 -- ---- what is kept from one descriptor to the next
 
-pub stays_counted : (running : Option SetSpeed) (s : Standing) (ahead : List ℕ) (next : Role × ℕ) → Counted s.position → 2 ≤ next.1 → next.1 ≤ length ahead
-    → Counted (after_next running s ahead next).position
-stays_counted running s ahead next c least most =
+pub stays_counted : (running : Option SetSpeed) (s : Standing) (ahead : List ℕ) (next : Role × ℕ) → AreCounted s → 2 ≤ next.1 → next.1 ≤ length ahead
+    → AreCounted (after_next running s ahead next)
+stays_counted running s ahead next counted least most =
     let taken : length (take next.1 ahead) ≡ next.1 = length-take-le next.1 ahead most in
-    counted_noted next.0 (take next.1 ahead) (length (take next.1 ahead)) (here running s ahead next).position (omega (arith, taken, least)) (counted_at next.0 ahead s.position c)
+    let here_counted = counted_entered next.0 running ahead s counted in
+    let at : (after_next running s ahead next).position.at ≡ (here running s ahead next).position.at + length (take next.1 ahead) =
+    ap (λ k. k + length (take next.1 ahead)) (noted_at next.0 (take next.1 ahead) (here running s ahead next).position) in
+    record {
+      in_position = counted_noted next.0 (take next.1 ahead) (length (take next.1 ahead)) (here running s ahead next).position (omega (arith, taken, least)) here_counted.in_position;
+      descriptors = omega (arith, at, taken, least, here_counted.descriptors);
+    }
 
 pub stays_room : (running : Option SetSpeed) (s : Standing) (ahead : List ℕ) (next : Role × ℕ) → next.1 ≤ length ahead → s.position.at + length ahead < 9223372036854775808
     → (after_next running s ahead next).position.at + length (drop next.1 ahead) < 9223372036854775808

@@ -1,5 +1,6 @@
 -- The descriptors of a walk, and where they stand.
 use Rattle.std.proofs.Common.{◌≡◌, ◌≤◌, ℕ, zero, suc, ◌+◌, List, [], ◌∷◌, ◌++◌, ◌||◌, if◌then◌else◌, nat_lt, flat_map, length, map, slice_index, take, drop, Option, Some, None, refl, sym, ap, subst, ◌∙◌, arith, append_assoc, length-append}
+use Rattle.std.specs.List.{AllByRecursion}
 use Rattle.std.proofs.lemmas.Bool.Decides.{nat_tests}
 use Rattle.std.proofs.lemmas.Option.{none-some}
 use Rattle.std.proofs.lemmas.List.{length-take-le, take-append-drop}
@@ -10,15 +11,15 @@ use Rattle.usb_walk.specs.declared.position.Position.{Position}
 use Rattle.usb_remarks.specs.declared.standing.Standing.{Standing}
 use Rattle.usb_remarks.specs.Outline.{Entry, after_next, bytes_of, end_of, entries, entry_next, findings_of, first_entries, here, left_next, outline}
 use Rattle.usb_remarks.specs.Findings.{found_at}
-use Rattle.usb_remarks.specs.OutlineLaws.{AllEachByteOnce, Cut, Follow, span_of}
+use Rattle.usb_remarks.specs.OutlineLaws.{AllEachByteOnce, AreNumbered, Cut, Follow, HasItsOwnFindings, span_of}
 use Rattle.usb_walk.specs.Roles.{next_role}
 use Rattle.usb_remarks.specs.Standings.{start}
 use Rattle.usb_remarks.specs.declared.speed.SetSpeed.{SetSpeed}
 use Rattle.usb_file_data.specs.declared.cause.Found.{Found}
 use Rattle.usb_remarks.proofs.Outlines.{bytes_same, entries_next, entries_none, entry_in_tree, entry_span, next_bounds, next_says, spans_same}
 use Rattle.usb_walk.proofs.Positions.{noted_at, same_at}
-use Rattle.usb_remarks.proofs.Standings.{start_at}
-use Rattle.usb_remarks.proofs.Telling.{found_front}
+use Rattle.usb_remarks.proofs.Standings.{looked_number, start_at}
+use Rattle.usb_remarks.proofs.Telling.{are_numbered, found_front}
 
 -- its two tests
 length_if : (len m n : ℕ) → (if nat_lt len 2 || nat_lt m len then None else Some len) ≡ Some n → (2 ≤ n) × (n ≤ m) × (len ≡ n)
@@ -48,18 +49,20 @@ pub record Walk (running : Option SetSpeed) (n : ℕ) (s : Standing) (found : Li
   pub spans : Follow s.position.at (map entry_span shown) end
   pub left : List Found
   pub tells : flat_map findings_of shown ++ left ≡ found
+  pub numbered : AreNumbered s.descriptors shown
 
 walk_none : (running : Option SetSpeed) (n : ℕ) (s : Standing) (found : List Found) (ahead : List ℕ) → first_entries n running s found ahead ≡ []
     → Walk running n s found ahead
-walk_none running n s found ahead e = record { shown = []; is = e; rest = ahead; end = s.position.at; cut = refl; spans = refl; left = found; tells = refl }
+walk_none running n s found ahead e = record { shown = []; is = e; rest = ahead; end = s.position.at; cut = refl; spans = refl; left = found; tells = refl; numbered = tt }
 
 walk_more : (running : Option SetSpeed) (n : ℕ) (s : Standing) (found : List Found) (ahead : List ℕ) (next : Role × ℕ) → next_role s.position ahead ≡ Some next
     → Walk running n (after_next running s ahead next) (left_next running s found ahead next) (drop next.1 ahead) → Walk running (suc n) s found ahead
 walk_more running n s found ahead next e w =
     let bounds = next_bounds s.position ahead next e in
     let taken : length (take next.1 ahead) ≡ next.1 = length-take-le next.1 ahead bounds.1 in
+    let number : (here running s ahead next).descriptors ≡ s.descriptors = looked_number next.0 running ahead s in
     let at_here : (here running s ahead next).position.at ≡ s.position.at = same_at next.0 ahead s.position in
-    let mine = found_at (here running s ahead next) next.0 found in
+    let mine = found_at (here running s ahead next) found in
     let at_after : (after_next running s ahead next).position.at ≡ s.position.at + length (take next.1 ahead) =
     ap (λ k. k + length (take next.1 ahead)) (noted_at next.0 (take next.1 ahead) (here running s ahead next).position ∙ at_here) in
     record {
@@ -70,7 +73,11 @@ walk_more running n s found ahead next e w =
       cut = (sym (take-append-drop next.1 ahead), next_first s.position ahead next e ∙ sym taken, w.cut);
       spans = (at_here, omega (arith, taken, bounds.0), subst (λ k. Follow k (map entry_span w.shown) w.end) at_after w.spans);
       left = w.left;
-      tells = append_assoc mine (flat_map findings_of w.shown) w.left ∙ ap (λ l. mine ++ l) w.tells ∙ found_front (here running s ahead next) next.0 found;
+      tells = append_assoc mine (flat_map findings_of w.shown) w.left ∙ ap (λ l. mine ++ l) w.tells ∙ found_front (here running s ahead next) found;
+      numbered = (
+        subst (λ k. AllByRecursion (λ f. f.descriptor ≡ k) mine) number (are_numbered (here running s ahead next) found),
+        subst (λ k. AreNumbered k w.shown) (ap (λ k. k + 1) number) w.numbered,
+      );
     }
 
 walk_by : (running : Option SetSpeed) (n : ℕ) (s : Standing) (found : List Found) (ahead : List ℕ) (next : Option (Role × ℕ)) → next_role s.position ahead ≡ next
@@ -96,10 +103,11 @@ Aim = List ℕ → List TreeDescriptor → Type 0
 abbrev pub adding : Aim → List TreeDescriptor → Aim
 adding E before = λ rest c. E rest (before ++ c)
 
--- a walk of which this holds, and which comes to the end of the findings
+-- a walk of which this holds, whose descriptors have their own findings, and which comes to the end of these
 pub record Ended (E : Aim) (running : Option SetSpeed) (n : ℕ) (s : Standing) (found : List Found) (ahead : List ℕ) : Type 0 where
   pub walk : Walk running n s found ahead
   pub aimed : E walk.rest (map entry_in_tree walk.shown)
+  pub own : AllByRecursion HasItsOwnFindings walk.shown
   pub all_reported : walk.left ≡ []
 
 -- where no bytes are, no descriptor can stand
@@ -110,14 +118,15 @@ none_of_nothing s = refl
 pub ended_none : (E : Aim) (running : Option SetSpeed) (n : ℕ) (s : Standing) (found : List Found) → found ≡ [] → E [] [] → Ended E running n s found []
 unfolding walk_none
 ended_none E running n s found none aimed =
-    record { walk = walk_none running n s found [] (entries_none n running s found [] (none_of_nothing s)); aimed = aimed; all_reported = none }
+    record { walk = walk_none running n s found [] (entries_none n running s found [] (none_of_nothing s)); aimed = aimed; own = tt; all_reported = none }
 
 pub ended_more : (E : Aim) (running : Option SetSpeed) (n : ℕ) (s : Standing) (found : List Found) (ahead : List ℕ) (next : Role × ℕ) → next_role s.position ahead ≡ Some next
+    → HasItsOwnFindings (entry_next running s found ahead next)
     → Ended (adding E (entry_in_tree (entry_next running s found ahead next) ∷ [])) running n (after_next running s ahead next) (left_next running s found ahead next) (drop next.1 ahead)
     → Ended E running (suc n) s found ahead
 unfolding walk_more
-ended_more E running n s found ahead next e ended =
-    record { walk = walk_more running n s found ahead next e ended.walk; aimed = ended.aimed; all_reported = ended.all_reported }
+ended_more E running n s found ahead next e own ended =
+    record { walk = walk_more running n s found ahead next e ended.walk; aimed = ended.aimed; own = (own, ended.own); all_reported = ended.all_reported }
 
 -- spans end where the lengths add up to
 spans_end : (shown : List Entry) (from to : ℕ) → Follow from (map entry_span shown) to → from + length (flat_map (λ d. d.bytes) shown) ≡ to

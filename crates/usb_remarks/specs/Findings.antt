@@ -1,5 +1,5 @@
 -- What is found at a descriptor that breaks a rule.
-use Rattle.std.specs.Prelude.{List, Bool, true, false, ◌==◌, ◌&&◌}
+use Rattle.std.specs.Prelude.{◌≡◌, List, Bool, true, false, ◌==◌}
 use Rattle.std.specs.List.{take_while}
 use Rattle.usb_file_data.specs.declared.cause.Cause.{Cause}
 use Rattle.usb_file_data.specs.declared.cause.Cause.TheVariants as causes
@@ -12,8 +12,18 @@ use Rattle.usb_file_data.specs.Places.{finding}
 use Rattle.usb_walk.specs.declared.position.Position.{Position}
 use Rattle.usb_walk.specs.declared.role.Role.{Role}
 use Rattle.usb_walk.specs.declared.role.Role.TheVariants.{Device, Qualifier, Configuration, Association, Interface, Endpoint}
-use Rattle.usb_walk.specs.Places.{part_number, place_in}
+use Rattle.usb_walk.specs.Places.{place_in}
 use Rattle.usb_remarks.specs.declared.standing.Standing.{Standing}
+
+-- whether what was found is of this descriptor, whose number is how many came before it
+abbrev pub is_here : Standing → Found → Bool
+is_here s f = f.descriptor == s.descriptors
+
+-- what was found of this descriptor: that with which these findings begin, which no descriptor before it has
+unfoldable pub found_at : Standing → List Found → List Found
+found_at s found = take_while (is_here s) found
+
+-- What holds of it: where it is, and which rules a descriptor can break.
 
 -- Whether a descriptor of this role can break a rule by this cause. A device and a qualifier break V11, and V10 for the sets after
 -- them, where there are none; the first descriptor of a set V1, V2, V9 and V10, an association V13, an interface V3, V4 and V5, and
@@ -49,15 +59,6 @@ unfoldable pub finding_at : Position → Role → Cause → Finding
 finding_at p role cause =
     let place = place_in p role in finding (rule_of cause) (broken_part role cause place.part) place.set place.setting place.endpoint
 
--- whether two findings are of one rule and at one place
-abbrev pub is_same : Finding → Finding → Bool
-is_same f g =
-    (f.rule == g.rule) && ((part_number f.part == part_number g.part) && ((f.set == g.set) && ((f.setting == g.setting) && (f.endpoint == g.endpoint))))
-
--- whether what was found is of this descriptor
-unfoldable pub is_here : Standing → Role → Found → Bool
-is_here s role f = is_same f.finding (finding_at s.position role f.cause) && can_break role f.cause
-
--- what was found of a descriptor of this role: that with which these findings begin, which no descriptor before it has
-unfoldable pub found_at : Standing → Role → List Found → List Found
-found_at s role found = take_while (is_here s role) found
+-- the finding is at the place of a descriptor of this role, and of a rule that such a descriptor can break by the cause
+abbrev pub IsAtPlace : Position → Role → Finding → Cause → Type 0
+IsAtPlace p role finding cause = (finding ≡ finding_at p role cause) × (can_break role cause ≡ true)

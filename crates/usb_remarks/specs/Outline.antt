@@ -88,7 +88,7 @@ pub record Entry : Type 0 where
 
 -- what is found there
 abbrev pub findings_of : Entry → List Found
-findings_of e = found_at e.standing e.role e.found
+findings_of e = found_at e.standing e.found
 
 -- all that is known of it, where the device ran at a speed that is known or isn't
 unfoldable pub describe : Option SetSpeed → Entry → Described
@@ -124,7 +124,7 @@ entry_next running s found ahead next =
 
 -- the findings that are left after it
 abbrev pub left_next : Option SetSpeed → Standing → List Found → List ℕ → Role × ℕ → List Found
-left_next running s found ahead next = drop (length (found_at (here running s ahead next) next.0 found)) found
+left_next running s found ahead next = drop (length (found_at (here running s ahead next) found)) found
 
 -- the state after that descriptor
 abbrev pub after_next : Option SetSpeed → Standing → List ℕ → Role × ℕ → Standing

@@ -1,6 +1,6 @@
 -- What holds of the outline of an input: each byte is in one descriptor, and of an input no bytes are left. Each finding stands
 -- at its descriptor, with its cause, and the descriptors are those of the input's tree, each with its owner.
-use Rattle.std.specs.Prelude.{◌≡◌, ◌<◌, ◌≤◌, ℕ, true, ◌+◌, List, [], ◌∷◌, ◌++◌, length, map, take, drop, flat_map, slice_index, Option}
+use Rattle.std.specs.Prelude.{◌≡◌, ◌<◌, ◌≤◌, ℕ, ◌+◌, List, [], ◌∷◌, ◌++◌, length, map, take, drop, flat_map, slice_index, Option}
 use Rattle.std.specs.List.{AllByRecursion}
 use Rattle.usb_fields.specs.Bytes.{AreBytes}
 use Rattle.usb_file_data.specs.declared.file.Input.{Input}
@@ -10,7 +10,7 @@ use Rattle.usb_file_data.specs.Findings.{found_in_order, input_findings}
 use Rattle.usb_file_data.specs.declared.cause.Found.{Found}
 use Rattle.usb_remarks.specs.declared.speed.SetSpeed.{SetSpeed}
 use Rattle.usb_remarks.specs.FaultPlaces.{place_of_fault}
-use Rattle.usb_remarks.specs.Findings.{is_here}
+use Rattle.usb_remarks.specs.Findings.{IsAtPlace}
 use Rattle.usb_remarks.specs.Outline.{Described, Entry, bytes_of, end_of, entries, findings_of, outline}
 use Rattle.usb_remarks.specs.Uncovered.{most_uncovered}
 use Rattle.usb_walk.specs.Trees.{TreeDescriptor, tree_descriptor, tree_descriptors}
@@ -58,15 +58,21 @@ BrokenCoversUpToFault =
     let before = take (place_of_fault fault) b in
     length before ≤ end_of running [] before + most_uncovered fault
 
--- what stands at a descriptor are findings of its own
+-- what stands at a descriptor are findings of its own: each is at its place, and of a rule that such a descriptor can break
 abbrev pub HasItsOwnFindings : Entry → Type 0
-HasItsOwnFindings d = AllByRecursion (λ f. is_here d.standing d.role f ≡ true) (findings_of d)
+HasItsOwnFindings d = AllByRecursion (λ f. IsAtPlace d.standing.position d.role f.finding f.cause) (findings_of d)
+
+-- what stands at each of these descriptors has its number, which is this one for the first
+abbrev pub AreNumbered : ℕ → List Entry → Type 0
+AreNumbered n [] = Unit {0}
+AreNumbered n (d ∷ ds) = AllByRecursion (λ f. f.descriptor ≡ n) (findings_of d) × AreNumbered (n + 1) ds
 
 -- Each finding once, with the cause by which its rule was judged: what stands at the descriptors is, in its order, all that is
 -- found in the input. The findings that are counted are as many as those that are checked.
 pub record EachFindingOnce (running : Option SetSpeed) (input : Input) (b : List ℕ) : Type 0 where
   pub reported : flat_map (λ d. d.findings) (outline running (found_in_order input) b) ≡ found_in_order input
   pub own : AllByRecursion HasItsOwnFindings (entries running (found_in_order input) b)
+  pub numbered : AreNumbered 0 (entries running (found_in_order input) b)
   pub count : length (found_in_order input) ≡ length (input_findings input)
 
 -- so it is of each input

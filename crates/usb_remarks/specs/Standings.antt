@@ -1,17 +1,18 @@
 -- What came before a descriptor in an input, and what has come after it.
-use Rattle.std.specs.Prelude.{ℕ, List, slice_index, slice_set, replicate, true, false, Some, None}
+use Rattle.std.specs.Prelude.{ℕ, ◌≤◌, ◌+◌, List, slice_index, slice_set, replicate, true, false, Some, None}
 use Rattle.usb_names.specs.declared.codes.ClassCodes.{ClassCodes}
 use Rattle.usb_walk.specs.declared.role.Role.{Role}
 use Rattle.usb_walk.specs.declared.role.Role.TheVariants.{Device, Interface, Qualifier}
 use Rattle.usb_remarks.specs.declared.speed.SetSpeed.TheVariants.{FullOrHigh}
 use Rattle.usb_remarks.specs.declared.standing.Standing.{Standing}
-use Rattle.usb_walk.specs.Positions.{first_position, position_after}
+use Rattle.usb_walk.specs.Positions.{Counted, first_position, position_after}
 use Rattle.usb_remarks.specs.DeviceFacts.{facts_of_device, facts_of_qualifier}
 
 -- at the first byte of an input
 unfoldable pub start : Standing
 start = record {
   position = first_position;
+  descriptors = 0;
   device = None;
   own_speed = FullOrHigh;
   own_side = None;
@@ -37,4 +38,9 @@ kept _ d s = s
 
 -- after a descriptor of this role
 abbrev pub passed : Role → List ℕ → Standing → Standing
-passed role d s = record (kept role d s) { position = position_after role d s.position }
+passed role d s = record (kept role d s) { position = position_after role d s.position; descriptors = s.descriptors + 1 }
+
+-- there are no more of anything than bytes before
+pub record AreCounted (s : Standing) : Type 0 where
+  pub in_position : Counted s.position
+  pub descriptors : s.descriptors ≤ s.position.at

@@ -17,7 +17,6 @@ mod bindings;
 mod context;
 mod descriptor;
 mod device_facts;
-mod found_here;
 mod interface_numbers;
 mod later_interfaces;
 pub mod laws;

@@ -3,10 +3,9 @@ ghost use Rattle.std.specs.Prelude.{◌≡◌, ◌≤◌, ◌<◌, ◌+◌, ◌-
 ghost use Rattle.usb_remarks.specs.Findings.{found_at};
 ghost use Rattle.usb_remarks.specs.Outline.{describe, described, outline};
 ghost use Rattle.usb_remarks.specs.SetStart.{entered};
-ghost use Rattle.usb_remarks.specs.Standings.{passed};
+ghost use Rattle.usb_remarks.specs.Standings.{AreCounted, passed};
 ghost use Rattle.usb_walk.specs.Positions.{position_at};
 ghost use Rattle.usb_remarks.specs.inside.Coming.{Awaits};
-ghost use Rattle.usb_walk.specs.Positions.{Counted};
 
 use crate::associations::has_associations;
 use crate::descriptor::Descriptor;
@@ -40,14 +39,14 @@ pub struct Outline<'b> {
 impl<'b> Model for Outline<'b> {
     ghost use Rattle.std.specs.Prelude.{◌+◌, ◌<◌, ◌^◌, List, length};
     ghost use Rattle.usb_remarks.specs.Outline.{Described, outline_from};
+    ghost use Rattle.usb_remarks.specs.Standings.{AreCounted};
     ghost use Rattle.usb_remarks.specs.inside.Coming.{Awaits};
-    ghost use Rattle.usb_walk.specs.Positions.{Counted};
 
     ghost Value = { List Described };
 
     ghost view = { λ o. outline_from o.running o.standing o.found.now o.ahead.now };
 
-    ghost invariant = { λ o. Counted o.standing.position × (o.standing.position.at + length o.ahead.now < 2 ^ 63) × Awaits o.later o.standing.position.left o.ahead.now };
+    ghost invariant = { λ o. AreCounted o.standing × (o.standing.position.at + length o.ahead.now < 2 ^ 63) × Awaits o.later o.standing.position.left o.ahead.now };
 }
 
 impl<'b> Outline<'b> {
@@ -108,12 +107,12 @@ impl Standing {
         count: usize,
         later: &LaterInterfaces,
     ) -> (Descriptor<'b>, &'b [Found])
-        requires counted { Counted self.old.position }
+        requires counted { AreCounted self.old }
         requires room { self.old.position.at + length ahead.now < 2 ^ 63 }
         requires most { count ≤ length ahead.now }
         requires later { Awaits later.now ((position_at role ahead.now self.old.position).left - count) (drop count ahead.now) }
         ensures here { described result.0 ≡ describe running (record { standing = entered role running ahead.now self.old; role = role; bytes = take count ahead.now; after = drop count ahead.now; found = found.now }) }
-        ensures left { result.1.now ≡ drop (length (found_at (entered role running ahead.now self.old) role found.now)) found.now }
+        ensures left { result.1.now ≡ drop (length (found_at (entered role running ahead.now self.old) found.now)) found.now }
         ensures standing { self.new ≡ passed role (take count ahead.now) (entered role running ahead.now self.old) }
     {
         self.enter(role, running, ahead);
@@ -136,9 +135,9 @@ impl Standing {
     ) -> (Descriptor<'b>, &'b [Found])
         requires { Awaits later.now (self.now.position.left - length bytes.now) behind.now }
         ensures here { described result.0 ≡ describe running (record { standing = self.now; role = role; bytes = bytes.now; after = behind.now; found = found.now }) }
-        ensures left { result.1.now ≡ drop (length (found_at self.now role found.now)) found.now }
+        ensures left { result.1.now ≡ drop (length (found_at self.now found.now)) found.now }
     {
-        let (findings, left) = self.split_found(role, found);
+        let (findings, left) = self.split_found(found);
         let rest = self.position.rest_of_set(bytes, behind);
         let here = Descriptor {
             at: self.position.at,
@@ -161,5 +160,29 @@ impl Standing {
             one_speed: self.one_speed(role),
         };
         (here, left)
+    }
+
+    /// The findings of the descriptor, with which these begin, and those after them.
+    #[tactic(auto, using(crate::proofs::Telling::here_within, crate::proofs::Telling::here_front))]
+    fn split_found<'b>(&self, found: &'b [Found]) -> (&'b [Found], &'b [Found])
+        ensures here { result.0.now ≡ found_at self.now found.now }
+        ensures left { result.1.now ≡ drop (length (found_at self.now found.now)) found.now }
+    {
+        found.split_at(self.count_here(found))
+    }
+
+    /// How many of these findings, from the first on, are of the descriptor.
+    #[tactic(auto, unfolding(crate::specs::Findings::found_at))]
+    fn count_here(&self, found: &[Found]) -> usize
+        ensures { result ≡ length (found_at self.now found.now) }
+    {
+        let mut count = 0;
+        for one in found {
+            if one.descriptor != self.descriptors {
+                return count;
+            }
+            count += 1;
+        }
+        count
     }
 }

@@ -1,7 +1,6 @@
 //! What came before a descriptor in an input.
 ghost use Rattle.std.specs.Prelude.{◌≡◌, ◌+◌, ◌<◌, ◌^◌, length};
-ghost use Rattle.usb_remarks.specs.Standings.{device_codes, kept, passed, start};
-ghost use Rattle.usb_walk.specs.Positions.{Counted};
+ghost use Rattle.usb_remarks.specs.Standings.{AreCounted, device_codes, kept, passed, start};
 
 use crate::bindings::Bindings;
 use crate::device_facts::DeviceFacts;
@@ -16,6 +15,8 @@ use usb_walk::{Position, Role};
 pub(crate) struct Standing {
     /// Where it is, as numbers.
     pub(crate) position: Position,
+    /// How many descriptors came.
+    pub(crate) descriptors: usize,
     /// The device.
     pub(crate) device: Option<DeviceFacts>,
     /// The speed of the device's own sets, as far as they and the device descriptor say.
@@ -43,10 +44,11 @@ impl Standing {
     #[tactic(auto, unfolding(crate::specs::Standings::start))]
     pub(crate) fn start() -> Standing
         ensures start { result ≡ start }
-        ensures counted { Counted result.position }
+        ensures counted { AreCounted result }
     {
         Standing {
             position: Position::start(),
+            descriptors: 0,
             device: None,
             own_speed: SetSpeed::FullOrHigh,
             own_side: None,
@@ -62,12 +64,13 @@ impl Standing {
 
     /// Moves past a descriptor of this role.
     pub(crate) fn pass(&mut self, role: Role, d: &[u8])
-        requires counted { Counted self.old.position }
+        requires counted { AreCounted self.old }
         requires room { self.old.position.at + length d.now < 2 ^ 63 }
         ensures { self.new ≡ passed role d.now self.old }
     {
         self.keep(role, d);
         self.position.pass(role, d);
+        self.descriptors += 1;
     }
 
     /// Keeps what a device and its qualifier say of the speeds of their sets, and the number of an interface.

@@ -33,7 +33,9 @@ use Rattle.usb_remarks.specs.declared.standing.Standing.{Standing}
 use Rattle.usb_remarks.specs.FaultPlaces.{place_of_fault}
 use Rattle.usb_remarks.specs.OutlineLaws.{BrokenCoversUpToFault}
 use Rattle.usb_walk.specs.Positions.{noted}
+use Rattle.usb_remarks.specs.SetStart.{entered}
 use Rattle.usb_remarks.specs.Standings.{start}
+use Rattle.usb_remarks.proofs.Telling.{none_at}
 use Rattle.usb_remarks.specs.Uncovered.{uncovered_in_file, uncovered_in_set, most_uncovered}
 use Rattle.usb_remarks.specs.declared.speed.SetSpeed.{SetSpeed}
 use Rattle.usb_remarks.proofs.Spans.{end_and_rest}
@@ -41,8 +43,8 @@ use Rattle.usb_remarks.proofs.rest.Steps.{behind_one, goes_on, left_one, length_
 use Rattle.usb_remarks.proofs.rest.Seen.{seen}
 use Rattle.usb_remarks.proofs.rest.Settings.{Out, out}
 use Rattle.usb_remarks.proofs.rest.Sets.{outer_at, set_goes, sets_go, with_count}
-use Rattle.usb_remarks.proofs.rest.Inputs.{device_after, device_role, languages_step, nothing_less, out_goes, outside, qualifier_role, start_outside, text_step, units_length}
-use Rattle.usb_remarks.proofs.rest.Near.{EndsFew, OutFew, faulty_few, few, few_left, few_taken, nil_behind, nil_of_rear, open_few, reached_place, rear_of_nil}
+use Rattle.usb_remarks.proofs.rest.Inputs.{device_after, device_role, languages_step, nothing_less, out_goes, outside, qualifier_role, start_outside, text_step, told_none, units_length}
+use Rattle.usb_remarks.proofs.rest.Near.{EndsFew, OutFew, faulty_few, few, few_left, few_taken, nil_behind, open_few, reached_place}
 
 -- a byte; where there is none it reads as 0
 byte_fits : (b : List ℕ) (at : ℕ) → AreBytes b → slice_index b at < 256
@@ -60,6 +62,7 @@ device_few : (k : ℕ) (running : Option SetSpeed) (d : DeviceDescriptor) (behin
 device_few k running d behind onward fs nil =
     let b = device_bytes d in
     goes_on (few k) running start fs b behind roles.Device _ _ (length_is 18 1 (fields_bytes device_fields d) behind refl) (device_role d) refl refl
+    (none_at (entered roles.Device running (b ++ behind) start) roles.Device fs nil)
     (onward (behind_one running start roles.Device b behind) (device_after b (b ++ behind) running)
     (left_one running start fs roles.Device b behind) (nil_behind running start fs roles.Device b behind nil))
 
@@ -67,8 +70,8 @@ sets_few : (k : ℕ) (running : Option SetSpeed) (kind : SetKind) (sets : List C
     → list_any has_no_layout sets ≡ false → list_any (is_other_kind kind) sets ≡ false → ((n : ℕ) → FewFrom k running (with_count kind n o) behind)
     → FewFrom k running (with_count kind i o) (sets_bytes sets ++ behind)
 sets_few k running kind sets i o behind left allowed right onward s e fs nil =
-    sets_go (few k) running kind sets sets i o behind [] left allowed right (λ n v is t gs same rear. onward n t (ap (λ v. out v) same ∙ is) gs (nil_of_rear gs rear))
-    (seen s) e s fs refl (rear_of_nil fs _ nil)
+    sets_go (few k) running kind sets sets i o behind [] left allowed right (λ n v is t gs same told. onward n t (ap (λ v. out v) same ∙ is) gs (told_none t.descriptors gs told))
+    (seen s) e s fs refl (inr nil)
 
 qualifier_few : (k : ℕ) (running : Option SetSpeed) (q : Qualifier) (m : ℕ) (behind : List ℕ) → FewFrom k running (outside true false m 0) behind
     → FewFrom k running (outside true false m 0) (qualifier_bytes q ++ behind)
@@ -77,6 +80,7 @@ qualifier_few k running q m behind onward s e fs nil =
     let d = qualifier_bytes q in
     goes_on (few k) running s fs d behind roles.Qualifier _ _ (length_is 10 6 (fields_bytes qualifier_fields q) behind refl)
     (outer_at s d (ap (λ (o : Out). o.left) e) ∙ qualifier_role s q (ap (λ (o : Out). o.known) e)) refl refl
+    (none_at (entered roles.Qualifier running (d ++ behind) s) roles.Qualifier fs nil)
     (onward (behind_one running s roles.Qualifier d behind) (nothing_less (outside true false m 0) s (length d) refl e)
     (left_one running s fs roles.Qualifier d behind) (nil_behind running s fs roles.Qualifier d behind nil))
 
@@ -102,7 +106,7 @@ texts_few k running m n (u ∷ texts) behind onward s e =
     subst (λ l. EndsFew k running s l) (sym (append_assoc (units_bytes u) (each_string_bytes texts) behind))
     (λ fs nil. out_goes (few k) running o o roles.Text (units_bytes u) more [] [] (length_is (2 + 2 * length u) 3 (flat_map little_endian u) more (units_length u))
     (λ t is. text_step running u more true m n t is)
-    (λ v is t gs same rear. texts_few k running m n texts behind onward t (ap (λ v. out v) same ∙ is) gs (nil_of_rear gs rear)) (seen s) e s fs refl (rear_of_nil fs [] nil))
+    (λ v is t gs same told. texts_few k running m n texts behind onward t (ap (λ v. out v) same ∙ is) gs (told_none t.descriptors gs told)) (seen s) e s fs refl (inr nil))
 
 -- there is a language, if there are strings
 abbrev AreSpoken : Option Strings → Type 0
@@ -118,7 +122,7 @@ strings_few k running m n (Some strings) behind spoken onward s e =
     subst (λ l. EndsFew k running s l) (sym (append_assoc (units_bytes u) (each_string_bytes strings.texts) behind))
     (λ fs nil. out_goes (few k) running (outside true false m n) (outside true true m n) roles.Languages (units_bytes u) more [] []
     (length_is (2 + 2 * length u) 3 (flat_map little_endian u) more (units_length u)) (λ t is. languages_step running u more m n t spoken is)
-    (λ v is t gs same rear. texts_few k running m n strings.texts behind onward t (ap (λ v. out v) same ∙ is) gs (nil_of_rear gs rear)) (seen s) e s fs refl (rear_of_nil fs [] nil))
+    (λ v is t gs same told. texts_few k running m n strings.texts behind onward t (ap (λ v. out v) same ∙ is) gs (told_none t.descriptors gs told)) (seen s) e s fs refl (inr nil))
 
 spoken_in : (f : DescriptorFile) (other : Option Other) (strings : Option Strings) → IsInOrder f other strings → AreSpoken strings
 spoken_in f None None order = tt
@@ -238,7 +242,7 @@ layout_few : (k : ℕ) (running : Option SetSpeed) (c : Configuration) (b : List
 layout_few k running c b layout =
     subst (λ l. EndsFew k running start l) (append-nil (set_bytes c (length b)) ∙ sym layout.bytes)
     (λ fs nil. set_goes (few k) running c [] (length b) (seen start) [] [] layout.raws_are_raw (ap (λ (l : List ℕ). length l) (sym layout.bytes)) start_outside
-    (λ v e s gs same rear. few_left k running s [] (omega arith) gs (nil_of_rear gs rear)) start fs refl (rear_of_nil fs _ nil))
+    (λ v e s gs same told. few_left k running s [] (omega arith) gs (told_none s.descriptors gs told)) start fs refl (inr nil))
 
 wants_few : (k : ℕ) (running : Option SetSpeed) (b : List ℕ) (at : ℕ) (rest : List ℕ) → StartsAt b at rest → EndsFew k running start (take at b)
 wants_few k running b at rest (inl first) = few_left k running start (take at b) (few_taken k at b (omega (arith, first.0)))

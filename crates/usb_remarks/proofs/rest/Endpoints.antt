@@ -1,12 +1,11 @@
 -- A walk goes through the endpoints of a setting, and tells their findings.
-use Rattle.std.proofs.Common.{◌≡◌, ◌≤◌, ◌<◌, ℕ, ◌+◌, ◌-◌, ◌&&◌, Bool, true, false, List, [], ◌∷◌, ◌++◌, flat_map, length, nat_le, take, Option, Some, refl, sym, ap, subst, ◌∙◌, arith, length-append}
-use Rattle.std.specs.List.{list_any}
+use Rattle.std.proofs.Common.{◌≡◌, ◌≤◌, ◌<◌, ℕ, ◌+◌, ◌-◌, ◌&&◌, Bool, true, false, List, [], ◌∷◌, ◌++◌, flat_map, length, nat_le, take, Option, Some, refl, sym, ap, subst, ◌∙◌, append_assoc, arith, length-append}
+use Rattle.std.specs.List.{AllByRecursion, list_any}
 use Rattle.std.proofs.lemmas.Bool.{le-leb, or_parts}
-use Rattle.usb_file_data.specs.declared.cause.Found.{Found}
 use Rattle.usb_file_data.specs.declared.cause.Cause.{Cause}
 use Rattle.usb_file_data.specs.declared.cause.Cause.TheVariants as causes
-use Rattle.usb_file_data.specs.Causes.{address_cause, found}
-use Rattle.usb_file_data.specs.Findings.{association_count, at_associations, at_endpoint, endpoint_associations, endpoint_in_order}
+use Rattle.usb_file_data.specs.Causes.{Broken, address_cause, broken_by}
+use Rattle.usb_file_data.specs.Findings.{association_count, at_endpoint, endpoint_associations, endpoint_in_order, extras_in_order}
 use Rattle.usb_file_data.specs.Places.{at_each_counted, when}
 use Rattle.usb_file_data.specs.Rules.{repeats_address, shares_address, wrong_address, wrong_packet_size}
 use Rattle.usb_set.specs.declared.tree.Endpoint.{Endpoint}
@@ -16,7 +15,7 @@ use Rattle.usb_set.specs.inside.Trees.{endpoint_bytes, extra_bytes, is_endpoint_
 use Rattle.usb_walk.specs.declared.role.Role.TheVariants as roles
 use Rattle.usb_remarks.specs.declared.standing.Standing.{Standing}
 use Rattle.usb_walk.specs.Places.{place_in}
-use Rattle.usb_remarks.specs.Findings.{can_break, finding_at, is_here}
+use Rattle.usb_remarks.specs.Findings.{IsAtPlace, can_break, finding_at}
 use Rattle.usb_walk.specs.Surroundings.{depth_of}
 use Rattle.usb_walk.specs.Owners.{of_endpoint, owner_of, part_in}
 use Rattle.usb_walk.specs.Positions.{noted}
@@ -25,8 +24,8 @@ use Rattle.usb_remarks.specs.declared.speed.SetSpeed.{SetSpeed}
 use Rattle.usb_walk.specs.Trees.{endpoint_descriptors, tree_descriptor}
 use Rattle.usb_remarks.proofs.Spans.{Aim, adding}
 use Rattle.usb_remarks.proofs.rest.Steps.{four_parts, inner_at, length_is}
-use Rattle.usb_remarks.proofs.rest.Seen.{AllHere, Goes, Seen, Step, goes_as, goes_twice, here_both, here_when, seen, whose_interface}
-use Rattle.usb_remarks.proofs.rest.Extras.{count_append, extras_go, here_is, less, same_taken, seen_goes, taken}
+use Rattle.usb_remarks.proofs.rest.Seen.{Goes, Seen, Step, goes_as, goes_twice, of_both, of_when, seen, whose_interface}
+use Rattle.usb_remarks.proofs.rest.Extras.{count_append, extras_go, less, same_taken, seen_goes, taken}
 
 -- ---- its descriptor
 
@@ -47,13 +46,11 @@ at_setting j k v = record v { setting = j; endpoints = k }
 abbrev owned : ℕ → Seen → Seen
 owned address v = record v { address = address; below = 4 }
 
--- findings of four rules, and of three
-pub here_four : (here : Found → Bool) (a b c d : Bool) (f g h i : Found) → here f ≡ true → here g ≡ true → here h ≡ true → here i ≡ true
-    → AllHere here (when a f ++ when b g ++ when c h ++ when d i)
-here_four here a b c d f g h i one two three four =
-    here_both here (when a f ++ when b g ++ when c h) (when d i)
-    (here_both here (when a f ++ when b g) (when c h)
-    (here_both here (when a f) (when b g) (here_when here a f (λ _. one)) (here_when here b g (λ _. two))) (here_when here c h (λ _. three))) (here_when here d i (λ _. four))
+-- what breaks four rules
+pub of_four : (P : Broken → Type 0) (a b c d : Bool) (f g h i : Broken) → P f → P g → P h → P i → AllByRecursion P (when a f ++ when b g ++ when c h ++ when d i)
+of_four P a b c d f g h i one two three four =
+    of_both P (when a f ++ when b g ++ when c h) (when d i)
+    (of_both P (when a f ++ when b g) (when c h) (of_both P (when a f) (when b g) (of_when P a f one) (of_when P b g two)) (of_when P c h three)) (of_when P d i four)
 
 endpoint_step : (running : Option SetSpeed) (before : List Setting) (t : Setting) (e : Endpoint) (behind : List ℕ) (s : Standing)
     → (0 < s.position.settings) × (length (descriptor_bytes (endpoint_descriptor e)) ≤ s.position.left)
@@ -63,22 +60,22 @@ endpoint_step : (running : Option SetSpeed) (before : List Setting) (t : Setting
 unfolding noted depth_of owner_of finding_at place_in can_break
 endpoint_step running before t e behind s p =
     let d = descriptor_bytes (endpoint_descriptor e) in
-    let here = here_is s roles.Endpoint in
-    let f = λ (cause : Cause). found cause (part_in s.position) s.position.set s.position.setting s.position.endpoints in
+    let b = λ (cause : Cause). broken_by cause (part_in s.position) s.position.set s.position.setting s.position.endpoints in
     record {
       is = inner_at s d s.position.left refl (omega arith) p.1 ∙ endpoint_role s e p.0;
-      own = here_four (is_here s roles.Endpoint) (wrong_address e.address) (repeats_address (take s.position.endpoints t.endpoints) e) (shares_address before t e) (wrong_packet_size e.max_packet)
-          (f (address_cause e.address)) (f causes.RepeatedAddress) (f causes.SharedAddress) (f causes.PacketSize) (here (address_cause e.address) refl) (here causes.RepeatedAddress refl) (here causes.SharedAddress refl) (here causes.PacketSize refl);
+      own = of_four (λ b. IsAtPlace s.position roles.Endpoint b.finding b.cause)
+          (wrong_address e.address) (repeats_address (take s.position.endpoints t.endpoints) e) (shares_address before t e) (wrong_packet_size e.max_packet)
+          (b (address_cause e.address)) (b causes.RepeatedAddress) (b causes.SharedAddress) (b causes.PacketSize) (refl, refl) (refl, refl) (refl, refl) (refl, refl);
       after = refl;
       deep = refl;
       belongs = refl;
     }
 
-endpoint_goes : (E : Aim) (running : Option SetSpeed) (before : List Setting) (j : ℕ) (t : Setting) (k : ℕ) (e : Endpoint) (v : Seen) (behind : List ℕ) (later : List Found)
+endpoint_goes : (E : Aim) (running : Option SetSpeed) (before : List Setting) (j : ℕ) (t : Setting) (k : ℕ) (e : Endpoint) (v : Seen) (behind : List ℕ) (later : List (List Broken))
     → 0 < v.settings → length (descriptor_bytes (endpoint_descriptor e)) ≤ v.left
     → Goes (adding E (tree_descriptor roles.Endpoint 3 (Some (of_endpoint (whose_interface v) e.address)) (descriptor_bytes (endpoint_descriptor e)) ∷ [])) running
     (at_setting j (k + 1) (owned e.address (less (length (descriptor_bytes (endpoint_descriptor e))) v))) later behind
-    → Goes E running (at_setting j k v) (at_endpoint v.part v.number before j t k e ++ later) (descriptor_bytes (endpoint_descriptor e) ++ behind)
+    → Goes E running (at_setting j k v) (at_endpoint v.part v.number before j t k e ∷ later) (descriptor_bytes (endpoint_descriptor e) ++ behind)
 endpoint_goes E running before j t k e v behind later some room onward =
     let item = endpoint_descriptor e in
     let d = descriptor_bytes item in
@@ -88,7 +85,7 @@ endpoint_goes E running before j t k e v behind later some room onward =
 
 -- ---- endpoints one after another, each with its extras
 
-pub endpoints_go : (E : Aim) (running : Option SetSpeed) (settings : List Setting) (j : ℕ) (t : Setting) (es : List Endpoint) (k : ℕ) (v : Seen) (behind : List ℕ) (later : List Found)
+pub endpoints_go : (E : Aim) (running : Option SetSpeed) (settings : List Setting) (j : ℕ) (t : Setting) (es : List Endpoint) (k : ℕ) (v : Seen) (behind : List ℕ) (later : List (List Broken))
     → list_any is_endpoint_typed es ≡ false → 0 < v.settings → length (flat_map endpoint_bytes es) ≤ v.left
     → ((o w a : ℕ) → Goes (adding E (flat_map (endpoint_descriptors (whose_interface v)) es)) running
     (record (taken (length (flat_map endpoint_bytes es)) (association_count (flat_map (λ e. e.extras) es)) v) { setting = j; endpoints = o; below = w; address = a }) later behind)
@@ -106,14 +103,14 @@ endpoints_go E running settings j t (e ∷ es) k v behind later typed some room 
     let u = owned e.address (less (length d) v) in
     let mine = endpoint_descriptors (whose_interface v) in
     let one = at_endpoint v.part v.number (take j settings) j t k e in
-    let two = at_associations v.part v.number settings v.associations e.extras in
+    let two = extras_in_order v.part v.number settings v.associations e.extras in
     let rest = at_each_counted endpoint_associations (endpoint_in_order v.part v.number settings j t) (k + 1) (v.associations + n) es in
     let sum : length ((d ++ x) ++ more) ≡ (length d + length x) + length more = length-append (d ++ x) more ∙ ap (λ n. n + length more) (length-append d x) in
     let count = count_append e.extras (flat_map (λ (e : Endpoint). e.extras) es) in
     let said : Aim = adding E (tree_descriptor roles.Endpoint 3 (Some (of_endpoint (whose_interface v) e.address)) d ∷ []) in
     let all : Aim = adding E (mine e) in
-    goes_as E running (at_setting j k v) (((one ++ two) ++ rest) ++ later) (one ++ (two ++ (rest ++ later))) (((d ++ x) ++ more) ++ behind) (d ++ (x ++ (more ++ behind)))
-    (four_parts one two rest later) (four_parts d x more behind)
+    goes_as E running (at_setting j k v) (one ∷ ((two ++ rest) ++ later)) (one ∷ (two ++ (rest ++ later))) (((d ++ x) ++ more) ++ behind) (d ++ (x ++ (more ++ behind)))
+    (ap (λ l. one ∷ l) (append_assoc two rest later)) (four_parts d x more behind)
     (endpoint_goes E running (take j settings) j t k e v (x ++ (more ++ behind)) (two ++ (rest ++ later)) some (omega (arith, room, sum))
     (extras_go said running settings e.extras (at_setting j (k + 1) u) (more ++ behind) (rest ++ later) each.0 (omega (arith, room, sum))
     (endpoints_go all running settings j t es (k + 1) (taken (length x) n u) behind later each.1 some (omega (arith, room, sum))

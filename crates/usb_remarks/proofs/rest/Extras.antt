@@ -1,18 +1,12 @@
 -- A walk goes through the extras of a set, and tells their findings.
 use Rattle.std.proofs.Common.{◌≡◌, ◌≤◌, ℕ, ◌+◌, ◌-◌, Bool, true, false, List, [], ◌∷◌, ◌++◌, flat_map, if◌then◌else◌, length, Option, Some, ◌==◌, refl, sym, ap, subst, ◌∙◌, arith, append_assoc, length-append}
 use Rattle.std.specs.List.{list_any}
-use Rattle.std.proofs.lemmas.Bool.{le-leb, eq-eqb, ne_eqb, or_parts}
+use Rattle.std.proofs.lemmas.Bool.{le-leb, ne_eqb, or_parts}
 use Rattle.std.proofs.lemmas.List.Concat.{flat_map-append}
-use Rattle.usb_file_data.specs.declared.cause.Found.{Found}
-use Rattle.usb_file_data.specs.declared.finding.Part.{Part}
-use Rattle.usb_file_data.specs.declared.cause.Cause.{Cause}
-use Rattle.usb_file_data.specs.declared.finding.Finding.{Finding}
 use Rattle.usb_file_data.specs.declared.cause.Cause.TheVariants as causes
-use Rattle.usb_file_data.specs.Causes.{association_cause, found}
-use Rattle.usb_file_data.specs.Findings.{association_count, at_associations}
-use Rattle.usb_file_data.specs.Places.{at_each, when}
+use Rattle.usb_file_data.specs.Causes.{Broken, association_cause, broken_by}
+use Rattle.usb_file_data.specs.Findings.{association_count, at_extra, extras_in_order}
 use Rattle.usb_file_data.specs.Rules.{binds_missing_interface}
-use Rattle.usb_file_data.proofs.Walking.{each_append}
 use Rattle.usb_set.specs.declared.extra.Association.{Association}
 use Rattle.usb_set.specs.declared.extra.Extra.{Extra}
 use Rattle.usb_set.specs.declared.extra.Extra.TheVariants as extras
@@ -27,8 +21,8 @@ use Rattle.usb_walk.specs.Trees.{descriptor_length, extra_depth, extra_descripto
 use Rattle.usb_walk.specs.declared.role.Role.{Role}
 use Rattle.usb_walk.specs.declared.role.Role.TheVariants as roles
 use Rattle.usb_remarks.specs.declared.standing.Standing.{Standing}
-use Rattle.usb_walk.specs.Places.{part_number, place_in}
-use Rattle.usb_remarks.specs.Findings.{can_break, finding_at, is_here, is_same}
+use Rattle.usb_walk.specs.Places.{place_in}
+use Rattle.usb_remarks.specs.Findings.{IsAtPlace, can_break, finding_at}
 use Rattle.usb_walk.specs.Surroundings.{depth_of}
 use Rattle.usb_walk.specs.Owners.{owner_of, part_in}
 use Rattle.usb_walk.specs.declared.owner.DescriptorOwner.{DescriptorOwner}
@@ -37,29 +31,18 @@ use Rattle.usb_walk.specs.Roles.{inner_role, typed_role}
 use Rattle.usb_remarks.specs.declared.speed.SetSpeed.{SetSpeed}
 use Rattle.usb_remarks.proofs.Spans.{Aim, adding}
 use Rattle.usb_remarks.proofs.rest.Steps.{inner_at, length_is}
-use Rattle.usb_remarks.proofs.rest.Seen.{Goes, Seen, Step, goes_as, here_both, here_when, one_goes, seen, whose}
+use Rattle.usb_remarks.proofs.rest.Seen.{Goes, Seen, Step, goes_as, of_when, one_goes, seen, whose}
 
 -- ---- a descriptor by what is seen before it
 
 -- where this holds of what is seen
-pub seen_goes : (E : Aim) (running : Option SetSpeed) (v : Seen) (P : Seen → Type 0) (role : Role) (d behind : List ℕ) (mine : Seen → List Found) (w : Seen → Seen) (later : List Found)
+pub seen_goes : (E : Aim) (running : Option SetSpeed) (v : Seen) (P : Seen → Type 0) (role : Role) (d behind : List ℕ) (mine : Seen → List Broken) (w : Seen → Seen) (later : List (List Broken))
     (depth : Seen → ℕ) (owner : Seen → Option DescriptorOwner)
     → descriptor_length (d ++ behind) ≡ Some (length d) → ((s : Standing) → P (seen s) → Step running s role d behind (mine (seen s)) (w (seen s)) (depth (seen s)) (owner (seen s)))
-    → P v → Goes (adding E (tree_descriptor role (depth v) (owner v) d ∷ [])) running (w v) later behind → Goes E running v (mine v ++ later) (d ++ behind)
+    → P v → Goes (adding E (tree_descriptor role (depth v) (owner v) d ∷ [])) running (w v) later behind → Goes E running v (mine v ∷ later) (d ++ behind)
 seen_goes E running v P role d behind mine w later depth owner e step holds onward =
     one_goes E running v (w v) role d behind (mine v) later (depth v) (owner v) e
     (λ s is. subst (λ v. Step running s role d behind (mine v) (w v) (depth v) (owner v)) is (step s (subst P (sym is) holds))) onward
-
--- ---- whose a finding is
-
-same_finding : (f : Finding) → is_same f f ≡ true
-same_finding f =
-    rw (eq-eqb f.rule f.rule refl, eq-eqb (part_number f.part) (part_number f.part) refl, eq-eqb f.set f.set refl, eq-eqb f.setting f.setting refl, eq-eqb f.endpoint f.endpoint refl) refl
-
--- one at the place of a descriptor is of it, where such a descriptor can break that rule
-pub here_is : (s : Standing) (role : Role) (cause : Cause) → can_break role cause ≡ true → is_here s role (record { finding = finding_at s.position role cause; cause = cause }) ≡ true
-unfolding is_here
-here_is s role cause can = rw (same_finding (finding_at s.position role cause), can) refl
 
 association_breaks : (none : Bool) → can_break roles.Association (if none then causes.NoInterface else causes.MissingInterface) ≡ true
 unfolding can_break
@@ -99,11 +82,8 @@ association_role : (s : Standing) (a : Association) → inner_role s.position (d
 unfolding inner_role
 association_role s a = ap (λ b. Some (typed_role b roles.Association)) (le-leb 8 (length (descriptor_bytes (association_descriptor a))) (omega arith))
 
-abbrev extra_findings : Part → ℕ → List Setting → ℕ → Extra → List Found
-extra_findings part i settings n x = at_each (λ k a. when (binds_missing_interface settings a) (found (association_cause a) part i k 0)) n (association_in x)
-
 extra_step : (running : Option SetSpeed) (settings : List Setting) (x : Extra) (behind : List ℕ) (s : Standing) → is_typed_raw x ≡ false → length (extra_bytes x) ≤ s.position.left
-    → Step running s (extra_role x) (extra_bytes x) behind (extra_findings (part_in s.position) s.position.set settings s.position.associations x)
+    → Step running s (extra_role x) (extra_bytes x) behind (at_extra (part_in s.position) s.position.set settings s.position.associations x)
     (after_extra x (seen s)) (extra_depth s.position.below x) (Some (extra_owner (whose (seen s)) x))
 unfolding noted depth_of owner_of finding_at place_in
 extra_step running settings (extras.Raw r) behind s e room =
@@ -117,23 +97,22 @@ extra_step running settings (extras.Raw r) behind s e room =
     }
 extra_step running settings (extras.Association a) behind s e room =
     let d = extra_bytes (extras.Association a) in
-    let f = found (association_cause a) (part_in s.position) s.position.set s.position.associations 0 in
-    let here = is_here s roles.Association in
+    let b = broken_by (association_cause a) (part_in s.position) s.position.set s.position.associations 0 in
     record {
       is = inner_at s d s.position.left refl (omega arith) room ∙ association_role s a;
-      own = here_both here (when (binds_missing_interface settings a) f) [] (here_when here (binds_missing_interface settings a) f (λ h. here_is s roles.Association (association_cause a) (association_breaks (a.count == 0)))) tt;
+      own = of_when (λ b. IsAtPlace s.position roles.Association b.finding b.cause) (binds_missing_interface settings a) b (refl, association_breaks (a.count == 0));
       after = refl;
       deep = refl;
       belongs = refl;
     }
 
-extra_goes : (E : Aim) (running : Option SetSpeed) (settings : List Setting) (x : Extra) (v : Seen) (behind : List ℕ) (later : List Found) → is_typed_raw x ≡ false
+extra_goes : (E : Aim) (running : Option SetSpeed) (settings : List Setting) (x : Extra) (v : Seen) (behind : List ℕ) (later : List (List Broken)) → is_typed_raw x ≡ false
     → length (extra_bytes x) ≤ v.left
     → Goes (adding E (tree_descriptor (extra_role x) (extra_depth v.below x) (Some (extra_owner (whose v) x)) (extra_bytes x) ∷ [])) running (after_extra x v) later behind
-    → Goes E running v (extra_findings v.part v.number settings v.associations x ++ later) (extra_bytes x ++ behind)
+    → Goes E running v (at_extra v.part v.number settings v.associations x ∷ later) (extra_bytes x ++ behind)
 extra_goes E running settings x v behind later e room onward =
     let item = extra_descriptor x in
-    seen_goes E running v (λ v. length (extra_bytes x) ≤ v.left) (extra_role x) (extra_bytes x) behind (λ v. extra_findings v.part v.number settings v.associations x)
+    seen_goes E running v (λ v. length (extra_bytes x) ≤ v.left) (extra_role x) (extra_bytes x) behind (λ v. at_extra v.part v.number settings v.associations x)
     (after_extra x) later (λ v. extra_depth v.below x) (λ v. Some (extra_owner (whose v) x)) (length_is (2 + length item.body) item.kind item.body behind refl)
     (λ s p. extra_step running settings x behind s e p) room onward
 
@@ -142,10 +121,10 @@ extra_goes E running settings x v behind later e room onward =
 pub count_append : (xs ys : List Extra) → association_count (xs ++ ys) ≡ association_count xs + association_count ys
 count_append xs ys = ap (λ (l : List Association). length l) (flat_map-append association_in xs ys) ∙ length-append (flat_map association_in xs) (flat_map association_in ys)
 
-pub extras_go : (E : Aim) (running : Option SetSpeed) (settings : List Setting) (xs : List Extra) (v : Seen) (behind : List ℕ) (later : List Found) → list_any is_typed_raw xs ≡ false
+pub extras_go : (E : Aim) (running : Option SetSpeed) (settings : List Setting) (xs : List Extra) (v : Seen) (behind : List ℕ) (later : List (List Broken)) → list_any is_typed_raw xs ≡ false
     → length (flat_map extra_bytes xs) ≤ v.left
     → Goes (adding E (extra_descriptors v.below (whose v) xs)) running (taken (length (flat_map extra_bytes xs)) (association_count xs) v) later behind
-    → Goes E running v (at_associations v.part v.number settings v.associations xs ++ later) (flat_map extra_bytes xs ++ behind)
+    → Goes E running v (extras_in_order v.part v.number settings v.associations xs ++ later) (flat_map extra_bytes xs ++ behind)
 extras_go E running settings [] v behind later e room onward =
     subst (λ w. Goes E running w later behind) (sym (same_taken v v.left v.associations 0 0 (omega arith) (omega arith))) onward
 extras_go E running settings (x ∷ xs) v behind later e room onward =
@@ -153,14 +132,12 @@ extras_go E running settings (x ∷ xs) v behind later e room onward =
     let d = extra_bytes x in
     let more = flat_map extra_bytes xs in
     let n = length (association_in x) in
-    let one = extra_findings v.part v.number settings v.associations x in
-    let rest = at_associations v.part v.number settings (v.associations + n) xs in
+    let one = at_extra v.part v.number settings v.associations x in
+    let rest = extras_in_order v.part v.number settings (v.associations + n) xs in
     let sum : length (d ++ more) ≡ length d + length more = length-append d more in
     let count : association_count (x ∷ xs) ≡ n + association_count xs = length-append (association_in x) (flat_map association_in xs) in
     let said : Aim = adding E (extra_in_tree v.below (whose v) x ∷ []) in
-    goes_as E running v (at_associations v.part v.number settings v.associations (x ∷ xs) ++ later) (one ++ (rest ++ later)) ((d ++ more) ++ behind) (d ++ (more ++ behind))
-    (ap (λ l. l ++ later) (each_append (λ k a. when (binds_missing_interface settings a) (found (association_cause a) v.part v.number k 0)) v.associations (association_in x) (flat_map association_in xs))
-    ∙ append_assoc one rest later) (append_assoc d more behind)
+    goes_as E running v (one ∷ (rest ++ later)) (one ∷ (rest ++ later)) ((d ++ more) ++ behind) (d ++ (more ++ behind)) refl (append_assoc d more behind)
     (extra_goes E running settings x v (more ++ behind) (rest ++ later) each.0 (omega (arith, room, sum))
     (extras_go said running settings xs (after_extra x v) behind later each.1 (omega (arith, room, sum))
     (subst (λ (w : Seen). Goes (adding said (extra_descriptors v.below (whose v) xs)) running w later behind)

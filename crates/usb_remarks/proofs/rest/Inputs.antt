@@ -1,7 +1,6 @@
 -- A walk over an input leaves nothing, tells each finding, and shows the input's tree.
-use Rattle.std.proofs.Common.{◌≡◌, ◌<◌, ℕ, ◌+◌, ◌-◌, ◌*◌, ◌%◌, ◌==◌, ◌&&◌, ◌||◌, Bool, true, false, not, if◌then◌else◌, List, [], ◌∷◌, ◌++◌, length, map, take, Option, Some, None, refl, sym, ap, subst, ◌∙◌, arith, append_assoc, append-nil}
-use Rattle.std.specs.List.{flat_map, list_any}
-use Rattle.std.proofs.Math.Seq.{drop-nil}
+use Rattle.std.proofs.Common.{◌≡◌, ◌<◌, ℕ, ◌+◌, ◌-◌, ◌*◌, ◌%◌, ◌==◌, ◌&&◌, ◌||◌, Bool, true, false, not, if◌then◌else◌, List, [], ◌∷◌, ◌++◌, length, map, take, Option, Some, None, refl, sym, ap, subst, ◌∙◌, arith, append_assoc, append-nil, inl, inr}
+use Rattle.std.specs.List.{AllByRecursion, flat_map, list_any}
 use Rattle.std.proofs.lemmas.Bool.{eq-eqb, le-leb, or_parts}
 use Rattle.usb_fields.specs.Bytes.{little_endian}
 use Rattle.usb_fields.specs.Fields.{fields_bytes}
@@ -12,9 +11,9 @@ use Rattle.usb_fields.specs.Units.{units_bytes}
 use Rattle.usb_file_data.specs.declared.cause.Found.{Found}
 use Rattle.usb_file_data.specs.declared.finding.Part.TheVariants as parts
 use Rattle.usb_file_data.specs.declared.cause.Cause.TheVariants as causes
-use Rattle.usb_file_data.specs.Causes.{device_cause, found, qualifier_cause}
-use Rattle.usb_file_data.specs.Findings.{at_device, at_qualifier, file_in_order, found_in_order, other_in_order, part_in_order, part_of_kind, set_in_order, without_sets}
-use Rattle.usb_file_data.specs.Places.{at_each, when}
+use Rattle.usb_file_data.specs.Causes.{Broken, broken_by, device_cause, qualifier_cause}
+use Rattle.usb_file_data.specs.Findings.{at_device, at_qualifier, broken_in_order, file_in_order, found_from, found_in_order, other_in_order, part_in_order, part_of_kind, set_in_order, without_sets}
+use Rattle.usb_file_data.specs.Places.{at_each}
 use Rattle.usb_file_data.specs.Rules.{wrong_device, wrong_dumped_device, wrong_qualifier}
 use Rattle.usb_set.specs.declared.tree.Configuration.{Configuration}
 use Rattle.usb_set.specs.declared.tree.SetKind.{SetKind}
@@ -36,7 +35,7 @@ use Rattle.usb_walk.specs.declared.role.Role.{Role}
 use Rattle.usb_walk.specs.declared.role.Role.TheVariants as roles
 use Rattle.usb_remarks.specs.declared.standing.Standing.{Standing}
 use Rattle.usb_walk.specs.Places.{place_in}
-use Rattle.usb_remarks.specs.Findings.{can_break, finding_at, is_here}
+use Rattle.usb_remarks.specs.Findings.{IsAtPlace, can_break, finding_at}
 use Rattle.usb_walk.specs.Surroundings.{depth_of}
 use Rattle.usb_remarks.specs.OutlineLaws.{WholeHasNoRest, WholeShowsTree, WholeReportsFindings}
 use Rattle.usb_walk.specs.Owners.{of_set, owner_of}
@@ -46,10 +45,11 @@ use Rattle.usb_remarks.specs.Standings.{passed, start}
 use Rattle.usb_walk.specs.Roles.{is_alone, outer_role, role_if, role_of, string_role}
 use Rattle.usb_file_data.specs.Likeness.{names_languages}
 use Rattle.usb_remarks.proofs.Spans.{Aim, adding}
+use Rattle.usb_remarks.proofs.Standings.{start_number}
+use Rattle.usb_remarks.proofs.Telling.{AllBrokenAt, Told}
 use Rattle.usb_remarks.proofs.rest.Walks.{Ends, ShowsAll, Tells, all_tells, ends_here, nothing_left}
 use Rattle.usb_remarks.proofs.rest.Steps.{behind_one, goes_on, left_one, length_is}
-use Rattle.usb_remarks.proofs.rest.Seen.{AllHere, Rear, here_both, here_when, goes_as, rear_behind, seen}
-use Rattle.usb_remarks.proofs.rest.Extras.{here_is}
+use Rattle.usb_remarks.proofs.rest.Seen.{goes_as, left_told, of_both, of_when, own_told, seen}
 use Rattle.usb_remarks.proofs.rest.Settings.{Out, out}
 use Rattle.usb_remarks.proofs.rest.Sets.{GoesOut, both_hold, count_in, outer_at, set_goes, sets_go}
 
@@ -59,26 +59,31 @@ use Rattle.usb_remarks.proofs.rest.Sets.{GoesOut, both_hold, count_in, outer_at,
 abbrev pub outside : Bool → Bool → ℕ → ℕ → Out
 outside known spoken mains others = record { left = 0; known = known; spoken = spoken; mains = mains; others = others }
 
+-- where nothing more is to be found, nothing is
+pub told_none : (n : ℕ) (fs : List Found) → Told n [] fs → fs ≡ []
+told_none n fs (inl e) = e
+told_none n fs (inr e) = e
+
 -- the end of the bytes
 at_end : (E : Aim) (running : Option SetSpeed) (o : Out) → E [] [] → GoesOut E running o [] []
-at_end E running o aimed v e s fs same rear = ends_here E running s fs (rear.1 ∙ drop-nil rear.0) aimed
+at_end E running o aimed v e s fs same told = ends_here E running s fs (told_none s.descriptors fs told) aimed
 
 -- a descriptor outside of sets
-pub record OutStep (running : Option SetSpeed) (s : Standing) (role : Role) (d behind : List ℕ) (mine : List Found) (o : Out) : Type 0 where
+pub record OutStep (running : Option SetSpeed) (s : Standing) (role : Role) (d behind : List ℕ) (mine : List Broken) (o : Out) : Type 0 where
   pub is : role_of s.position d ≡ Some role
-  pub own : AllHere (is_here (entered role running (d ++ behind) s) role) mine
+  pub own : AllBrokenAt (entered role running (d ++ behind) s).position role mine
   pub after : out (seen (passed role d (entered role running (d ++ behind) s))) ≡ o
   pub deep : depth_of (entered role running (d ++ behind) s).position role ≡ 0
   pub belongs : owner_of (entered role running (d ++ behind) s).position role d ≡ None
 
-pub out_goes : (E : Aim) (running : Option SetSpeed) (o p : Out) (role : Role) (d behind : List ℕ) (mine later : List Found) → descriptor_length (d ++ behind) ≡ Some (length d)
+pub out_goes : (E : Aim) (running : Option SetSpeed) (o p : Out) (role : Role) (d behind : List ℕ) (mine : List Broken) (later : List (List Broken)) → descriptor_length (d ++ behind) ≡ Some (length d)
     → ((s : Standing) → out (seen s) ≡ o → OutStep running s role d behind mine p) → GoesOut (adding E (tree_descriptor role 0 None d ∷ [])) running p later behind
-    → GoesOut E running o (mine ++ later) (d ++ behind)
-out_goes E running o p role d behind mine later e step onward v is s fs same rear =
+    → GoesOut E running o (mine ∷ later) (d ++ behind)
+out_goes E running o p role d behind mine later e step onward v is s fs same told =
     let one = step s (ap (λ v. out v) same ∙ is) in
     let next = behind_one running s role d behind in
-    goes_on E running s fs d behind role 0 None e one.is one.deep one.belongs
-    (onward (seen next) one.after next (left_one running s fs role d behind) refl (rear_behind running s fs role d behind mine later one.own rear))
+    goes_on E running s fs d behind role 0 None e one.is one.deep one.belongs (own_told running s fs role (d ++ behind) mine later one.own told)
+    (onward (seen next) one.after next (left_one running s fs role d behind) refl (left_told running s fs role d behind mine later told))
 
 -- ---- the device
 
@@ -91,7 +96,7 @@ pub device_after : (d ahead : List ℕ) (running : Option SetSpeed)
 unfolding start noted
 device_after d ahead running = let none : 0 - length d ≡ 0 = omega arith in ap (λ n. record (outside true false 0 0) { left = n }) none
 
-abbrev device_findings : Bool → DeviceDescriptor → List Configuration → List Found
+abbrev device_findings : Bool → DeviceDescriptor → List Configuration → List Broken
 device_findings is_dump d sets = without_sets parts.Main sets ++ at_device is_dump d
 
 device_depth : (running : Option SetSpeed) (ahead : List ℕ) → depth_of (entered roles.Device running ahead start).position roles.Device ≡ 0
@@ -102,23 +107,21 @@ device_owner : (running : Option SetSpeed) (d ahead : List ℕ) → owner_of (en
 unfolding owner_of
 device_owner running d ahead = refl
 
-device_goes : (E : Aim) (running : Option SetSpeed) (fs : List Found) (d : DeviceDescriptor) (sets : List Configuration) (is_dump : Bool) (behind : List ℕ) (later : List Found)
+device_goes : (E : Aim) (running : Option SetSpeed) (fs : List Found) (d : DeviceDescriptor) (sets : List Configuration) (is_dump : Bool) (behind : List ℕ) (later : List (List Broken))
     → GoesOut (adding E (tree_descriptor roles.Device 0 None (device_bytes d) ∷ [])) running (outside true false 0 0) later behind
-    → Rear fs (device_findings is_dump d sets ++ later) → Ends E running start fs (device_bytes d ++ behind)
+    → Told start.descriptors (device_findings is_dump d sets ∷ later) fs → Ends E running start fs (device_bytes d ++ behind)
 unfolding finding_at place_in can_break
-device_goes E running fs d sets is_dump behind later onward rear =
+device_goes E running fs d sets is_dump behind later onward told =
     let b = device_bytes d in
-    let begun = entered roles.Device running (b ++ behind) start in
-    let here = is_here begun roles.Device in
-    let none = found causes.NoConfiguration parts.Main 0 0 0 in
+    let mine = device_findings is_dump d sets in
     let next = behind_one running start roles.Device b behind in
-    let own : AllHere here (device_findings is_dump d sets) =
-    here_both here (when (length sets == 0) none) (at_device is_dump d)
-    (here_when here (length sets == 0) none (λ h. here_is begun roles.Device causes.NoConfiguration refl))
-    (here_when here (if is_dump then wrong_dumped_device d else wrong_device d) (found (device_cause is_dump d) parts.Device 0 0 0) (λ h. here_is begun roles.Device (device_cause is_dump d) refl)) in
+    let P = λ (b : Broken). IsAtPlace (entered roles.Device running (device_bytes d ++ behind) start).position roles.Device b.finding b.cause in
+    let own : AllByRecursion P mine =
+    of_both P (without_sets parts.Main sets) (at_device is_dump d) (of_when P (length sets == 0) (broken_by causes.NoConfiguration parts.Main 0 0 0) (refl, refl))
+    (of_when P (if is_dump then wrong_dumped_device d else wrong_device d) (broken_by (device_cause is_dump d) parts.Device 0 0 0) (refl, refl)) in
     goes_on E running start fs b behind roles.Device 0 None (length_is 18 1 (fields_bytes device_fields d) behind refl) (device_role d)
-    (device_depth running (b ++ behind)) (device_owner running b (b ++ behind))
-    (onward (seen next) (device_after b (b ++ behind) running) next (left_one running start fs roles.Device b behind) refl (rear_behind running start fs roles.Device b behind (device_findings is_dump d sets) later own rear))
+    (device_depth running (b ++ behind)) (device_owner running b (b ++ behind)) (own_told running start fs roles.Device (b ++ behind) mine later own told)
+    (onward (seen next) (device_after b (b ++ behind) running) next (left_one running start fs roles.Device b behind) refl (left_told running start fs roles.Device b behind mine later told))
 
 -- ---- the other speed
 
@@ -138,20 +141,17 @@ qualifier_step : (running : Option SetSpeed) (other : Other) (spoken : Bool) (m 
 unfolding noted depth_of owner_of finding_at place_in can_break
 qualifier_step running other spoken m n behind s e =
     let d = qualifier_bytes other.qualifier in
-    let begun = entered roles.Qualifier running (d ++ behind) s in
-    let here = is_here begun roles.Qualifier in
-    let none = found causes.NoConfiguration parts.Other 0 0 0 in
+    let P = λ (b : Broken). IsAtPlace (entered roles.Qualifier running (d ++ behind) s).position roles.Qualifier b.finding b.cause in
     record {
       is = outer_at s d (ap (λ (o : Out). o.left) e) ∙ qualifier_role s other.qualifier (ap (λ (o : Out). o.known) e);
-      own = here_both here (when (length other.sets == 0) none) (at_qualifier other.qualifier)
-          (here_when here (length other.sets == 0) none (λ h. here_is begun roles.Qualifier causes.NoConfiguration refl))
-          (here_when here (wrong_qualifier other.qualifier) (found (qualifier_cause other.qualifier) parts.Other 0 0 0) (λ h. here_is begun roles.Qualifier (qualifier_cause other.qualifier) refl));
+      own = of_both P (without_sets parts.Other other.sets) (at_qualifier other.qualifier) (of_when P (length other.sets == 0) (broken_by causes.NoConfiguration parts.Other 0 0 0) (refl, refl))
+          (of_when P (wrong_qualifier other.qualifier) (broken_by (qualifier_cause other.qualifier) parts.Other 0 0 0) (refl, refl));
       after = nothing_less (outside true spoken m n) s (length d) refl e;
       deep = refl;
       belongs = refl;
     }
 
-other_goes : (E : Aim) (running : Option SetSpeed) (spoken : Bool) (m : ℕ) (other : Option Other) (behind : List ℕ) (later : List Found)
+other_goes : (E : Aim) (running : Option SetSpeed) (spoken : Bool) (m : ℕ) (other : Option Other) (behind : List ℕ) (later : List (List Broken))
     → list_any (is_other_kind kinds.OtherSpeed) (other_sets other) ≡ false → list_any has_no_layout (other_sets other) ≡ false
     → ((n : ℕ) → GoesOut (adding E (other_descriptors other)) running (outside true spoken m n) later behind)
     → GoesOut E running (outside true spoken m 0) (other_in_order other ++ later) (other_bytes other ++ behind)
@@ -159,8 +159,8 @@ other_goes E running spoken m None behind later right allowed onward v is = onwa
 other_goes E running spoken m (Some o) behind later right allowed onward v is =
     let one = without_sets parts.Other o.sets ++ at_qualifier o.qualifier in
     let rest = part_in_order parts.Other o.sets in
-    goes_as E running v ((one ++ rest) ++ later) (one ++ (rest ++ later)) ((qualifier_bytes o.qualifier ++ sets_bytes o.sets) ++ behind) (qualifier_bytes o.qualifier ++ (sets_bytes o.sets ++ behind))
-    (append_assoc one rest later) (append_assoc (qualifier_bytes o.qualifier) (sets_bytes o.sets) behind)
+    goes_as E running v (one ∷ (rest ++ later)) (one ∷ (rest ++ later)) ((qualifier_bytes o.qualifier ++ sets_bytes o.sets) ++ behind) (qualifier_bytes o.qualifier ++ (sets_bytes o.sets ++ behind))
+    refl (append_assoc (qualifier_bytes o.qualifier) (sets_bytes o.sets) behind)
     (out_goes E running (outside true spoken m 0) (outside true spoken m 0) roles.Qualifier (qualifier_bytes o.qualifier) (sets_bytes o.sets ++ behind) one (rest ++ later)
     (length_is 10 6 (fields_bytes qualifier_fields o.qualifier) (sets_bytes o.sets ++ behind) refl)
     (λ s e. qualifier_step running o spoken m 0 (sets_bytes o.sets ++ behind) s e)
@@ -238,9 +238,9 @@ strings_go E running m n count (Some strings) right aimed =
 
 -- ---- inputs
 
--- at the first byte all of them are left
-rear_of_all : (fs all : List Found) → fs ≡ all → Rear fs all
-rear_of_all fs all e = (0, e)
+-- at the first byte all of them are to come
+all_to_come : (all broken : List (List Broken)) (fs : List Found) → fs ≡ found_from 0 all → all ≡ broken → Told start.descriptors broken fs
+all_to_come all broken fs e same = inl (e ∙ ap (λ l. found_from 0 l) same ∙ ap (λ n. found_from n broken) (sym start_number))
 
 no_sets : (kind : SetKind) → count_in kind (out (seen start)) ≡ 0
 unfolding start
@@ -264,11 +264,11 @@ set_leaves running c b layout =
     subst (λ l. Ends goal running start (found_in_order (inputs.Set c)) l) (append-nil (set_bytes c (length b)) ∙ sym layout.bytes)
     (set_goes goal running c before (length b) (seen start) [] [] layout.raws_are_raw (ap (λ (l : List ℕ). length l) (sym layout.bytes)) start_outside
     (λ w e. at_end (adding goal (said (count_in c.kind (out (seen start))))) running (out w) (refl, entries) w refl) start (found_in_order (inputs.Set c)) refl
-    (rear_of_all (found_in_order (inputs.Set c)) (set_in_order part before (count_in c.kind (out (seen start))) c ++ [])
+    (all_to_come (broken_in_order (inputs.Set c)) (set_in_order part before (count_in c.kind (out (seen start))) c ++ []) (found_in_order (inputs.Set c)) refl
     (ap (λ n. set_in_order part before n c ++ []) (sym (no_sets c.kind)))))
 
 -- the parts of a file in their order: a qualifier stands behind the device, and the language list before strings
-file_leaves : (running : Option SetSpeed) (f : DescriptorFile) (b : List ℕ) → File f b → Ends (ShowsAll (inputs.File f)) running start (file_in_order false f) b
+file_leaves : (running : Option SetSpeed) (f : DescriptorFile) (b : List ℕ) → File f b → Ends (ShowsAll (inputs.File f)) running start (found_in_order (inputs.File f)) b
 file_leaves running f b file =
     let d = device_bytes f.device in
     let sets = sets_bytes f.sets in
@@ -280,7 +280,8 @@ file_leaves running f b file =
     let layouts = or_parts (list_any has_no_layout f.sets) (list_any has_no_layout (other_sets f.other)) file.layouts in
     let right = or_parts (list_any (is_other_kind kinds.Configuration) f.sets) (list_any (is_other_kind kinds.OtherSpeed) (other_sets f.other)) file.kinds in
     let parts_of : file_bytes f ≡ d ++ (sets ++ (other ++ strings)) = append_assoc (d ++ sets) other strings ∙ append_assoc d sets (other ++ strings) in
-    let in_parts : (one ++ two) ++ three ≡ one ++ (two ++ (three ++ [])) = append_assoc one two three ∙ ap (λ l. one ++ (two ++ l)) (sym (append-nil three)) in
+    let all = found_in_order (inputs.File f) in
+    let in_parts : file_in_order false f ≡ one ∷ (two ++ (three ++ [])) = ap (λ l. one ∷ (two ++ l)) (sym (append-nil three)) in
     let goal = ShowsAll (inputs.File f) in
     let with_device : Aim = adding goal (tree_descriptor roles.Device 0 None d ∷ []) in
     let with_main : Aim = adding with_device (at_each (set_descriptors parts.Main) 0 f.sets) in
@@ -288,30 +289,31 @@ file_leaves running f b file =
     let main = at_each (set_descriptors parts.Main) 0 f.sets in
     let joined : main ++ (other_descriptors f.other ++ string_descriptors f.strings) ≡ (main ++ other_descriptors f.other) ++ string_descriptors f.strings =
     sym (append_assoc main (other_descriptors f.other) (string_descriptors f.strings)) in
-    subst (λ l. Ends goal running start (file_in_order false f) l) (sym (file.bytes ∙ parts_of))
-    (device_goes goal running (file_in_order false f) f.device f.sets false (sets ++ (other ++ strings)) (two ++ (three ++ []))
+    subst (λ l. Ends goal running start all l) (sym (file.bytes ∙ parts_of))
+    (device_goes goal running all f.device f.sets false (sets ++ (other ++ strings)) (two ++ (three ++ []))
     (sets_go with_device running kinds.Configuration f.sets f.sets 0 (outside true false 0 0) (other ++ strings) (three ++ []) refl layouts.0 right.0
     (λ m. other_goes with_main running false m f.other strings [] right.1 layouts.1
     (λ n. strings_go with_other running m n (length (named_indices f)) f.strings file.texts (refl, ap (λ l. tree_descriptor roles.Device 0 None d ∷ l) joined))))
-    (rear_of_all (file_in_order false f) (one ++ (two ++ (three ++ []))) in_parts))
+    (all_to_come (file_in_order false f) (one ∷ (two ++ (three ++ []))) all refl in_parts))
 
-dump_leaves : (running : Option SetSpeed) (f : DescriptorFile) (b : List ℕ) → Dump f b → Ends (ShowsAll (inputs.Dump f)) running start (file_in_order true f) b
+dump_leaves : (running : Option SetSpeed) (f : DescriptorFile) (b : List ℕ) → Dump f b → Ends (ShowsAll (inputs.Dump f)) running start (found_in_order (inputs.Dump f)) b
 dump_leaves running f b dump =
     let d = device_bytes f.device in
     let sets = sets_bytes f.sets in
     let one = device_findings true f.device f.sets in
     let two = part_in_order parts.Main f.sets in
     let parts_of : b ≡ d ++ (sets ++ []) = dump.bytes ∙ ap (λ l. d ++ l) (sym (append-nil sets)) in
-    let in_parts : (one ++ two) ++ other_in_order f.other ≡ one ++ (two ++ []) = ap (λ o. (one ++ two) ++ other_in_order o) dump.no_other ∙ append_assoc one two [] in
+    let all = found_in_order (inputs.Dump f) in
+    let in_parts : file_in_order true f ≡ one ∷ (two ++ []) = ap (λ o. one ∷ (two ++ other_in_order o)) dump.no_other in
     let goal = ShowsAll (inputs.Dump f) in
     let with_device : Aim = adding goal (tree_descriptor roles.Device 0 None d ∷ []) in
     let with_main : Aim = adding with_device (at_each (set_descriptors parts.Main) 0 f.sets) in
-    subst (λ l. Ends goal running start (file_in_order true f) l) (sym parts_of)
-    (device_goes goal running (file_in_order true f) f.device f.sets true (sets ++ []) (two ++ [])
+    subst (λ l. Ends goal running start all l) (sym parts_of)
+    (device_goes goal running all f.device f.sets true (sets ++ []) (two ++ [])
     (sets_go with_device running kinds.Configuration f.sets f.sets 0 (outside true false 0 0) [] [] refl dump.layouts dump.kinds
     (λ m. at_end with_main running (outside true false m 0)
     (refl, ap (λ l. tree_descriptor roles.Device 0 None d ∷ l) (append-nil (at_each (set_descriptors parts.Main) 0 f.sets)))))
-    (rear_of_all (file_in_order true f) (one ++ (two ++ [])) in_parts))
+    (all_to_come (file_in_order true f) (one ∷ (two ++ [])) all refl in_parts))
 
 input_leaves : (running : Option SetSpeed) (input : Input) (b : List ℕ) → IsInput input b → Ends (ShowsAll input) running start (found_in_order input) b
 input_leaves running (inputs.Set set) b is = set_leaves running set b is

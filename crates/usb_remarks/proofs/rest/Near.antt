@@ -1,6 +1,7 @@
 -- A walk over bytes with the fault of a set comes up to that fault.
 use Rattle.std.proofs.Common.{◌≡◌, ◌≤◌, ◌<◌, ℕ, zero, suc, ◌+◌, ◌-◌, ◌*◌, ◌==◌, ◌&&◌, ◌||◌, Bool, true, false, if◌then◌else◌, List, [], ◌∷◌, ◌++◌, flat_map, length, take, drop, nat_le, nat_lt, Option, Some, None, refl, sym, ap, subst, ◌∙◌, arith, inl, inr, append_assoc, append-nil, length-append}
-use Rattle.std.proofs.Math.Seq.{drop-length, drop-nil, take-append_seam}
+use Rattle.std.specs.List.{AllByRecursion}
+use Rattle.std.proofs.Math.Seq.{drop-nil, take-append_seam}
 use Rattle.std.proofs.lemmas.Bool.{cond-false, eq-eqb, eqb-true}
 use Rattle.std.proofs.lemmas.Bool.Decides.{nat_tests}
 use Rattle.std.proofs.lemmas.Option.{none-some}
@@ -22,7 +23,7 @@ use Rattle.usb_walk.specs.declared.role.Role.{Role}
 use Rattle.usb_walk.specs.declared.role.Role.TheVariants.{Device, Qualifier, Association, Interface, Endpoint, Raw, Languages, Text}
 use Rattle.usb_walk.specs.declared.role.Role.TheVariants as roles
 use Rattle.usb_remarks.specs.declared.standing.Standing.{Standing}
-use Rattle.usb_remarks.specs.OutlineLaws.{Cut}
+use Rattle.usb_remarks.specs.OutlineLaws.{Cut, HasItsOwnFindings}
 use Rattle.usb_remarks.specs.Outline.{Entry, findings_of}
 use Rattle.usb_remarks.specs.Findings.{found_at}
 use Rattle.usb_remarks.specs.SetStart.{entered}
@@ -31,8 +32,9 @@ use Rattle.usb_remarks.specs.Standings.{passed}
 use Rattle.usb_walk.specs.Roles.{inner_role, typed_role}
 use Rattle.usb_remarks.specs.Uncovered.{uncovered_in_set}
 use Rattle.usb_remarks.proofs.Spans.{Aim, walk_shows}
+use Rattle.usb_remarks.proofs.Telling.{AllAtPlace, none_at}
 use Rattle.usb_remarks.proofs.rest.Walks.{Ends}
-use Rattle.usb_remarks.proofs.rest.Seen.{Rear, Seen}
+use Rattle.usb_remarks.proofs.rest.Seen.{Seen}
 use Rattle.usb_remarks.proofs.rest.Sets.{outer_at, set_after, set_role}
 use Rattle.usb_remarks.proofs.rest.Steps.{behind_one, goes_on, inner_at, left_one, length_is}
 
@@ -44,16 +46,10 @@ few k = λ rest entries. length rest ≤ k
 abbrev pub EndsFew : ℕ → Option SetSpeed → Standing → List ℕ → Type 0
 EndsFew k running s ahead = (fs : List Found) → fs ≡ [] → Ends (few k) running s fs ahead
 
-pub rear_of_nil : (fs found : List Found) → fs ≡ [] → Rear fs found
-rear_of_nil fs found nil = (length found, nil ∙ sym (drop-length found))
-
-pub nil_of_rear : (fs : List Found) → Rear fs [] → fs ≡ []
-nil_of_rear fs rear = rear.1 ∙ drop-nil rear.0
-
 pub nil_behind : (running : Option SetSpeed) (s : Standing) (fs : List Found) (role : Role) (d behind : List ℕ) → fs ≡ [] → left_one running s fs role d behind ≡ []
 nil_behind running s fs role d behind nil =
     let begun = entered role running (d ++ behind) s in
-    ap (λ l. drop (length (found_at begun role l)) l) nil ∙ drop-nil (length (found_at begun role []))
+    ap (λ l. drop (length (found_at begun l)) l) nil ∙ drop-nil (length (found_at begun []))
 
 nil_after : (xs ys : List Found) → xs ++ ys ≡ [] → ys ≡ []
 nil_after [] ys e = e
@@ -66,12 +62,31 @@ cut_rest [] b rest e = omega (arith, ap (λ (l : List ℕ). length l) e)
 cut_rest (d ∷ ds) b rest c =
     omega (arith, ap (λ (l : List ℕ). length l) c.0, length-append d.bytes d.after, cut_rest ds d.after rest c.2)
 
+nil_before : (xs ys : List Found) → xs ++ ys ≡ [] → xs ≡ []
+nil_before [] ys e = refl
+nil_before (x ∷ xs) ys e = absurd (cc)
+
+-- where nothing is found, each descriptor has its own findings
+own_of_none : (shown : List Entry) → flat_map findings_of shown ≡ [] → AllByRecursion HasItsOwnFindings shown
+own_of_none [] none = tt
+own_of_none (d ∷ ds) none =
+    let here = nil_before (findings_of d) (flat_map findings_of ds) none in (
+      subst (λ l. AllAtPlace d.standing.position d.role l) (sym here) tt,
+      own_of_none ds (nil_after (findings_of d) (flat_map findings_of ds) none),
+    )
+
 -- of few bytes few are left
 pub few_left : (k : ℕ) (running : Option SetSpeed) (s : Standing) (ahead : List ℕ) → length ahead ≤ k → EndsFew k running s ahead
 few_left k running s ahead le fs nil n enough =
     let w = walk_shows running n s fs ahead in
     let fewer : length w.rest ≤ k = omega (arith, le, cut_rest w.shown ahead w.rest w.cut) in
-    record { walk = w; aimed = fewer; all_reported = nil_after (flat_map findings_of w.shown) w.left (w.tells ∙ nil) }
+    let none = w.tells ∙ nil in
+    record {
+      walk = w;
+      aimed = fewer;
+      own = own_of_none w.shown (nil_before (flat_map findings_of w.shown) w.left none);
+      all_reported = nil_after (flat_map findings_of w.shown) w.left none;
+    }
 
 taken : (n : ℕ) (b : List ℕ) → length (take n b) ≤ n
 taken zero b = omega arith
@@ -158,7 +173,7 @@ item_goes k running room in_setting item behind fine onward s left fs nil =
     let len = 2 + length item.body in
     let one = inner s len item.kind item.body (not_nested room in_setting len item.kind item.body fine) in
     let within : length d ≤ room = item_within room in_setting d fine (eq-eqb (length (item.kind ∷ item.body) + 1) len (omega arith)) in
-    goes_on (few k) running s fs d behind one.role _ _ (length_is len item.kind item.body behind refl) (inner_at s d room left (omega arith) within ∙ one.is) refl refl
+    goes_on (few k) running s fs d behind one.role _ _ (length_is len item.kind item.body behind refl) (inner_at s d room left (omega arith) within ∙ one.is) refl refl (none_at (entered one.role running (d ++ behind) s) one.role fs nil)
     (onward (behind_one running s one.role d behind)
     (left_behind one.role one.stays running d (d ++ behind) s ∙ ap (λ k. k - length d) left)
     (left_one running s fs one.role d behind) (nil_behind running s fs one.role d behind nil))
@@ -232,6 +247,7 @@ begun_goes k running kind body behind s outside least most onward fs nil =
     let d : List ℕ = len ∷ type_number kind ∷ body in
     goes_on (few k) running s fs d behind roles.Configuration _ _ (length_is len (type_number kind) body behind refl)
     (outer_at s d outside ∙ set_role s kind len body least most) refl refl
+    (none_at (entered roles.Configuration running (d ++ behind) s) roles.Configuration fs nil)
     (onward (behind_one running s roles.Configuration d behind)
     (ap (λ (v : Seen). v.left) (set_after kind running len body behind s) ∙ ap (λ n. n - length d) (total_before len (type_number kind) body behind least))
     (left_one running s fs roles.Configuration d behind) (nil_behind running s fs roles.Configuration d behind nil))

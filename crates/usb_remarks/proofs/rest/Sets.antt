@@ -3,11 +3,10 @@ use Rattle.std.proofs.Common.{◌≡◌, ◌≤◌, ℕ, ◌+◌, ◌-◌, ◌==
 use Rattle.std.specs.List.{list_any}
 use Rattle.std.proofs.lemmas.Bool.{cond-true, le-leb, eq-eqb, or_parts}
 use Rattle.usb_fields.specs.Bytes.{little_endian_at}
-use Rattle.usb_file_data.specs.declared.cause.Found.{Found}
 use Rattle.usb_file_data.specs.declared.cause.Cause.{Cause}
 use Rattle.usb_file_data.specs.declared.cause.Cause.TheVariants as causes
-use Rattle.usb_file_data.specs.Causes.{attributes_cause, found, value_cause}
-use Rattle.usb_file_data.specs.Findings.{association_count, at_associations, at_configuration, part_of_kind, set_in_order, setting_associations, setting_in_order}
+use Rattle.usb_file_data.specs.Causes.{Broken, attributes_cause, broken_by, value_cause}
+use Rattle.usb_file_data.specs.Findings.{association_count, at_configuration, extras_in_order, part_of_kind, set_in_order, setting_associations, setting_in_order}
 use Rattle.usb_file_data.specs.Places.{at_each, at_each_counted}
 use Rattle.usb_file_data.specs.Rules.{has_number_gap, interface_numbers, wrong_attributes, wrong_interface_count, wrong_value}
 use Rattle.usb_set.specs.declared.fault.EncodeFault.TheVariants as encoding
@@ -27,7 +26,7 @@ use Rattle.usb_walk.specs.declared.role.Role.{Role}
 use Rattle.usb_walk.specs.declared.role.Role.TheVariants as roles
 use Rattle.usb_remarks.specs.declared.standing.Standing.{Standing}
 use Rattle.usb_walk.specs.Places.{place_in}
-use Rattle.usb_remarks.specs.Findings.{can_break, finding_at, is_here}
+use Rattle.usb_remarks.specs.Findings.{IsAtPlace, can_break, finding_at}
 use Rattle.usb_walk.specs.Surroundings.{depth_of}
 use Rattle.usb_walk.specs.Owners.{of_set, owner_of}
 use Rattle.usb_remarks.specs.SetStart.{entered}
@@ -38,8 +37,8 @@ use Rattle.usb_walk.specs.Trees.{extra_descriptors, set_descriptors, set_descrip
 use Rattle.usb_remarks.proofs.Spans.{Aim, adding}
 use Rattle.usb_remarks.proofs.rest.Steps.{four_parts, length_is}
 use Rattle.usb_remarks.proofs.rest.Seen.{Goes, Seen, Step, goes_as, goes_for, goes_twice, seen}
-use Rattle.usb_remarks.proofs.rest.Extras.{extras_go, here_is, seen_goes, taken}
-use Rattle.usb_remarks.proofs.rest.Endpoints.{here_four}
+use Rattle.usb_remarks.proofs.rest.Extras.{extras_go, seen_goes, taken}
+use Rattle.usb_remarks.proofs.rest.Endpoints.{of_four}
 use Rattle.usb_remarks.proofs.rest.Settings.{Out, out, out_at, settings_go}
 
 -- outside of sets
@@ -94,10 +93,11 @@ set_after kinds.OtherSpeed running len body behind s = refl
 
 here_set : (kind : SetKind) (running : Option SetSpeed) (s : Standing) (len : ℕ) (body behind : List ℕ) (cause : Cause) → can_break roles.Configuration cause ≡ true
     → (let d : List ℕ = len ∷ type_number kind ∷ body in
-    is_here (entered roles.Configuration running (d ++ behind) s) roles.Configuration (found cause (part_of_kind kind) (count_in kind (out (seen s))) 0 0) ≡ true)
+    let b = broken_by cause (part_of_kind kind) (count_in kind (out (seen s))) 0 0 in
+    IsAtPlace (entered roles.Configuration running (d ++ behind) s).position roles.Configuration b.finding b.cause)
 unfolding finding_at place_in
-here_set kinds.Configuration running s len body behind cause h = here_is (entered roles.Configuration running (len ∷ 2 ∷ body ++ behind) s) roles.Configuration cause h
-here_set kinds.OtherSpeed running s len body behind cause h = here_is (entered roles.Configuration running (len ∷ 7 ∷ body ++ behind) s) roles.Configuration cause h
+here_set kinds.Configuration running s len body behind cause h = (refl, h)
+here_set kinds.OtherSpeed running s len body behind cause h = (refl, h)
 
 -- it belongs to its set
 owner_set : (kind : SetKind) (running : Option SetSpeed) (s : Standing) (len : ℕ) (body behind : List ℕ)
@@ -146,26 +146,26 @@ configuration_step running before c total behind s whole outside =
     let body : List ℕ = (configuration_descriptor c total).body in
     let d : List ℕ = descriptor_bytes (configuration_descriptor c total) in
     let after_it = behind_first c behind in
-    let f = λ (cause : Cause). found cause (part_of_kind c.kind) (count_in c.kind (out (seen s))) 0 0 in
+    let b = λ (cause : Cause). broken_by cause (part_of_kind c.kind) (count_in c.kind (out (seen s))) 0 0 in
     let here = here_set c.kind running s (2 + length body) body after_it in
     let count = causes.InterfaceCount c.declared_interfaces (length (interface_numbers c.settings)) in
     let sum = whole_sum c total whole in
     let room : length d ≤ total = omega (arith, sum) in
     record {
       is = outer_at s d outside ∙ set_role s c.kind (2 + length body) body (omega arith) (omega (arith, two_bytes total, room));
-      own = here_four (is_here (entered roles.Configuration running (d ++ after_it) s) roles.Configuration)
+      own = of_four (λ b. IsAtPlace (entered roles.Configuration running (d ++ after_it) s).position roles.Configuration b.finding b.cause)
           (wrong_interface_count c) (has_number_gap c) (wrong_attributes c) (wrong_value before c)
-          (f count) (f causes.NumberGap) (f (attributes_cause c.attributes)) (f (value_cause c.value)) (here count refl) (here causes.NumberGap refl) (here (attributes_cause c.attributes) refl) (here (value_cause c.value) (value_breaks (c.value == 0)));
+          (b count) (b causes.NumberGap) (b (attributes_cause c.attributes)) (b (value_cause c.value)) (here count refl) (here causes.NumberGap refl) (here (attributes_cause c.attributes) refl) (here (value_cause c.value) (value_breaks (c.value == 0)));
       after = set_after c.kind running (2 + length body) body after_it s ∙ ap (λ n. begun c.kind (n - length d) (seen s)) (two_bytes total);
       deep = refl;
       belongs = owner_set c.kind running s (2 + length body) body after_it;
     }
 
-configuration_goes : (E : Aim) (running : Option SetSpeed) (before : List Configuration) (c : Configuration) (total : ℕ) (v : Seen) (behind : List ℕ) (later : List Found)
+configuration_goes : (E : Aim) (running : Option SetSpeed) (before : List Configuration) (c : Configuration) (total : ℕ) (v : Seen) (behind : List ℕ) (later : List (List Broken))
     → IsWhole c total → v.left ≡ 0
     → Goes (adding E (tree_descriptor roles.Configuration 1 (Some (of_set (part_of_kind c.kind) (count_in c.kind (out v)))) (descriptor_bytes (configuration_descriptor c total)) ∷ [])) running
     (begun c.kind (total - length (descriptor_bytes (configuration_descriptor c total))) v) later (behind_first c behind)
-    → Goes E running v (at_configuration (part_of_kind c.kind) before (count_in c.kind (out v)) c ++ later) (descriptor_bytes (configuration_descriptor c total) ++ behind_first c behind)
+    → Goes E running v (at_configuration (part_of_kind c.kind) before (count_in c.kind (out v)) c ∷ later) (descriptor_bytes (configuration_descriptor c total) ++ behind_first c behind)
 configuration_goes E running before c total v behind later whole outside onward =
     let item = configuration_descriptor c total in
     let d = descriptor_bytes item in
@@ -177,7 +177,7 @@ configuration_goes E running before c total v behind later whole outside onward 
 -- ---- sets
 
 -- A set whose wTotalLength is the count of its bytes. Behind its first descriptor so many bytes are left as the others have.
-pub set_goes : (E : Aim) (running : Option SetSpeed) (c : Configuration) (before : List Configuration) (total : ℕ) (v : Seen) (behind : List ℕ) (later : List Found)
+pub set_goes : (E : Aim) (running : Option SetSpeed) (c : Configuration) (before : List Configuration) (total : ℕ) (v : Seen) (behind : List ℕ) (later : List (List Broken))
     → has_typed_raw c ≡ false → length (set_bytes c total) ≡ total → v.left ≡ 0
     → ((w : Seen) → out w ≡ with_count c.kind (count_in c.kind (out v) + 1) (out v) → Goes (adding E (set_descriptors_by (of_set (part_of_kind c.kind) (count_in c.kind (out v))) c total)) running w later behind)
     → Goes E running v (set_in_order (part_of_kind c.kind) before (count_in c.kind (out v)) c ++ later) (set_bytes c total ++ behind)
@@ -191,7 +191,7 @@ set_goes E running c before total v behind later raws all_bytes outside onward =
     let part = part_of_kind c.kind in
     let i = count_in c.kind (out v) in
     let one = at_configuration part before i c in
-    let two = at_associations part i c.settings 0 c.extras in
+    let two = extras_in_order part i c.settings 0 c.extras in
     let three = λ (k : ℕ). at_each_counted setting_associations (setting_in_order part i c.settings) 0 k c.settings in
     let is : set_bytes c total ≡ (d ++ x) ++ y = set_bytes_is c total in
     let whole : IsWhole c total = record { raws = raws; length_is = ap (λ (l : List ℕ). length l) (sym is) ∙ all_bytes } in
@@ -201,8 +201,8 @@ set_goes E running c before total v behind later raws all_bytes outside onward =
     let owner = of_set part i in
     let said : Aim = adding E (tree_descriptor roles.Configuration 1 (Some owner) d ∷ []) in
     let with_extras : Aim = adding said (extra_descriptors 2 owner c.extras) in
-    goes_as E running v (((one ++ two) ++ three n) ++ later) (one ++ (two ++ (three (0 + n) ++ later))) (set_bytes c total ++ behind) (d ++ (x ++ (y ++ behind)))
-    (four_parts one two (three n) later ∙ ap (λ k. one ++ (two ++ (three k ++ later))) none) (ap (λ l. l ++ behind) is ∙ four_parts d x y behind)
+    goes_as E running v (one ∷ ((two ++ three n) ++ later)) (one ∷ (two ++ (three (0 + n) ++ later))) (set_bytes c total ++ behind) (d ++ (x ++ (y ++ behind)))
+    (ap (λ l. one ∷ l) (append_assoc two (three n) later ∙ ap (λ k. two ++ (three k ++ later)) none)) (ap (λ l. l ++ behind) is ∙ four_parts d x y behind)
     (configuration_goes E running before c total v behind (two ++ (three (0 + n) ++ later)) whole outside
     (extras_go said running c.settings c.extras first (y ++ behind) (three (0 + n) ++ later) typed.0 (omega (arith, sum))
     (settings_go with_extras running c.settings c.settings (taken (length x) n first) behind later typed.1 left
@@ -211,7 +211,7 @@ set_goes E running c before total v behind later raws all_bytes outside onward =
     (onward w (e ∙ begun_out c.kind 0 (total - length d) v ∙ ap (λ k. with_count c.kind (i + 1) (out_at k v)) (sym outside)))))))
 
 -- from each standing of which this is seen
-abbrev pub GoesOut : Aim → Option SetSpeed → Out → List Found → List ℕ → Type 0
+abbrev pub GoesOut : Aim → Option SetSpeed → Out → List (List Broken) → List ℕ → Type 0
 GoesOut E running o later ahead = (v : Seen) → out v ≡ o → Goes E running v later ahead
 
 with_twice : (kind : SetKind) (m n : ℕ) (o : Out) → with_count kind m (with_count kind n o) ≡ with_count kind m o
@@ -233,7 +233,7 @@ same_kind kinds.OtherSpeed kinds.Configuration e = cc
 same_kind kinds.OtherSpeed kinds.OtherSpeed e = refl
 
 -- a set against which no reason stands has no raw descriptor of a type that a set reads
-whole_set_goes : (E : Aim) (running : Option SetSpeed) (kind : SetKind) (c : Configuration) (before : List Configuration) (i : ℕ) (o : Out) (v : Seen) (behind : List ℕ) (later : List Found)
+whole_set_goes : (E : Aim) (running : Option SetSpeed) (kind : SetKind) (c : Configuration) (before : List Configuration) (i : ℕ) (o : Out) (v : Seen) (behind : List ℕ) (later : List (List Broken))
     → c.kind ≡ kind → o.left ≡ 0 → has_no_layout c ≡ false → out v ≡ with_count kind i o
     → GoesOut (adding E (set_descriptors (part_of_kind kind) i c)) running (with_count kind (i + 1) o) later behind
     → Goes E running v (set_in_order (part_of_kind kind) before i c ++ later) (whole_set c ++ behind)
@@ -254,7 +254,7 @@ whole_set_goes E running kind c before i o v behind later same outside allowed i
     ∙ with_twice kind (i + 1) i o))))
 
 -- sets one after another
-pub sets_go : (E : Aim) (running : Option SetSpeed) (kind : SetKind) (all sets : List Configuration) (i : ℕ) (o : Out) (behind : List ℕ) (later : List Found) → o.left ≡ 0
+pub sets_go : (E : Aim) (running : Option SetSpeed) (kind : SetKind) (all sets : List Configuration) (i : ℕ) (o : Out) (behind : List ℕ) (later : List (List Broken)) → o.left ≡ 0
     → list_any has_no_layout sets ≡ false → list_any (is_other_kind kind) sets ≡ false → ((n : ℕ) → GoesOut (adding E (at_each (set_descriptors (part_of_kind kind)) i sets)) running (with_count kind n o) later behind)
     → GoesOut E running (with_count kind i o) (at_each (λ i c. set_in_order (part_of_kind kind) (take i all) i c) i sets ++ later) (sets_bytes sets ++ behind)
 sets_go E running kind all [] i o behind later outside allowed right onward v is = onward i v is

@@ -1,12 +1,11 @@
 -- A walk goes through the settings of a set, and tells their findings.
-use Rattle.std.proofs.Common.{◌≡◌, ℕ, ◌+◌, ◌-◌, Bool, true, false, List, [], ◌∷◌, ◌++◌, flat_map, length, take, Option, Some, refl, ap, subst, ◌∙◌, arith, append_assoc, length-append}
-use Rattle.std.specs.List.{list_any}
+use Rattle.std.proofs.Common.{◌≡◌, ℕ, ◌+◌, ◌-◌, Bool, false, List, [], ◌∷◌, ◌++◌, flat_map, length, take, Option, Some, refl, ap, subst, ◌∙◌, arith, append_assoc, length-append}
+use Rattle.std.specs.List.{AllByRecursion, list_any}
 use Rattle.std.proofs.lemmas.Bool.{le-leb, or_parts}
-use Rattle.usb_file_data.specs.declared.cause.Found.{Found}
 use Rattle.usb_file_data.specs.declared.cause.Cause.{Cause}
 use Rattle.usb_file_data.specs.declared.cause.Cause.TheVariants as causes
-use Rattle.usb_file_data.specs.Causes.{found}
-use Rattle.usb_file_data.specs.Findings.{association_count, at_associations, at_interface, endpoint_associations, endpoint_in_order, setting_associations, setting_in_order}
+use Rattle.usb_file_data.specs.Causes.{Broken, broken_by}
+use Rattle.usb_file_data.specs.Findings.{association_count, at_interface, endpoint_associations, endpoint_in_order, extras_in_order, setting_associations, setting_in_order}
 use Rattle.usb_file_data.specs.Places.{at_each_counted, when}
 use Rattle.usb_file_data.specs.Rules.{lacks_default_setting, repeats_setting, wrong_endpoint_count}
 use Rattle.usb_set.specs.declared.tree.Endpoint.{Endpoint}
@@ -17,7 +16,7 @@ use Rattle.usb_set.proofs.Trees.{setting_typed_parts}
 use Rattle.usb_walk.specs.declared.role.Role.TheVariants as roles
 use Rattle.usb_remarks.specs.declared.standing.Standing.{Standing}
 use Rattle.usb_walk.specs.Places.{place_in}
-use Rattle.usb_remarks.specs.Findings.{can_break, finding_at, is_here}
+use Rattle.usb_remarks.specs.Findings.{IsAtPlace, can_break, finding_at}
 use Rattle.usb_walk.specs.Surroundings.{depth_of}
 use Rattle.usb_walk.specs.Owners.{of_interface, of_set, owner_of, part_in}
 use Rattle.usb_walk.specs.declared.owner.DescriptorOwner.{DescriptorOwner}
@@ -27,8 +26,8 @@ use Rattle.usb_remarks.specs.declared.speed.SetSpeed.{SetSpeed}
 use Rattle.usb_walk.specs.Trees.{TreeDescriptor, endpoint_descriptors, extra_descriptors, setting_descriptors, tree_descriptor}
 use Rattle.usb_remarks.proofs.Spans.{Aim, adding}
 use Rattle.usb_remarks.proofs.rest.Steps.{four_parts, inner_at, length_is}
-use Rattle.usb_remarks.proofs.rest.Seen.{AllHere, Goes, Seen, Step, goes_as, goes_for, here_both, here_when, seen}
-use Rattle.usb_remarks.proofs.rest.Extras.{count_append, extras_go, here_is, seen_goes, taken}
+use Rattle.usb_remarks.proofs.rest.Seen.{Goes, Seen, Step, goes_as, goes_for, of_both, of_when, seen}
+use Rattle.usb_remarks.proofs.rest.Extras.{count_append, extras_go, seen_goes, taken}
 use Rattle.usb_remarks.proofs.rest.Endpoints.{endpoints_go}
 
 -- ---- an interface
@@ -53,10 +52,10 @@ begun_setting t n v = record v {
 abbrev interface_in : Setting → Seen → DescriptorOwner
 interface_in t v = of_interface (of_set v.part v.number) t.number t.alternate
 
-here_three : (here : Found → Bool) (a b c : Bool) (f g h : Found) → here f ≡ true → here g ≡ true → here h ≡ true → AllHere here (when a f ++ when b g ++ when c h)
-here_three here a b c f g h one two three =
-    here_both here (when a f ++ when b g) (when c h)
-    (here_both here (when a f) (when b g) (here_when here a f (λ _. one)) (here_when here b g (λ _. two))) (here_when here c h (λ _. three))
+-- what breaks three rules
+of_three : (P : Broken → Type 0) (a b c : Bool) (f g h : Broken) → P f → P g → P h → AllByRecursion P (when a f ++ when b g ++ when c h)
+of_three P a b c f g h one two three =
+    of_both P (when a f ++ when b g) (when c h) (of_both P (when a f) (when b g) (of_when P a f one) (of_when P b g two)) (of_when P c h three)
 
 -- what stands of its set behind an interface: its extras, its endpoints, and the settings behind it
 abbrev behind_interface : Setting → List Setting → List ℕ → List ℕ
@@ -82,24 +81,24 @@ unfolding noted depth_of owner_of finding_at place_in can_break
 interface_step running all t ts behind s left =
     let d = descriptor_bytes (interface_descriptor t) in
     let j = s.position.settings in
-    let f = λ (cause : Cause). found cause (part_in s.position) s.position.set j 0 in
-    let here = here_is s roles.Interface in
+    let b = λ (cause : Cause). broken_by cause (part_in s.position) s.position.set j 0 in
     let count = causes.EndpointCount t.declared_endpoints (length t.endpoints) in
     let sum = setting_sum t ts in
     record {
       is = inner_at s d s.position.left refl (omega arith) (omega (arith, left, sum)) ∙ interface_role s t;
-      own = here_three (is_here s roles.Interface) (repeats_setting (take j all) t) (lacks_default_setting all (take j all) t) (wrong_endpoint_count t)
-          (f causes.RepeatedSetting) (f causes.NoDefaultSetting) (f count) (here causes.RepeatedSetting refl) (here causes.NoDefaultSetting refl) (here count refl);
+      own = of_three (λ b. IsAtPlace s.position roles.Interface b.finding b.cause)
+          (repeats_setting (take j all) t) (lacks_default_setting all (take j all) t) (wrong_endpoint_count t)
+          (b causes.RepeatedSetting) (b causes.NoDefaultSetting) (b count) (refl, refl) (refl, refl) (refl, refl);
       after = refl;
       deep = refl;
       belongs = refl;
     }
 
-interface_goes : (E : Aim) (running : Option SetSpeed) (all : List Setting) (t : Setting) (ts : List Setting) (v : Seen) (behind : List ℕ) (later : List Found)
+interface_goes : (E : Aim) (running : Option SetSpeed) (all : List Setting) (t : Setting) (ts : List Setting) (v : Seen) (behind : List ℕ) (later : List (List Broken))
     → v.left ≡ length (flat_map setting_bytes (t ∷ ts))
     → Goes (adding E (tree_descriptor roles.Interface 2 (Some (interface_in t v)) (descriptor_bytes (interface_descriptor t)) ∷ [])) running
     (begun_setting t (length (descriptor_bytes (interface_descriptor t))) v) later (behind_interface t ts behind)
-    → Goes E running v (at_interface v.part v.number all v.settings t ++ later) (descriptor_bytes (interface_descriptor t) ++ behind_interface t ts behind)
+    → Goes E running v (at_interface v.part v.number all v.settings t ∷ later) (descriptor_bytes (interface_descriptor t) ++ behind_interface t ts behind)
 interface_goes E running all t ts v behind later left onward =
     let item = interface_descriptor t in
     let d = descriptor_bytes item in
@@ -140,7 +139,7 @@ setting_joined set t ts c =
     append_assoc (setting_descriptors set t) (flat_map (setting_descriptors set) ts) c
     ∙ ap (λ l. one ∷ l) (append_assoc x y (flat_map (setting_descriptors set) ts ++ c))
 
-pub settings_go : (E : Aim) (running : Option SetSpeed) (all : List Setting) (ts : List Setting) (v : Seen) (behind : List ℕ) (later : List Found)
+pub settings_go : (E : Aim) (running : Option SetSpeed) (all : List Setting) (ts : List Setting) (v : Seen) (behind : List ℕ) (later : List (List Broken))
     → list_any is_setting_typed ts ≡ false → v.left ≡ length (flat_map setting_bytes ts)
     → ((w : Seen) → out w ≡ out_at 0 v → Goes (adding E (flat_map (setting_descriptors (of_set v.part v.number)) ts)) running w later behind)
     → Goes E running v (at_each_counted setting_associations (setting_in_order v.part v.number all) v.settings v.associations ts ++ later) (flat_map setting_bytes ts ++ behind)
@@ -161,7 +160,7 @@ settings_go E running all (t ∷ ts) v behind later typed whole onward =
     let owner = interface_in t v in
     let passed = taken (length x) n begun in
     let one = at_interface v.part v.number all j t in
-    let two = at_associations v.part v.number all v.associations t.extras in
+    let two = extras_in_order v.part v.number all v.associations t.extras in
     let three = at_each_counted endpoint_associations (endpoint_in_order v.part v.number all j t) 0 (v.associations + n) t.endpoints in
     let four = λ (k : ℕ). at_each_counted setting_associations (setting_in_order v.part v.number all) (j + 1) k ts in
     let rest = four (v.associations + setting_associations t) in
@@ -171,8 +170,8 @@ settings_go E running all (t ∷ ts) v behind later typed whole onward =
     let said : Aim = adding E (tree_descriptor roles.Interface 2 (Some owner) d ∷ []) in
     let with_extras : Aim = adding said (extra_descriptors 3 owner t.extras) in
     let with_endpoints : Aim = adding with_extras (flat_map (endpoint_descriptors owner) t.endpoints) in
-    goes_as E running v ((((one ++ two) ++ three) ++ rest) ++ later) (one ++ (two ++ (three ++ (rest ++ later))))
-    ((((d ++ x) ++ y) ++ more) ++ behind) (d ++ (x ++ (y ++ (more ++ behind)))) (five_parts one two three rest later) (five_parts d x y more behind)
+    goes_as E running v (one ∷ (((two ++ three) ++ rest) ++ later)) (one ∷ (two ++ (three ++ (rest ++ later))))
+    ((((d ++ x) ++ y) ++ more) ++ behind) (d ++ (x ++ (y ++ (more ++ behind)))) (ap (λ l. one ∷ l) (four_parts two three rest later)) (five_parts d x y more behind)
     (interface_goes E running all t ts v behind (two ++ (three ++ (rest ++ later))) whole
     (extras_go said running all t.extras begun (y ++ (more ++ behind)) (three ++ (rest ++ later)) parts.0 (omega (arith, whole, sum))
     (endpoints_go with_extras running all j t t.endpoints 0 passed (more ++ behind) (rest ++ later) parts.1 (omega arith) (omega (arith, whole, sum))

@@ -16,6 +16,7 @@ use Rattle.usb_walk.specs.Roles.{inner_role, next_role, role_of}
 use Rattle.usb_remarks.specs.declared.speed.SetSpeed.{SetSpeed}
 use Rattle.usb_remarks.specs.Outline.{Entry}
 use Rattle.usb_remarks.specs.Findings.{found_at}
+use Rattle.usb_remarks.specs.OutlineLaws.{HasItsOwnFindings}
 use Rattle.usb_file_data.specs.declared.cause.Found.{Found}
 use Rattle.usb_remarks.proofs.Outlines.{entry_in_tree}
 use Rattle.usb_remarks.proofs.Spans.{Aim, adding}
@@ -51,7 +52,7 @@ abbrev pub behind_one : Option SetSpeed → Standing → Role → List ℕ → L
 behind_one running s role d behind = passed role d (entered role running (d ++ behind) s)
 
 abbrev pub left_one : Option SetSpeed → Standing → List Found → Role → List ℕ → List ℕ → List Found
-left_one running s fs role d behind = drop (length (found_at (entered role running (d ++ behind) s) role fs)) fs
+left_one running s fs role d behind = drop (length (found_at (entered role running (d ++ behind) s) fs)) fs
 
 -- a descriptor of this role where it is shown
 abbrev pub shown_at : Option SetSpeed → Standing → List Found → Role → List ℕ → List ℕ → List ℕ → Entry
@@ -61,26 +62,26 @@ shown_at running s fs role ahead d behind = record { standing = entered role run
 abbrev EndsBehind : Aim → Option SetSpeed → Standing → List Found → Role → List ℕ → List ℕ → List ℕ → Type 0
 EndsBehind E running s fs role ahead d behind =
     Ends (adding E (entry_in_tree (shown_at running s fs role ahead d behind) ∷ [])) running
-    (passed role d (entered role running ahead s)) (drop (length (found_at (entered role running ahead s) role fs)) fs) behind
+    (passed role d (entered role running ahead s)) (drop (length (found_at (entered role running ahead s) fs)) fs) behind
 
 ends_on : (E : Aim) (running : Option SetSpeed) (s : Standing) (fs : List Found) (d behind : List ℕ) (role : Role) → descriptor_length (d ++ behind) ≡ Some (length d)
-    → role_of s.position d ≡ Some role → EndsBehind E running s fs role (d ++ behind) d behind → Ends E running s fs (d ++ behind)
-ends_on E running s fs d behind role e is onward =
-    ends_behind E running s fs (d ++ behind) (role, length d) (next_at s d behind role e is)
+    → role_of s.position d ≡ Some role → HasItsOwnFindings (shown_at running s fs role (d ++ behind) d behind) → EndsBehind E running s fs role (d ++ behind) d behind → Ends E running s fs (d ++ behind)
+ends_on E running s fs d behind role e is own onward =
+    ends_behind E running s fs (d ++ behind) (role, length d) (next_at s d behind role e is) own
     (subst (λ l. EndsBehind E running s fs role (d ++ behind) l (drop (length d) (d ++ behind))) (sym (take-append_seam d behind))
     (subst (λ l. EndsBehind E running s fs role (d ++ behind) d l) (sym (drop-append_seam d behind)) onward))
 
 -- behind a descriptor of this role, depth and owner the walk goes on
 pub goes_on : (E : Aim) (running : Option SetSpeed) (s : Standing) (fs : List Found) (d behind : List ℕ) (role : Role) (depth : ℕ) (owner : Option DescriptorOwner)
     → descriptor_length (d ++ behind) ≡ Some (length d) → role_of s.position d ≡ Some role → depth_of (entered role running (d ++ behind) s).position role ≡ depth
-    → owner_of (entered role running (d ++ behind) s).position role d ≡ owner
+    → owner_of (entered role running (d ++ behind) s).position role d ≡ owner → HasItsOwnFindings (shown_at running s fs role (d ++ behind) d behind)
     → Ends (adding E (tree_descriptor role depth owner d ∷ [])) running (behind_one running s role d behind) (left_one running s fs role d behind) behind
     → Ends E running s fs (d ++ behind)
-goes_on E running s fs d behind role depth owner e is deep belongs onward =
+goes_on E running s fs d behind role depth owner e is deep belongs own onward =
     let begun = entered role running (d ++ behind) s in
     let next = behind_one running s role d behind in
     let gs = left_one running s fs role d behind in
-    ends_on E running s fs d behind role e is
+    ends_on E running s fs d behind role e is own
     (subst (λ n. Ends (adding E (tree_descriptor role n (owner_of begun.position role d) d ∷ [])) running next gs behind) (sym deep)
     (subst (λ o. Ends (adding E (tree_descriptor role depth o d ∷ [])) running next gs behind) (sym belongs) onward))
 

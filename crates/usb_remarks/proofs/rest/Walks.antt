@@ -1,12 +1,11 @@
 -- Walks that come to the end of the bytes, and their text.
-use Rattle.std.proofs.Common.{◌≡◌, ◌≤◌, ℕ, zero, suc, List, [], ◌++◌, flat_map, length, map, drop, Option, Some, is_some, ◌==◌, ◌&&◌, sym, ap, subst, ◌∙◌, arith, append-nil, length-drop, Bool, true, false, cond, ◌∷◌, refl}
+use Rattle.std.proofs.Common.{◌≡◌, ◌≤◌, ℕ, zero, suc, List, [], ◌++◌, flat_map, length, map, drop, Option, Some, is_some, sym, ap, subst, ◌∙◌, arith, append-nil, length-drop, ◌∷◌}
 use Rattle.usb_walk.specs.declared.role.Role.{Role}
 use Rattle.usb_remarks.specs.declared.standing.Standing.{Standing}
 use Rattle.usb_remarks.specs.Outline.{Entry, after_next, end_of, entries, entry_next, findings_of, left_next, outline}
-use Rattle.usb_remarks.specs.OutlineLaws.{EachFindingOnce, HasItsOwnFindings, as_in_tree}
-use Rattle.usb_remarks.specs.Findings.{finding_at, found_at, is_here}
-use Rattle.std.specs.List.{AllByRecursion, take_while}
-use Rattle.std.proofs.lemmas.List.Sums.{take_while-cons}
+use Rattle.usb_remarks.specs.OutlineLaws.{AreNumbered, EachFindingOnce, HasItsOwnFindings, as_in_tree}
+use Rattle.usb_remarks.specs.Findings.{IsAtPlace, finding_at}
+use Rattle.std.specs.List.{AllByRecursion}
 use Rattle.usb_walk.specs.Roles.{next_role}
 use Rattle.usb_remarks.specs.Standings.{start}
 use Rattle.usb_remarks.specs.declared.speed.SetSpeed.{SetSpeed}
@@ -15,13 +14,17 @@ use Rattle.usb_file_data.specs.declared.file.Input.{Input}
 use Rattle.usb_file_data.specs.Findings.{found_in_order}
 use Rattle.usb_remarks.proofs.Outlines.{entry_in_tree, found_same, next_bounds, tree_same}
 use Rattle.usb_file_data.specs.declared.cause.Found.{Found}
-use Rattle.usb_file_data.specs.Numbers.{rule_number, rule_numbered}
+use Rattle.usb_file_data.specs.declared.cause.Cause.{Cause}
+use Rattle.usb_file_data.specs.declared.finding.Finding.{Finding}
+use Rattle.usb_file_data.specs.Numbers.{rule_numbered}
 use Rattle.usb_file_data.specs.Causes.{rule_of}
 use Rattle.usb_file_data.proofs.RuleNumbers.{numbered_rule}
-use Rattle.std.proofs.lemmas.Bool.{eqb-true}
 use Rattle.std.proofs.lemmas.List.{length-map}
 use Rattle.usb_file_data.specs.declared.rule.Rule.{Rule}
 use Rattle.usb_file_data.proofs.Sorting.{HasRule, as_many}
+use Rattle.usb_remarks.proofs.Standings.{start_number}
+use Rattle.usb_remarks.proofs.Telling.{AllAtPlace}
+use Rattle.usb_walk.specs.declared.position.Position.{Position}
 use Rattle.usb_remarks.proofs.Spans.{Aim, Ended, adding, end_and_rest, ended_more, ended_none}
 
 -- a walk from here ends so, if it may take as many steps as there are bytes
@@ -33,14 +36,15 @@ ends_here E running s fs none aimed n enough = ended_none E running n s fs none 
 
 -- a descriptor takes one step, and has two bytes at least
 pub ends_behind : (E : Aim) (running : Option SetSpeed) (s : Standing) (fs : List Found) (ahead : List ℕ) (next : Role × ℕ) → next_role s.position ahead ≡ Some next
+    → HasItsOwnFindings (entry_next running s fs ahead next)
     → Ends (adding E (entry_in_tree (entry_next running s fs ahead next) ∷ [])) running (after_next running s ahead next) (left_next running s fs ahead next) (drop next.1 ahead)
     → Ends E running s fs ahead
-ends_behind E running s fs ahead next e onward zero enough =
+ends_behind E running s fs ahead next e own onward zero enough =
     let bounds = next_bounds s.position ahead next e in
     absurd (omega (arith, bounds.0, bounds.1, enough))
-ends_behind E running s fs ahead next e onward (suc n) enough =
+ends_behind E running s fs ahead next e own onward (suc n) enough =
     let bounds = next_bounds s.position ahead next e in
-    ended_more E running n s fs ahead next e (onward n (omega (arith, length-drop next.1 ahead, bounds.0, bounds.1, enough)))
+    ended_more E running n s fs ahead next e own (onward n (omega (arith, length-drop next.1 ahead, bounds.0, bounds.1, enough)))
 
 -- a walk over all bytes of an input shows its descriptors
 abbrev pub ShowsAll : Input → Aim
@@ -54,39 +58,15 @@ nothing_left running input b leaves =
     let none : length ended.walk.rest ≡ 0 = ap length ended.aimed.0 in
     omega (arith, none, end_and_rest running (found_in_order input) b ended.walk)
 
--- those that stand at the front while a test holds pass it
-passed_by : (p : Found → Bool) (f : Found) (rest : List Found) (b : Bool) → p f ≡ b → AllByRecursion (λ f. p f ≡ true) rest
-    → AllByRecursion (λ f. p f ≡ true) (cond b (f ∷ rest) [])
-passed_by p f rest true e all = (e, all)
-passed_by p f rest false e all = tt
+-- a finding at a place has the number of its rule
+has_rule : (p : Position) (role : Role) (finding : Finding) (cause : Cause) → IsAtPlace p role finding cause → HasRule finding
+unfolding finding_at
+has_rule p role finding cause own =
+    ap (λ (f : Finding). is_some (rule_numbered f.rule)) own.0 ∙ ap (λ (o : Option Rule). is_some o) (numbered_rule (rule_of cause))
 
-all_pass : (p : Found → Bool) (found : List Found) → AllByRecursion (λ f. p f ≡ true) (take_while p found)
-all_pass p [] = tt
-all_pass p (f ∷ found) =
-    subst (λ l. AllByRecursion (λ f. p f ≡ true) l) (sym (take_while-cons p f found)) (passed_by p f (take_while p found) (p f) refl (all_pass p found))
-
-pub tells_own : (d : Entry) → HasItsOwnFindings d
-unfolding found_at
-tells_own d = all_pass (is_here d.standing d.role) d.found
-
-all_own : (shown : List Entry) → AllByRecursion HasItsOwnFindings shown
-all_own [] = tt
-all_own (d ∷ ds) = (tells_own d, all_own ds)
-
-first_true : (a b c : Bool) → ((a && b) && c) ≡ true → a ≡ true
-first_true true b c h = refl
-first_true false b c h = h
-
-has_rule : (s : Standing) (role : Role) (f : Found) → is_here s role f ≡ true → HasRule f.finding
-unfolding is_here finding_at
-has_rule s role f h =
-    let rule = rule_number (rule_of f.cause) in
-    let same = eqb-true f.finding.rule rule (first_true (f.finding.rule == rule) _ _ h) in
-    ap (λ n. is_some (rule_numbered n)) same ∙ ap (λ (o : Option Rule). is_some o) (numbered_rule (rule_of f.cause))
-
-have_rules : (s : Standing) (role : Role) (found : List Found) → AllByRecursion (λ f. is_here s role f ≡ true) found → AllByRecursion (λ f. HasRule f.finding) found
-have_rules s role [] own = tt
-have_rules s role (f ∷ found) own = (has_rule s role f own.0, have_rules s role found own.1)
+have_rules : (p : Position) (role : Role) (found : List Found) → AllAtPlace p role found → AllByRecursion (λ f. HasRule f.finding) found
+have_rules p role [] own = tt
+have_rules p role (f ∷ found) own = (has_rule p role f.finding f.cause own.0, have_rules p role found own.1)
 
 both_all : (P : Found → Type 0) (xs ys : List Found) → AllByRecursion P xs → AllByRecursion P ys → AllByRecursion P (xs ++ ys)
 both_all P [] ys one two = two
@@ -96,7 +76,7 @@ all_have_rules : (shown : List Entry) → AllByRecursion HasItsOwnFindings shown
 all_have_rules [] own = tt
 all_have_rules (d ∷ ds) own =
     both_all (λ f. HasRule f.finding) (findings_of d) (flat_map findings_of ds)
-    (have_rules d.standing d.role (findings_of d) own.0) (all_have_rules ds own.1)
+    (have_rules d.standing.position d.role (findings_of d) own.0) (all_have_rules ds own.1)
 
 without_causes : (found : List Found) → AllByRecursion (λ f. HasRule f.finding) found → AllByRecursion HasRule (map (λ f. f.finding) found)
 without_causes [] ruled = tt
@@ -116,12 +96,13 @@ all_tells running input b leaves =
     let told : flat_map findings_of es ≡ found =
     ap (λ l. flat_map findings_of l) w.is ∙ sym (append-nil (flat_map findings_of w.shown))
     ∙ ap (λ l. flat_map findings_of w.shown ++ l) (sym ended.all_reported) ∙ w.tells in
-    let own = all_own es in
+    let own : AllByRecursion HasItsOwnFindings es = subst (λ l. AllByRecursion HasItsOwnFindings l) (sym w.is) ended.own in
     let ruled = without_causes found (subst (λ l. AllByRecursion (λ f. HasRule f.finding) l) told (all_have_rules es own)) in
     record {
       tells = record {
         reported = found_same running es ∙ told;
         own = own;
+        numbered = subst (λ l. AreNumbered 0 l) (sym w.is) (subst (λ k. AreNumbered k w.shown) start_number w.numbered);
         count = sym (length-map found (λ f. f.finding)) ∙ sym (as_many (map (λ f. f.finding) found) ruled);
       };
       shows = tree_same running es ∙ ap (λ l. map entry_in_tree l) w.is ∙ ended.aimed.1;

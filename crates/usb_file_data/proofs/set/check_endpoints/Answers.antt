@@ -6,9 +6,9 @@ use Rattle.usb_file_data.specs.Rules.{address_of}
 use Rattle.usb_file_data.specs.Findings.{endpoint_associations}
 use Rattle.usb_file_data.specs.inside.Addresses.{owned, owned_at, kept as claims}
 use Rattle.usb_file_data.specs.inside.Interfaces.{kept as entries}
-use Rattle.usb_file_data.specs.inside.Reports.{reported}
+use Rattle.usb_file_data.specs.inside.Reports.{passed, reported, walked}
 use Rattle.usb_file_data.specs.inside.Walk.{endpoint_at, in_endpoint, in_extras, place}
-use Rattle.usb_file_data.proofs.Reporting.{counted_last, counted_next, reported_again}
+use Rattle.usb_file_data.proofs.Reporting.{counted_last, counted_next, walked_on}
 use Rattle.usb_file_data.proofs.Walking.{ends_next, owned_more, owned_none, owned_same, stands_more}
 use Rattle.usb_file_data.proofs.set.check_endpoints.Goals as goal
 
@@ -45,8 +45,8 @@ loop-endpoint-preserved c =
     ∙ ap (λ f. reported old (in_endpoint p f (λ b. now.elsewhere b now.number) e)) inv.here
     ∙ ap (λ f. reported old (in_endpoint p here f e)) elsewhere in
     let told = c.in_ok-next.ensures.reported
-    ∙ ap (λ r. reported r (in_extras c.args.place.now stands n e.extras)) at
-    ∙ reported_again old (in_endpoint p here (λ b. other b s.number) e) (in_extras c.args.place.now stands n e.extras) in
+    ∙ ap (λ r. walked r (in_extras c.args.place.now stands n e.extras)) (c.in_ok-pass.ensures ∙ ap (passed 1) at)
+    ∙ walked_on old (in_endpoint p here (λ b. other b s.number) e) (in_extras c.args.place.now stands n e.extras) in
     let next : c.in_ok-next.next ≡ n + endpoint_associations e = c.in_ok-next.ensures.next in
     record {
       found = counted_next endpoint_associations (endpoint_at c.args.place.now stands other s) s.endpoints k n _ e old _ _ below is inv.found told next;

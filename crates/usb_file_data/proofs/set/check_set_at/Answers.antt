@@ -1,11 +1,11 @@
-use Rattle.std.proofs.Common.{◌≡◌, ◌<◌, ◌+◌, ◌++◌, ◌∙◌, false, length, map, get_or, take, ap, sym, subst, arith}
+use Rattle.std.proofs.Common.{◌≡◌, ◌<◌, ◌+◌, ◌∷◌, ◌++◌, ◌∙◌, false, length, map, get_or, take, ap, sym, subst, arith}
 use Rattle.usb_fields.specs.Marks.{marked}
 use Rattle.usb_file_data.specs.Places.{at_each_counted, is_among}
 use Rattle.usb_file_data.specs.Rules.{number_of}
 use Rattle.usb_file_data.specs.Findings.{association_count, endpoint_associations, setting_associations}
 use Rattle.usb_file_data.specs.inside.Addresses.{owned, kept as claims}
 use Rattle.usb_file_data.specs.inside.Interfaces.{NoneBreaksV3OrV4, AreEntered, entered, pair_too, kept as entries, compared_with, has_alternate}
-use Rattle.usb_file_data.specs.inside.Reports.{reported}
+use Rattle.usb_file_data.specs.inside.Reports.{walked}
 use Rattle.usb_file_data.specs.inside.Walk.{endpoint_at, in_extras, in_setting, place, setting_at}
 use Rattle.usb_file_data.proofs.Reporting.{counted_last, counted_next}
 use Rattle.usb_file_data.proofs.Walking.{interface_seen, shared_more, stands_more, alternate_more}
@@ -37,11 +37,11 @@ loop-setting-preserved c =
     let extras = in_extras p stands n s.extras in
     let ends = at_each_counted endpoint_associations (endpoint_at p stands other s) 0 (n + association_count s.extras) s.endpoints in
     let told = done.reported
-    ∙ ap (λ q. reported old (in_setting q whole.numbers whole.alternates compared.numbers compared.alternates other n s)) c.at_setting.ensures
-    ∙ ap (λ f. reported old (in_setting p f whole.alternates compared.numbers compared.alternates other n s)) all.numbers
-    ∙ ap (λ f. reported old (in_setting p stands f compared.numbers compared.alternates other n s)) all.alternates
-    ∙ ap (λ xs. reported old (xs ++ extras ++ ends)) (interface_seen may_break p settings j s now below is inv.numbers inv.alternates keep)
-    ∙ ap (λ f. reported old (in_setting p stands (has_alternate settings) before (has_alternate (take j settings)) f n s)) inv.elsewhere in
+    ∙ ap (λ q. walked old (in_setting q whole.numbers whole.alternates compared.numbers compared.alternates other n s)) c.at_setting.ensures
+    ∙ ap (λ f. walked old (in_setting p f whole.alternates compared.numbers compared.alternates other n s)) all.numbers
+    ∙ ap (λ f. walked old (in_setting p stands f compared.numbers compared.alternates other n s)) all.alternates
+    ∙ ap (λ xs. walked old (xs ∷ extras ++ ends)) (interface_seen may_break p settings j s now below is inv.numbers inv.alternates keep)
+    ∙ ap (λ f. walked old (in_setting p stands (has_alternate settings) before (has_alternate (take j settings)) f n s)) inv.elsewhere in
     record {
       found = counted_next setting_associations (setting_at c.args.place settings) settings j n _ s old _ _ below is inv.found told done.next;
       numbers = λ is_odd. ap (λ t. t.numbers) (done.interfaces is_odd ∙ ap (λ q. entered q.setting s now) c.at_setting.ensures) ∙ ap (λ f. marked f s.number) (inv.numbers is_odd) ∙ sym (stands_more number_of settings j s below is);

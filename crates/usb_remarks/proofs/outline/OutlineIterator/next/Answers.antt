@@ -4,7 +4,8 @@ use Rattle.usb_walk.specs.declared.position.Position.{Position}
 use Rattle.usb_walk.specs.declared.role.Role.{Role}
 use Rattle.usb_remarks.specs.declared.standing.Standing.{Standing}
 use Rattle.usb_remarks.specs.Outline.{Described, after_next}
-use Rattle.usb_walk.specs.Positions.{Counted, position_at}
+use Rattle.usb_remarks.specs.Standings.{AreCounted}
+use Rattle.usb_walk.specs.Positions.{position_at}
 use Rattle.usb_remarks.proofs.Coming.{awaits_end}
 use Rattle.usb_remarks.proofs.Outlines.{left_same, outline_next, outline_nil, outline_none, stays_counted, stays_room}
 use Rattle.usb_walk.proofs.Positions.{after_left}
@@ -32,7 +33,7 @@ invariant_of-self-2 c =
     let taken : length (take c.in-Some.count b) ≡ c.in-Some.count = length-take-le c.in-Some.count b c.in-Some.ensures.most in
     let still : c.step_over.new.self.position.left ≡ entered.left - c.in-Some.count =
     ap (λ (s : Standing). s.position.left) c.step_over.ensures.standing ∙ after_left c.in-Some.role (take c.in-Some.count b) entered ∙ ap (λ k. entered.left - k) taken in (
-      subst (λ (s : Standing). Counted s.position) (sym c.step_over.ensures.standing) (stays_counted c.self.inside.running c.self.inside.standing b next c.self.invariant.0 c.in-Some.ensures.least c.in-Some.ensures.most),
+      subst (λ (s : Standing). AreCounted s) (sym c.step_over.ensures.standing) (stays_counted c.self.inside.running c.self.inside.standing b next c.self.invariant.0 c.in-Some.ensures.least c.in-Some.ensures.most),
       omega (arith, at, left, stays_room c.self.inside.running c.self.inside.standing b next c.in-Some.ensures.most c.self.invariant.1),
       rw (still, c.split_at.ensures.back) (c.pass.ensures c.self.inside.standing.position (sym c.next_role.ensures.next ∙ c.in-Some.is) c.self.invariant.2),
     )

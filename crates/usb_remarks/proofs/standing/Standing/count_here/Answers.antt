@@ -1,10 +1,11 @@
-use Rattle.std.proofs.Common.{arith, sym, ◌∙◌}
+use Rattle.std.proofs.Common.{arith}
+use Rattle.std.proofs.lemmas.Bool.{eq-eqb}
 use Rattle.usb_remarks.proofs.Telling.{one_on}
 use Rattle.usb_remarks.proofs.standing.Standing.count_here.Goals as goal
 
 pub loop-one-preserved : goal.loop-one-preserved
 loop-one-preserved c =
-    let more = one_on c.args.self.now c.args.role c.args.found.now c.loop-one.one-index _ c.loop-one-test.true (sym c.is_here.ensures ∙ c.if-not-is_here.false) in
+    let more = one_on c.args.self.now c.args.found.now c.loop-one.one-index _ c.loop-one-test.true (eq-eqb _ _ c.if-one-self.false) in
     record {
       count = omega (arith, more, c.loop-one.invariant.count);
       before = omega (arith, c.loop-one.invariant.before);

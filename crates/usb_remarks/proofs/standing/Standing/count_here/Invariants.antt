@@ -6,7 +6,7 @@ use Rattle.usb_remarks.proofs.standing.Standing.count_here.Given as goal
 -- what was counted, and what of the rest is to be counted, are all of it
 abbrev pub invariant-loop-one : goal.invariant-loop-one
 invariant-loop-one l =
-    let here = take_while (is_here l.self l.role) in
+    let here = take_while (is_here l.self) in
     record {
       count : l.count + length (here (drop l.one-index l.found)) ≡ length (here l.found);
       before : l.count ≡ l.one-index;

@@ -1,14 +1,13 @@
 use Rattle.std.proofs.Common.{◌≡◌, ◌∙◌, ap, arith, subst, sym}
 use Rattle.usb_remarks.specs.declared.standing.Standing.{Standing}
-use Rattle.usb_remarks.specs.SetStart.{entered}
-use Rattle.usb_walk.specs.Positions.{Counted}
-use Rattle.usb_walk.proofs.Positions.{counted_at, same_at}
+use Rattle.usb_remarks.specs.Standings.{AreCounted}
+use Rattle.usb_walk.proofs.Positions.{same_at}
+use Rattle.usb_remarks.proofs.Standings.{counted_entered}
 use Rattle.usb_remarks.proofs.standing.Standing.step_over.Goals as goal
 
 pub pass-requires-clause-counted : goal.pass-requires-clause-counted
 pass-requires-clause-counted c =
-    let at : Counted (entered c.args.role c.args.running c.args.ahead.now c.args.self.now).position = counted_at c.args.role c.args.ahead.now c.args.self.now.position c.requires.counted in
-    subst (λ (s : Standing). Counted s.position) (sym c.enter.ensures) at
+    subst (λ (s : Standing). AreCounted s) (sym c.enter.ensures) (counted_entered c.args.role c.args.running c.args.ahead.now c.args.self.now c.requires.counted)
 
 pub pass-requires-clause-room : goal.pass-requires-clause-room
 pass-requires-clause-room c =
