@@ -1,6 +1,7 @@
 //! The table of standard requests: a function for each row (USB 2.0, 9.4).
 //!
-//! The functions are inlined, so that a response, which is of several shapes, needs no room in memory.
+//! On x86-64 the functions are inlined, so that a decision needs no room in memory; where flash is small, only those for the commonest
+//! reads are.
 ghost use Rattle.std.specs.Prelude.{◌≡◌, ◌∷◌, [], find, IfSome, if◌then◌else◌};
 ghost use Rattle.usb_device.specs.Step.{is_set_address};
 
