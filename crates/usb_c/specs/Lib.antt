@@ -16,6 +16,7 @@ pub mod Remarks
 pub mod Strings
 pub mod Texts
 pub mod Words
+pub mod Transactions
 pub mod Transfers
 pub mod Writes
 pub mod WalkedEndpoints

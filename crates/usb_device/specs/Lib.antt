@@ -13,5 +13,5 @@ pub mod Descriptors
 pub mod Images
 pub mod Offers
 pub mod FileImages
-pub mod Transactions
+pub mod Replies
 pub mod inside
