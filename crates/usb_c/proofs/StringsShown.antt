@@ -14,11 +14,12 @@ use Rattle.usb_file_data.specs.Inputs.{IsInput}
 use Rattle.usb_file_data.proofs.Counts.{all_strings}
 use Rattle.usb_explain.specs.declared.manner.Manner.{Manner}
 use Rattle.usb_explain.specs.Subjects.{place_among, place_by, subject_of}
-use Rattle.usb_c.specs.declared.string_place.StringPlace.{StringPlace}
-use Rattle.usb_c.specs.Descriptors.{no_string}
-use Rattle.usb_c.specs.Strings.{WalkIsAsExplained, indexed, indexed_strings, shown_place, string_places, strings_of, walked_place}
-use Rattle.usb_c.proofs.InputStrings.{walk_has_strings}
-use Rattle.usb_c.proofs.StringTexts.{count_places, places_are, zip_none}
+use Rattle.usb_walk.specs.declared.string_place.StringPlace.{StringPlace}
+use Rattle.usb_walk.specs.NamedStrings.{no_string}
+use Rattle.usb_walk.specs.WalkedStrings.{indexed, indexed_strings, string_places, strings_of}
+use Rattle.usb_remarks.proofs.WalkedOutlines.{walk_has_strings}
+use Rattle.usb_c.specs.Strings.{WalkIsAsExplained, shown_place, walked_place}
+use Rattle.usb_walk.proofs.StringTexts.{count_places, places_are, zip_none}
 
 -- what is shown of the string of a number among those of a file
 abbrev shown_among : List ℕ → Strings → ℕ → Option (ℕ × ℕ)

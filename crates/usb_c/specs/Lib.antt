@@ -4,7 +4,6 @@ pub mod Captures
 pub mod Conformance
 pub mod Decoders
 pub mod DescriptorFields
-pub mod Descriptors
 pub mod Devices
 pub mod Enumerations
 pub mod Explaining
@@ -18,6 +17,4 @@ pub mod Texts
 pub mod Words
 pub mod Transfers
 pub mod Writes
-pub mod WalkedEndpoints
-pub mod WalkedTrees
 pub mod inside
