@@ -15,4 +15,3 @@ mod Reasons
 mod Taking
 mod Unread
 mod Worded
-mod StringsShown

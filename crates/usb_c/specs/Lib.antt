@@ -12,7 +12,6 @@ pub mod FieldLists
 pub mod FromText
 pub mod Hosts
 pub mod Remarks
-pub mod Strings
 pub mod Texts
 pub mod Words
 pub mod Transfers

@@ -1,16 +1,10 @@
-//! What holds of descriptors and troubles as numbers. The functions of these laws do nothing: their contracts are the laws.
+//! What holds of fields and troubles as numbers. The functions of these laws do nothing: their contracts are the laws.
 ghost use Rattle.usb_c.specs.FieldLists.{AllByNumber};
-ghost use Rattle.usb_c.specs.Strings.{WalkIsAsExplained};
 ghost use Rattle.usb_c.specs.Words.{TroublesAreTold};
 
 /// By their numbers the fields that `nzg_fields` gives at once are those of `nzg_field`, and there are as many.
 pub fn all_fields_are_those_by_number()
     ensures { AllByNumber }
-{}
-
-/// By their numbers, the strings of the walk over an input have the indices and the languages that its explanation shows.
-pub fn strings_are_placed_as_explained()
-    ensures { WalkIsAsExplained }
 {}
 
 /// The numbers of a trouble that `nzg_host_outcome` gives are those of that trouble alone, so `nzg_trouble_text` says it.

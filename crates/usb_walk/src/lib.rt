@@ -29,8 +29,7 @@ mod whole_descriptor;
 pub use owner::{DescriptorOwner, InterfaceSetting};
 pub use place::{Place, outside, part_number};
 pub use position::Position;
-pub use role::{
-    Role, is_association, is_endpoint, is_interface, role_in, role_number, typed_role,
-};
+pub use role::{Role, is_association, is_endpoint, is_interface, role_in, role_number, typed_role};
+pub use string_place::StringPlace;
 pub use walked_descriptor::WalkedDescriptor;
 pub use whole_descriptor::{descriptor_length, first_descriptor};

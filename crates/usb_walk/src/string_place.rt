@@ -5,11 +5,13 @@ ghost use Rattle.usb_walk.specs.NamedStrings.{indices_in, language_in, list_at, 
 
 use usb_fields::{after, byte_at, prefix, word_at};
 
-/// The index and the language of a string.
-#[derive(Clone, Copy)]
-pub(crate) struct StringPlace {
-    pub(crate) index: u8,
-    pub(crate) language: u16,
+/// The place of a string among those of a file.
+#[derive(Clone, Copy, Debug, PartialEq, Eq, Hash)]
+pub struct StringPlace {
+    /// The index that names it.
+    pub index: u8,
+    /// Its language.
+    pub language: u16,
 }
 
 pub(crate) const NO_STRING: StringPlace = StringPlace {

@@ -1,4 +1,4 @@
-use Rattle.std.proofs.Common.{◌≡◌, ◌≤◌, ◌∙◌, List, ℕ, ap, arith, length, slice_index, sym}
+use Rattle.std.proofs.Common.{◌≡◌, ◌∙◌, List, ℕ, ap, arith, length, slice_index, sym}
 use Rattle.usb_walk.specs.NamedStrings.{indices_in}
 use Rattle.usb_walk.proofs.Named.{all_named, marked_before, named_is, none_behind}
 use Rattle.usb_walk.proofs.string_place.named_at.Goals as goal

@@ -1,8 +1,8 @@
-use Rattle.std.proofs.Common.{◌≡◌, ℕ, ◌∙◌, ap, ap₂}
+use Rattle.std.proofs.Common.{ℕ, ◌∙◌, ap, ap₂}
 use Rattle.usb_walk.specs.declared.position.Position.{Position}
 use Rattle.usb_walk.specs.Surroundings.{depth_of}
 use Rattle.usb_walk.proofs.Positions.{depth_after}
-use Rattle.usb_walk.proofs.walk.WalkedDescriptor.pass.Goals as goal
+use Rattle.usb_walk.proofs.walked_descriptor.WalkedDescriptor.pass.Goals as goal
 
 pub returns : goal.returns
 returns c =

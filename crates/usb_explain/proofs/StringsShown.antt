@@ -2,7 +2,6 @@
 use Rattle.std.proofs.Common.{◌≡◌, ◌≤◌, ◌<◌, ℕ, zero, suc, ◌+◌, ◌*◌, ◌/◌, ◌%◌, List, [], ◌∷◌, false, get_or, length, map, drop, Option, Some, None, Ok, refl, sym, ap, ap₂, subst, ◌∙◌, arith}
 use Rattle.std.specs.Prelude.{zip, slice_get, option_and_then}
 use Rattle.std.specs.List.{range_with_len}
-use Rattle.std.specs.Option.{option_map}
 use Rattle.std.proofs.Math.Seq.{drop-cons}
 use Rattle.std.proofs.lemmas.Nat.{div_below, mod_below}
 use Rattle.std.proofs.lemmas.Option.{slice_get-get_or}
@@ -13,17 +12,17 @@ use Rattle.usb_file_data.specs.File.{are_wrong_strings, named_indices}
 use Rattle.usb_file_data.specs.Inputs.{IsInput}
 use Rattle.usb_file_data.proofs.Counts.{all_strings}
 use Rattle.usb_explain.specs.declared.manner.Manner.{Manner}
-use Rattle.usb_explain.specs.Subjects.{place_among, place_by, subject_of}
+use Rattle.usb_explain.specs.Subjects.{place_among, place_by, place_of, subject_of}
 use Rattle.usb_walk.specs.declared.string_place.StringPlace.{StringPlace}
 use Rattle.usb_walk.specs.NamedStrings.{no_string}
 use Rattle.usb_walk.specs.WalkedStrings.{indexed, indexed_strings, string_places, strings_of}
 use Rattle.usb_remarks.proofs.WalkedOutlines.{walk_has_strings}
-use Rattle.usb_c.specs.Strings.{WalkIsAsExplained, shown_place, walked_place}
+use Rattle.usb_explain.specs.WalkedStrings.{WalkIsAsExplained, walked_place}
 use Rattle.usb_walk.proofs.StringTexts.{count_places, places_are, zip_none}
 
--- what is shown of the string of a number among those of a file
-abbrev shown_among : List ℕ → Strings → ℕ → Option (ℕ × ℕ)
-shown_among indices s k = option_map (λ place. (place.index, place.language)) (place_among (length indices) indices s k)
+-- the place that is shown of the string of a number among those of a file
+abbrev shown_among : List ℕ → Strings → ℕ → Option StringPlace
+shown_among indices s k = place_among (length indices) indices s k
 
 among_some : (n : ℕ) (indices : List ℕ) (s : Strings) (k : ℕ) → 0 < n → place_among n indices s k ≡ place_by (slice_get s.languages (k / n)) (slice_get indices (k % n))
 among_some zero indices s k some = absurd (omega (arith, some))
@@ -34,12 +33,11 @@ one_shown : (indices : List ℕ) (s : Strings) (k : ℕ) (t : List ℕ) → 0 < 
 one_shown indices s k t some below =
     let n = length indices in
     ap (λ (place : StringPlace). walked_place (indexed (place, t))) (places_are indices s.languages k some below)
-    ∙ sym (ap (λ place. option_map (λ place. (place.index, place.language)) place)
-    (among_some n indices s k some
-    ∙ ap₂ place_by (slice_get-get_or s.languages (k / n) 0 (div_below k n (length s.languages) some below)) (slice_get-get_or indices (k % n) 0 (mod_below k n some))))
+    ∙ sym (among_some n indices s k some
+    ∙ ap₂ place_by (slice_get-get_or s.languages (k / n) 0 (div_below k n (length s.languages) some below)) (slice_get-get_or indices (k % n) 0 (mod_below k n some)))
 
 -- these strings, from this number on, are shown so
-abbrev ShownFrom : (ℕ → Option (ℕ × ℕ)) → ℕ → List (StringPlace × List ℕ) → Type 0
+abbrev ShownFrom : (ℕ → Option StringPlace) → ℕ → List (StringPlace × List ℕ) → Type 0
 ShownFrom shown k l = map walked_place (map indexed l) ≡ map shown (range_with_len k (length (map indexed l)))
 
 texts_shown : (indices : List ℕ) (s : Strings) (k : ℕ) (texts : List (List ℕ)) → 0 < length indices → k + length texts ≤ length s.languages * length indices
@@ -57,19 +55,19 @@ texts_shown indices s k (t ∷ ts) some room =
 
 file_shown : (indices : List ℕ) (o : Option Strings) → are_wrong_strings (length indices) o ≡ false
     → map walked_place (indexed_strings indices o)
-    ≡ map (λ number. option_map (λ place. (place.index, place.language)) (option_and_then (λ strings. place_among (length indices) indices strings number) o)) (range_with_len 0 (length (indexed_strings indices o)))
+    ≡ map (λ number. option_and_then (λ strings. place_among (length indices) indices strings number) o) (range_with_len 0 (length (indexed_strings indices o)))
 file_shown indices None right = refl
 file_shown indices (Some s) right =
     let all = all_strings (length indices) s right in
     texts_shown indices s 0 s.texts all.follow.named (omega (arith, all.whole))
 
 input_shown : (manner : Manner) (input : Input) (b : List ℕ) → IsInput input b
-    → map walked_place (strings_of input) ≡ map (shown_place (subject_of manner (Ok input))) (range_with_len 0 (length (strings_of input)))
+    → map walked_place (strings_of input) ≡ map (place_of (subject_of manner (Ok input))) (range_with_len 0 (length (strings_of input)))
 input_shown manner (inputs.Set set) b is = refl
 input_shown manner (inputs.File f) b is = file_shown (named_indices f) f.strings is.texts
 input_shown manner (inputs.Dump f) b is = refl
 
 pub walk_is_as_explained : WalkIsAsExplained
 walk_is_as_explained manner input b is =
-    subst (λ strings. map walked_place strings ≡ map (shown_place (subject_of manner (Ok input))) (range_with_len 0 (length strings)))
+    subst (λ strings. map walked_place strings ≡ map (place_of (subject_of manner (Ok input))) (range_with_len 0 (length strings)))
     (sym (walk_has_strings input b is)) (input_shown manner input b is)
