@@ -34,7 +34,12 @@ fn put_fields(bytes: &[u8], descriptor: &WalkedDescriptor, out: &mut [NzgField])
 }
 
 #[tactic(auto, using(crate::proofs::FieldLists::as_many))]
-fn put_fields_of(descriptor: &WalkedDescriptor, role: Role, d: &[u8], out: &mut [NzgField]) -> Verdict
+fn put_fields_of(
+    descriptor: &WalkedDescriptor,
+    role: Role,
+    d: &[u8],
+    out: &mut [NzgField],
+) -> Verdict
     requires least { 2 ≤ length d.now }
     requires few { length d.now < 256 }
     requires room { descriptor.now.place + length d.now < 2 ^ 64 }
