@@ -3,7 +3,7 @@ use crate::programs::MOUSE;
 use anyhow::Result;
 use nozzlegorse::files::{
     ClassCodes, DescriptorOwner, Fields, Form, InterfaceSetting, Outline, Role, SetSpeed,
-    read_input,
+    WalkedDescriptor, read_input,
 };
 use nozzlegorse::rules::{Cause, Part, found_in_order};
 
@@ -89,6 +89,35 @@ fn each_descriptor_has_its_owner(rt: HostRuntime) {
         );
     }
     assert!(rt; outline.next().is_none());
+}
+
+/// As plain numbers each has its place, its role, that of what an extra belongs to, and its depth.
+#[test]
+fn a_walk_has_each_descriptor_as_numbers(rt: HostRuntime) {
+    let mut descriptor = WalkedDescriptor::start();
+    for wanted in [
+        (0, 2, 0, 1),
+        (9, 5, 2, 2),
+        (17, 6, 2, 2),
+        (20, 3, 0, 2),
+        (29, 6, 3, 3),
+        (32, 4, 0, 3),
+        (39, 6, 4, 4),
+        (42, 3, 0, 2),
+        (51, 6, 3, 3),
+    ] {
+        assert!(rt; descriptor.next_in(&FUNCTION));
+        assert_eq!(rt;
+            (
+                descriptor.place,
+                descriptor.role,
+                descriptor.owner,
+                descriptor.depth
+            ),
+            wanted
+        );
+    }
+    assert!(rt; !descriptor.next_in(&FUNCTION));
 }
 
 /// What is outside of sets is nobody's. The other part has sets of its own.

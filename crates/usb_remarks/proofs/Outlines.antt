@@ -1,46 +1,21 @@
 -- An outline, descriptor by descriptor.
-use Rattle.std.proofs.Common.{◌≡◌, ◌≤◌, ◌<◌, ℕ, zero, suc, ◌+◌, ◌-◌, List, [], ◌∷◌, ◌++◌, flat_map, length, map, take, drop, Option, Some, None, unwrap_or, option_and_then, refl, sym, ap, ◌∙◌, arith, length-drop}
+use Rattle.std.proofs.Common.{◌≡◌, ◌≤◌, ◌<◌, ℕ, zero, suc, ◌+◌, ◌-◌, List, [], ◌∷◌, ◌++◌, flat_map, length, map, take, drop, Option, Some, None, unwrap_or, refl, sym, ap, ◌∙◌, arith, length-drop}
 use Rattle.std.specs.Option.{option_map}
-use Rattle.std.proofs.lemmas.Option.{none-some}
 use Rattle.std.proofs.lemmas.List.{length-take-le}
 use Rattle.usb_file_data.specs.declared.cause.Found.{Found}
 use Rattle.usb_walk.specs.declared.role.Role.{Role}
 use Rattle.usb_remarks.specs.declared.speed.SetSpeed.{SetSpeed}
-use Rattle.usb_walk.specs.declared.position.Position.{Position}
 use Rattle.usb_remarks.specs.declared.standing.Standing.{Standing}
 use Rattle.usb_walk.specs.Surroundings.{depth_of}
 use Rattle.usb_remarks.specs.OutlineLaws.{Span, as_in_tree, span_of}
 use Rattle.usb_remarks.specs.Outline.{Entry, after_next, bytes_of, describe, entries_from, entry_next, findings_of, first_entries, here, left_next, outline_from}
 use Rattle.usb_walk.specs.Owners.{owner_of}
-use Rattle.usb_walk.specs.Roles.{next_role, role_of}
-use Rattle.usb_walk.specs.Trees.{TreeDescriptor, descriptor_length, tree_descriptor}
+use Rattle.usb_walk.specs.Roles.{next_role}
+use Rattle.usb_walk.specs.Trees.{TreeDescriptor, tree_descriptor}
 use Rattle.usb_remarks.specs.Standings.{AreCounted}
 use Rattle.usb_remarks.proofs.Standings.{counted_entered}
-use Rattle.usb_walk.proofs.Cuts.{length_within}
+use Rattle.usb_walk.proofs.NextRoles.{next_bounds}
 use Rattle.usb_walk.proofs.Positions.{counted_noted, noted_at, same_at}
-
--- ---- the length of a descriptor
-
-some_length : (r : Role) (n : ℕ) (next : Role × ℕ) → Some (r, n) ≡ Some next → n ≡ next.1
-some_length r n next e = ap (λ (o : Option (Role × ℕ)). unwrap_or (option_map (λ next. next.1) o) n) e
-
-role_length : (role : Option Role) (n : ℕ) (next : Role × ℕ) → option_map (λ role. (role, n)) role ≡ Some next → n ≡ next.1
-role_length None n next e = absurd (none-some next e)
-role_length (Some r) n next e = some_length r n next e
-
-next_length : (p : Position) (ahead : List ℕ) (len : Option ℕ) (next : Role × ℕ)
-    → option_and_then (λ n. option_map (λ role. (role, n)) (role_of p (take n ahead))) len ≡ Some next → len ≡ Some next.1
-next_length p ahead None next e = absurd (none-some next e)
-next_length p ahead (Some n) next e = ap Some (role_length (role_of p (take n ahead)) n next e)
-
--- it is what its first byte says
-pub next_says : (p : Position) (ahead : List ℕ) (next : Role × ℕ) → next_role p ahead ≡ Some next → descriptor_length ahead ≡ Some next.1
-unfolding next_role
-next_says p ahead next e = next_length p ahead (descriptor_length ahead) next e
-
--- a descriptor has two bytes at least, and no more than there are
-pub next_bounds : (p : Position) (ahead : List ℕ) (next : Role × ℕ) → next_role p ahead ≡ Some next → (2 ≤ next.1) × (next.1 ≤ length ahead)
-next_bounds p ahead next e = length_within ahead next.1 (next_says p ahead next e)
 
 -- ---- one step
 

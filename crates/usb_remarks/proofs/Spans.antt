@@ -1,13 +1,10 @@
 -- The descriptors of a walk, and where they stand.
-use Rattle.std.proofs.Common.{◌≡◌, ◌≤◌, ℕ, zero, suc, ◌+◌, List, [], ◌∷◌, ◌++◌, ◌||◌, if◌then◌else◌, nat_lt, flat_map, length, map, slice_index, take, drop, Option, Some, None, refl, sym, ap, subst, ◌∙◌, arith, append_assoc, length-append}
+use Rattle.std.proofs.Common.{◌≡◌, ◌≤◌, ℕ, zero, suc, ◌+◌, List, [], ◌∷◌, ◌++◌, flat_map, length, map, take, drop, Option, Some, None, refl, sym, ap, subst, ◌∙◌, arith, append_assoc, length-append}
 use Rattle.std.specs.List.{AllByRecursion}
-use Rattle.std.proofs.lemmas.Bool.Decides.{nat_tests}
-use Rattle.std.proofs.lemmas.Option.{none-some}
 use Rattle.std.proofs.lemmas.List.{length-take-le, take-append-drop}
 use Rattle.std.proofs.Math.Seq.{drop-append_seam}
-use Rattle.usb_walk.specs.Trees.{descriptor_length, TreeDescriptor}
+use Rattle.usb_walk.specs.Trees.{TreeDescriptor}
 use Rattle.usb_walk.specs.declared.role.Role.{Role}
-use Rattle.usb_walk.specs.declared.position.Position.{Position}
 use Rattle.usb_remarks.specs.declared.standing.Standing.{Standing}
 use Rattle.usb_remarks.specs.Outline.{Entry, after_next, bytes_of, end_of, entries, entry_next, findings_of, first_entries, here, left_next, outline}
 use Rattle.usb_remarks.specs.Findings.{found_at}
@@ -16,28 +13,11 @@ use Rattle.usb_walk.specs.Roles.{next_role}
 use Rattle.usb_remarks.specs.Standings.{start}
 use Rattle.usb_remarks.specs.declared.speed.SetSpeed.{SetSpeed}
 use Rattle.usb_file_data.specs.declared.cause.Found.{Found}
-use Rattle.usb_remarks.proofs.Outlines.{bytes_same, entries_next, entries_none, entry_in_tree, entry_span, next_bounds, next_says, spans_same}
+use Rattle.usb_remarks.proofs.Outlines.{bytes_same, entries_next, entries_none, entry_in_tree, entry_span, spans_same}
+use Rattle.usb_walk.proofs.NextRoles.{next_bounds, next_first}
 use Rattle.usb_walk.proofs.Positions.{noted_at, same_at}
 use Rattle.usb_remarks.proofs.Standings.{looked_number, start_at}
 use Rattle.usb_remarks.proofs.Telling.{are_numbered, found_front}
-
--- its two tests
-length_if : (len m n : ℕ) → (if nat_lt len 2 || nat_lt m len then None else Some len) ≡ Some n → (2 ≤ n) × (n ≤ m) × (len ≡ n)
-length_if len m n e = grind (arith, nat_tests)
-
--- the first byte of a descriptor is its length
-first_byte : (k len : ℕ) (rest : List ℕ) → 2 ≤ k → slice_index (take k (len ∷ rest)) 0 ≡ len
-first_byte zero len rest some = absurd (omega arith)
-first_byte (suc k) len rest some = refl
-
-length_first : (b : List ℕ) (n : ℕ) → descriptor_length b ≡ Some n → slice_index (take n b) 0 ≡ n
-length_first [] n e = absurd (none-some n e)
-length_first (len ∷ rest) n e =
-    let bounds = length_if len (length rest + 1) n e in
-    first_byte n len rest bounds.0 ∙ bounds.2
-
-pub next_first : (p : Position) (ahead : List ℕ) (next : Role × ℕ) → next_role p ahead ≡ Some next → slice_index (take next.1 ahead) 0 ≡ next.1
-next_first p ahead next e = length_first ahead next.1 (next_says p ahead next e)
 
 -- What a walk shows from here on.
 pub record Walk (running : Option SetSpeed) (n : ℕ) (s : Standing) (found : List Found) (ahead : List ℕ) : Type 0 where
