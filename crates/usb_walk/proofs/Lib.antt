@@ -8,5 +8,6 @@ mod StringItems
 pub mod StringTexts
 mod StringTrees
 pub mod TreeWalks
+pub mod Unfolded
 pub mod WalkSteps
 pub mod Walking

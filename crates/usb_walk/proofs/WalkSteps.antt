@@ -1,43 +1,31 @@
 -- A walk, step by step.
-use Rattle.std.proofs.Common.{◌≡◌, ◌≤◌, ◌⊎◌, inl, inr, ℕ, zero, suc, ◌+◌, List, [], ◌∷◌, length, take, drop, slice_index, Option, Some, None, unwrap_or, refl, sym, ap, ap₂, subst, ◌∙◌, arith}
-use Rattle.std.specs.Option.{option_map}
-use Rattle.std.proofs.lemmas.List.{drop-drop, length-take-le}
+use Rattle.std.proofs.Common.{◌≡◌, ◌≤◌, ◌⊎◌, ℕ, suc, ◌+◌, List, [], ◌∷◌, length, take, drop, slice_index, Option, Some, None, refl, sym, ap, ap₂, subst, ◌∙◌, arith}
+use Rattle.std.proofs.lemmas.List.{drop-drop, length-take-le, map-id}
 use Rattle.usb_walk.specs.declared.position.Position.{Position}
 use Rattle.usb_walk.specs.declared.role.Role.{Role}
 use Rattle.usb_walk.specs.declared.walked_descriptor.WalkedDescriptor.{WalkedDescriptor}
 use Rattle.usb_walk.specs.Numbered.{Numbered, next_position, numbered_next}
 use Rattle.usb_walk.specs.Positions.{first_position}
 use Rattle.usb_walk.specs.Roles.{next_role}
+use Rattle.usb_walk.specs.Unfolded.{unfolded}
 use Rattle.usb_walk.specs.WalkedDescriptors.{as_numbers, nothing}
 use Rattle.usb_walk.proofs.NextRoles.{next_bounds, next_first}
 use Rattle.usb_walk.proofs.Positions.{noted_at, same_at}
+use Rattle.usb_walk.proofs.Unfolded.{by_each_step, unfolded_map}
 
 -- ---- the descriptors of bytes by their positions
 
--- those with which these bytes begin at a position, at most n
-unfoldable pub first_numbered : ℕ → Position → List ℕ → List Numbered
-first_numbered zero p ahead = []
-first_numbered (suc n) p ahead =
-    unwrap_or (option_map (λ next. let m = numbered_next p ahead next in m ∷ first_numbered n (next_position m) (drop next.1 ahead)) (next_role p ahead)) []
+-- what may come in these bytes at a position
+abbrev pub next_numbered : Position × List ℕ → Option (Role × ℕ)
+next_numbered here = next_role here.0 here.1
+
+-- the descriptor that it is, and the position and the bytes after it
+abbrev pub pass_numbered : Position × List ℕ → Role × ℕ → Numbered × (Position × List ℕ)
+pass_numbered here next = let m = numbered_next here.0 here.1 next in (m, (next_position m, drop next.1 here.1))
 
 -- all of them: there are no more than bytes
 abbrev pub numbered : List ℕ → List Numbered
-numbered b = first_numbered (length b) first_position b
-
--- where a descriptor can stand, it comes first
-pub numbered_more : (n : ℕ) (p : Position) (ahead : List ℕ) (next : Role × ℕ) → next_role p ahead ≡ Some next
-    → (let m = numbered_next p ahead next in first_numbered (suc n) p ahead ≡ m ∷ first_numbered n (next_position m) (drop next.1 ahead))
-unfolding first_numbered
-numbered_more n p ahead next e =
-    ap (λ o. unwrap_or (option_map (λ next. let m = numbered_next p ahead next in m ∷ first_numbered n (next_position m) (drop next.1 ahead)) o) []) e
-
--- where none can, none comes
-pub numbered_none : (n : ℕ) (p : Position) (ahead : List ℕ) → (n ≡ 0) ⊎ (next_role p ahead ≡ None) → first_numbered n p ahead ≡ []
-unfolding first_numbered
-numbered_none zero p ahead e = refl
-numbered_none (suc n) p ahead (inl e) = absurd (omega (arith, e))
-numbered_none (suc n) p ahead (inr e) =
-    ap (λ o. unwrap_or (option_map (λ next. let m = numbered_next p ahead next in m ∷ first_numbered n (next_position m) (drop next.1 ahead)) o) []) e
+numbered b = unfolded next_numbered pass_numbered (length b) (first_position, b)
 
 -- ---- one step
 
@@ -99,22 +87,24 @@ Continues b P =
     (n : ℕ) (was : WalkedDescriptor) (next : Role × ℕ) (ns : List Numbered) → Step b was.position next
     → (let m = numbered_at b was.position next in P n (as_numbers b was m) ns → P (suc n) was (m ∷ ns))
 
-left_by_steps : (b : List ℕ) (P : Behind) → Ends b P → Continues b P → (n : ℕ) (was : WalkedDescriptor) (o : Option (Role × ℕ)) → coming b was.position ≡ o
-    → P n was (first_numbered n was.position (drop was.position.at b))
-left_by_steps b P ends more zero was o is =
-    subst (P zero was) (sym (numbered_none zero was.position (drop was.position.at b) (inl refl))) (ends zero was (inl refl))
-left_by_steps b P ends more (suc n) was None is =
-    subst (P (suc n) was) (sym (numbered_none (suc n) was.position (drop was.position.at b) (inr is))) (ends (suc n) was (inr is))
-left_by_steps b P ends more (suc n) was (Some next) is =
-    let ahead = drop was.position.at b in
+-- one of them behind a struct, and the struct after it
+abbrev pass_struct : List ℕ → WalkedDescriptor → Role × ℕ → Numbered × WalkedDescriptor
+pass_struct b was next = let m = numbered_at b was.position next in (m, as_numbers b was m)
+
+-- from struct to struct they are the same
+same_step : (b : List ℕ) (was : WalkedDescriptor) (next : Role × ℕ) → coming b was.position ≡ Some next
+    → (let m = numbered_at b was.position next in let q = (as_numbers b was m).position in
+    pass_numbered (was.position, drop was.position.at b) next ≡ (m, (q, drop q.at b)))
+same_step b was next is =
     let m = numbered_at b was.position next in
-    let d = as_numbers b was m in
-    let step = step_of b was.position next is in
     let behind = behind_is b was m in
-    let after : drop next.1 ahead ≡ drop d.position.at b = step.after ∙ ap (λ (p : Position). drop p.at b) (sym behind) in
-    let all = numbered_more n was.position ahead next is ∙ ap₂ (λ p rest. m ∷ first_numbered n p rest) (sym behind) after in
-    subst (P (suc n) was) (sym all) (more n was next _ step (left_by_steps b P ends more n d (coming b d.position) refl))
+    ap₂ (λ p rest. (m, (p, rest))) (sym behind) ((step_of b was.position next is).after ∙ ap (λ (p : Position). drop p.at b) (sym behind))
 
 -- so it holds of all of them
 pub by_steps : (b : List ℕ) (P : Behind) → Ends b P → Continues b P → P (length b) nothing (numbered b)
-by_steps b P ends more = left_by_steps b P ends more (length b) nothing (coming b first_position) refl
+by_steps b P ends more =
+    let next = λ (was : WalkedDescriptor). coming b was.position in
+    subst (P (length b) nothing)
+    (sym (map-id (unfolded next (pass_struct b) (length b) nothing))
+    ∙ unfolded_map (λ m. m) (λ was. (was.position, drop was.position.at b)) next (pass_struct b) next_numbered pass_numbered (λ was. refl) (same_step b) (length b) nothing)
+    (by_each_step next (pass_struct b) P ends (λ n was next ns is later. more n was next ns (step_of b was.position next is) later) (length b) nothing)

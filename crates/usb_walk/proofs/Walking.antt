@@ -1,5 +1,5 @@
 -- The walk over descriptors as numbers, by their positions.
-use Rattle.std.proofs.Common.{◌≡◌, ◌≤◌, ◌⊎◌, inl, inr, ℕ, zero, suc, List, [], ◌∷◌, length, drop, Option, Some, None, unwrap_or, Bool, true, false, nat_le, refl, sym, ap, subst, ◌∙◌, arith, length-drop}
+use Rattle.std.proofs.Common.{◌≡◌, ◌≤◌, inl, inr, ℕ, List, ◌∷◌, length, drop, Option, Some, None, unwrap_or, Bool, true, false, nat_le, refl, sym, ap, subst, ◌∙◌, arith, length-drop}
 use Rattle.std.specs.Option.{option_map}
 use Rattle.std.proofs.lemmas.Bool.{and_parts, cond-false, cond-true, le-leb}
 use Rattle.std.proofs.lemmas.Bool.Decides.{nat_tests}
@@ -11,6 +11,7 @@ use Rattle.usb_walk.specs.Numbered.{next_position, numbered_next}
 use Rattle.usb_walk.specs.Positions.{Counted, first_position}
 use Rattle.usb_walk.specs.WalkedDescriptors.{AllGoOn, GoesOn, all_as_numbers, as_numbers, first_walked, is_counted, next_as_numbers, next_of, nothing, walked}
 use Rattle.usb_walk.proofs.Positions.{counted_at, counted_noted}
+use Rattle.usb_walk.proofs.Unfolded.{unfolded_more, unfolded_none}
 use Rattle.usb_walk.proofs.WalkSteps.{Behind, Continues, Ends, behind_is, by_steps, coming, numbered, numbered_at, step_of}
 
 -- ---- counts
@@ -56,24 +57,13 @@ none_uncounted : (b : List ℕ) (was : WalkedDescriptor) → is_counted was.posi
 unfolding next_of
 none_uncounted b was c = cond-false (is_counted was.position) (next_as_numbers b was) None c
 
-walked_by : (n : ℕ) (b : List ℕ) (was : WalkedDescriptor) (o : Option WalkedDescriptor) → next_of b was ≡ o
-    → first_walked (suc n) b was ≡ unwrap_or (option_map (λ d. d ∷ first_walked n b d) o) []
-unfolding first_walked
-walked_by n b was o e = ap (λ o. unwrap_or (option_map (λ d. d ∷ first_walked n b d) o) []) e
-
-walked_none : (n : ℕ) (b : List ℕ) (was : WalkedDescriptor) → (n ≡ 0) ⊎ (next_of b was ≡ None) → first_walked n b was ≡ []
-unfolding first_walked
-walked_none zero b was e = refl
-walked_none (suc n) b was (inl e) = absurd (omega (arith, e))
-walked_none (suc n) b was (inr e) = walked_by n b was None e
-
 -- the walk gives these descriptors
 abbrev WalksAlong : List ℕ → Behind
 WalksAlong b n was ns = Counted was.position → first_walked n b was ≡ all_as_numbers b was ns
 
 ends : (b : List ℕ) → Ends b (WalksAlong b)
-ends b n was (inl e) c = walked_none n b was (inl e)
-ends b n was (inr e) c = walked_none n b was (inr (next_is b was None (counted_holds was.position c) e))
+ends b n was (inl e) c = unfolded_none (next_of b) (λ was d. (d, d)) n was (inl e)
+ends b n was (inr e) c = unfolded_none (next_of b) (λ was d. (d, d)) n was (inr (next_is b was None (counted_holds was.position c) e))
 
 one_more : (b : List ℕ) → Continues b (WalksAlong b)
 one_more b n was next ns step later c =
@@ -81,7 +71,7 @@ one_more b n was next ns step later c =
     let m = numbered_at b p next in
     let d = as_numbers b was m in
     let counted : Counted (next_position m) = counted_noted next.0 m.bytes (length m.bytes) m.position (omega (arith, step.taken, step.least)) (counted_at next.0 (drop p.at b) p c) in
-    walked_by n b was (Some d) (next_is b was (Some next) (counted_holds p c) step.is) ∙ ap (λ l. d ∷ l) (later (subst Counted (sym (behind_is b was m)) counted))
+    unfolded_more (next_of b) (λ was d. (d, d)) n was d (next_is b was (Some next) (counted_holds p c) step.is) ∙ ap (λ l. d ∷ l) (later (subst Counted (sym (behind_is b was m)) counted))
 
 counted_first : Counted first_position
 counted_first = record { strings = omega arith; main_sets = omega arith; other_sets = omega arith; associations = omega arith; settings = omega arith; endpoints = omega arith }

@@ -1,5 +1,5 @@
 -- Descriptors as numbers, and the walk from one to the next.
-use Rattle.std.specs.Prelude.{◌≡◌, ◌≤◌, ℕ, zero, suc, ◌+◌, ◌-◌, ◌&&◌, nat_le, List, [], ◌∷◌, length, fold, drop, slice_index, Bool, Option, Some, None, unwrap_or, if◌then◌else◌}
+use Rattle.std.specs.Prelude.{◌≡◌, ◌≤◌, ℕ, ◌+◌, ◌-◌, ◌&&◌, nat_le, List, [], ◌∷◌, length, fold, drop, slice_index, Bool, Option, Some, None, unwrap_or, if◌then◌else◌}
 use Rattle.std.specs.Option.{option_map}
 use Rattle.usb_fields.specs.Bytes.{little_endian_at}
 use Rattle.usb_set.specs.Descriptors.{packet_size_of, transactions_of}
@@ -16,6 +16,7 @@ use Rattle.usb_walk.specs.Positions.{first_position}
 use Rattle.usb_walk.specs.RoleNumbers.{role_number}
 use Rattle.usb_walk.specs.Roles.{next_role}
 use Rattle.usb_walk.specs.Surroundings.{depth_of}
+use Rattle.usb_walk.specs.Unfolded.{unfolded}
 
 -- What a descriptor is, as numbers.
 
@@ -138,9 +139,8 @@ nothing = record {
 }
 
 -- the descriptors after one, at most n
-unfoldable pub first_walked : ℕ → List ℕ → WalkedDescriptor → List WalkedDescriptor
-first_walked zero b was = []
-first_walked (suc n) b was = unwrap_or (option_map (λ d. d ∷ first_walked n b d) (next_of b was)) []
+abbrev pub first_walked : ℕ → List ℕ → WalkedDescriptor → List WalkedDescriptor
+first_walked n b was = unfolded (next_of b) (λ was d. (d, d)) n was
 
 -- all of them from the first one on: there are no more than bytes
 abbrev pub walked : List ℕ → List WalkedDescriptor
