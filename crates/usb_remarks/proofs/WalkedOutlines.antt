@@ -1,47 +1,32 @@
 -- A walk over an input has the descriptors of its outline, and so those of its tree.
-use Rattle.std.proofs.Common.{◌≡◌, inl, inr, ℕ, zero, suc, List, [], ◌∷◌, map, drop, Option, Some, None, refl, sym, ap, ◌∙◌}
+use Rattle.std.proofs.Common.{◌≡◌, ℕ, List, [], ◌∷◌, length, map, Option, None, refl, sym, ap, ◌∙◌}
 use Rattle.usb_file_data.specs.declared.cause.Found.{Found}
 use Rattle.usb_file_data.specs.declared.file.Input.{Input}
 use Rattle.usb_file_data.specs.Findings.{found_in_order}
 use Rattle.usb_file_data.specs.Inputs.{IsInput}
-use Rattle.usb_walk.specs.declared.role.Role.{Role}
-use Rattle.usb_walk.specs.Numbered.{numbered_next}
-use Rattle.usb_walk.specs.Positions.{first_position}
-use Rattle.usb_walk.specs.Roles.{next_role}
 use Rattle.usb_walk.specs.Trees.{tree_descriptors}
 use Rattle.usb_walk.specs.WalkedDescriptors.{all_as_numbers, nothing}
 use Rattle.usb_walk.specs.WalkedStrings.{WalkHasStrings}
 use Rattle.usb_walk.specs.WalkedTrees.{WalkIsTree, tree_numbers}
 use Rattle.usb_walk.proofs.InputStrings.{strings_by_tree}
 use Rattle.usb_walk.proofs.TreeWalks.{by_tree, walk_by_tree}
-use Rattle.usb_walk.proofs.WalkSteps.{first_numbered, numbered, numbered_more, numbered_none}
+use Rattle.usb_walk.proofs.Unfolded.{unfolded_map}
+use Rattle.usb_walk.proofs.WalkSteps.{next_numbered, numbered, pass_numbered}
 use Rattle.usb_walk.proofs.Walking.{walk_by_positions}
 use Rattle.usb_remarks.specs.declared.speed.SetSpeed.{SetSpeed}
-use Rattle.usb_remarks.specs.declared.standing.Standing.{Standing}
-use Rattle.usb_remarks.specs.Outline.{Entry, after_next, entries, first_entries, left_next}
+use Rattle.usb_remarks.specs.Outline.{Entry, entries, next_ahead, pass_ahead}
 use Rattle.usb_remarks.specs.Standings.{start}
 use Rattle.usb_remarks.specs.WalkedOutlines.{WalkIsOutline, by_position}
-use Rattle.usb_remarks.proofs.Outlines.{entries_next, entries_none, entry_in_tree, tree_same}
+use Rattle.usb_remarks.proofs.Outlines.{entry_in_tree, tree_same}
 use Rattle.usb_remarks.proofs.rest.Inputs.{whole_shows}
 
 -- ---- by their positions the descriptors of an outline are those of the bytes
 
-same_from : (n : ℕ) (running : Option SetSpeed) (s : Standing) (found : List Found) (ahead : List ℕ) (o : Option (Role × ℕ)) → next_role s.position ahead ≡ o
-    → map by_position (first_entries n running s found ahead) ≡ first_numbered n s.position ahead
-unfolding first_entries
-same_from zero running s found ahead o is = sym (numbered_none zero s.position ahead (inl refl))
-same_from (suc n) running s found ahead None is =
-    ap (λ es. map by_position es) (entries_none (suc n) running s found ahead is) ∙ sym (numbered_none (suc n) s.position ahead (inr is))
-same_from (suc n) running s found ahead (Some next) is =
-    let t = after_next running s ahead next in
-    let rest = drop next.1 ahead in
-    ap (λ es. map by_position es) (entries_next n running s found ahead next is)
-    ∙ ap (λ l. numbered_next s.position ahead next ∷ l) (same_from n running t (left_next running s found ahead next) rest (next_role t.position rest) refl)
-    ∙ sym (numbered_more n s.position ahead next is)
-
 pub outline_numbered : (running : Option SetSpeed) (found : List Found) (b : List ℕ) → map by_position (entries running found b) ≡ numbered b
 unfolding start
-outline_numbered running found b = same_from _ running start found b (next_role first_position b) refl
+outline_numbered running found b =
+    unfolded_map by_position (λ here. (here.0.position, here.2)) next_ahead (pass_ahead running) next_numbered pass_numbered
+    (λ here. refl) (λ here next is. refl) (length b) (start, found, b)
 
 pub walk_is_outline : WalkIsOutline
 walk_is_outline running found b = walk_by_positions b ∙ ap (all_as_numbers b nothing) (sym (outline_numbered running found b))
