@@ -1,6 +1,5 @@
 -- An outline, descriptor by descriptor.
-use Rattle.std.proofs.Common.{◌≡◌, ◌≤◌, ◌<◌, inl, inr, ℕ, ◌+◌, ◌-◌, List, [], ◌∷◌, ◌++◌, flat_map, length, map, take, drop, Option, Some, None, refl, sym, ap, ◌∙◌, arith, length-drop}
-use Rattle.std.proofs.lemmas.List.{length-take-le}
+use Rattle.std.proofs.Common.{◌≡◌, ◌<◌, inl, inr, ℕ, ◌+◌, List, [], ◌∷◌, ◌++◌, flat_map, length, map, take, drop, Option, Some, None, refl, ap, arith, length-drop}
 use Rattle.usb_file_data.specs.declared.cause.Found.{Found}
 use Rattle.usb_walk.specs.declared.role.Role.{Role}
 use Rattle.usb_remarks.specs.declared.speed.SetSpeed.{SetSpeed}
@@ -14,8 +13,9 @@ use Rattle.usb_walk.specs.Trees.{TreeDescriptor, tree_descriptor}
 use Rattle.usb_remarks.specs.Standings.{AreCounted}
 use Rattle.usb_remarks.proofs.Standings.{counted_entered}
 use Rattle.usb_walk.proofs.NextRoles.{next_bounds}
-use Rattle.usb_walk.proofs.Positions.{counted_noted, noted_at, same_at}
+use Rattle.usb_walk.proofs.Positions.{counted_noted}
 use Rattle.usb_walk.proofs.Unfolded.{unfolded_enough, unfolded_none}
+use Rattle.usb_walk.proofs.WalkSteps.{step_of}
 
 -- ---- one step
 
@@ -45,27 +45,24 @@ left_same running s t fs gs a b e f g = cc
 
 -- ---- what is kept from one descriptor to the next
 
-pub stays_counted : (running : Option SetSpeed) (s : Standing) (ahead : List ℕ) (next : Role × ℕ) → AreCounted s → 2 ≤ next.1 → next.1 ≤ length ahead
+pub stays_counted : (running : Option SetSpeed) (s : Standing) (ahead : List ℕ) (next : Role × ℕ) → next_role s.position ahead ≡ Some next → AreCounted s
     → AreCounted (after_next running s ahead next)
-stays_counted running s ahead next counted least most =
-    let taken : length (take next.1 ahead) ≡ next.1 = length-take-le next.1 ahead most in
-    let here_counted = counted_entered next.0 running ahead s counted in
-    let at : (after_next running s ahead next).position.at ≡ (here running s ahead next).position.at + length (take next.1 ahead) =
-    ap (λ k. k + length (take next.1 ahead)) (noted_at next.0 (take next.1 ahead) (here running s ahead next).position) in
+stays_counted running s ahead next e counted =
+    let step = step_of s.position ahead next e in
+    let entered = counted_entered next.0 running ahead s counted in
+    let place : (here running s ahead next).position.at ≡ s.position.at = step.place in
+    let at : (after_next running s ahead next).position.at ≡ s.position.at + next.1 = step.at in
     record {
-      in_position = counted_noted next.0 (take next.1 ahead) (length (take next.1 ahead)) (here running s ahead next).position (omega (arith, taken, least)) here_counted.in_position;
-      descriptors = omega (arith, at, taken, least, here_counted.descriptors);
+      in_position = counted_noted next.0 (take next.1 ahead) (length (take next.1 ahead)) (here running s ahead next).position (omega (arith, step.taken, step.least)) entered.in_position;
+      descriptors = omega (arith, at, place, step.least, entered.descriptors);
     }
 
-pub stays_room : (running : Option SetSpeed) (s : Standing) (ahead : List ℕ) (next : Role × ℕ) → next.1 ≤ length ahead → s.position.at + length ahead < 9223372036854775808
+pub stays_room : (running : Option SetSpeed) (s : Standing) (ahead : List ℕ) (next : Role × ℕ) → next_role s.position ahead ≡ Some next → s.position.at + length ahead < 9223372036854775808
     → (after_next running s ahead next).position.at + length (drop next.1 ahead) < 9223372036854775808
-stays_room running s ahead next most room =
-    let taken : length (take next.1 ahead) ≡ next.1 = length-take-le next.1 ahead most in
-    let left : length (drop next.1 ahead) ≡ length ahead - next.1 = length-drop next.1 ahead in
-    let noted : (after_next running s ahead next).position.at ≡ (here running s ahead next).position.at + length (take next.1 ahead) =
-    ap (λ k. k + length (take next.1 ahead)) (noted_at next.0 (take next.1 ahead) (here running s ahead next).position) in
-    let entered : (here running s ahead next).position.at ≡ s.position.at = same_at next.0 ahead s.position in
-    omega (arith, taken, left, noted, entered, most, room)
+stays_room running s ahead next e room =
+    let step = step_of s.position ahead next e in
+    let at : (after_next running s ahead next).position.at ≡ s.position.at + next.1 = step.at in
+    omega (arith, at, length-drop next.1 ahead, step.most, room)
 
 -- ---- what an outline says of its descriptors
 

@@ -1,7 +1,7 @@
 -- The descriptors of a walk, and where they stand.
 use Rattle.std.proofs.Common.{◌≡◌, ◌≤◌, ℕ, ◌+◌, List, [], ◌∷◌, ◌++◌, flat_map, length, map, take, drop, Option, Some, refl, sym, ap, ap₂, subst, ◌∙◌, arith, append_assoc, length-append}
 use Rattle.std.specs.List.{AllByRecursion}
-use Rattle.std.proofs.lemmas.List.{length-take-le, take-append-drop}
+use Rattle.std.proofs.lemmas.List.{take-append-drop}
 use Rattle.std.proofs.Math.Seq.{drop-append_seam}
 use Rattle.usb_walk.specs.Trees.{TreeDescriptor}
 use Rattle.usb_walk.specs.declared.role.Role.{Role}
@@ -14,9 +14,8 @@ use Rattle.usb_remarks.specs.Standings.{start}
 use Rattle.usb_remarks.specs.declared.speed.SetSpeed.{SetSpeed}
 use Rattle.usb_file_data.specs.declared.cause.Found.{Found}
 use Rattle.usb_remarks.proofs.Outlines.{bytes_same, entry_in_tree, entry_span, spans_same}
-use Rattle.usb_walk.proofs.NextRoles.{next_bounds, next_first}
-use Rattle.usb_walk.proofs.Positions.{noted_at, same_at}
 use Rattle.usb_walk.proofs.Unfolded.{by_each_step}
+use Rattle.usb_walk.proofs.WalkSteps.{step_of}
 use Rattle.usb_remarks.proofs.Standings.{looked_number, start_at}
 use Rattle.usb_remarks.proofs.Telling.{are_numbered, found_front}
 
@@ -36,18 +35,16 @@ walk_none s found ahead = record { rest = ahead; end = s.position.at; cut = refl
 walk_more : (running : Option SetSpeed) (s : Standing) (found : List Found) (ahead : List ℕ) (next : Role × ℕ) (shown : List Entry) → next_role s.position ahead ≡ Some next
     → Walk (after_next running s ahead next) (left_next running s found ahead next) (drop next.1 ahead) shown → Walk s found ahead (entry_next running s found ahead next ∷ shown)
 walk_more running s found ahead next shown e w =
-    let bounds = next_bounds s.position ahead next e in
-    let taken : length (take next.1 ahead) ≡ next.1 = length-take-le next.1 ahead bounds.1 in
+    let step = step_of s.position ahead next e in
     let number : (here running s ahead next).descriptors ≡ s.descriptors = looked_number next.0 running ahead s in
-    let at_here : (here running s ahead next).position.at ≡ s.position.at = same_at next.0 ahead s.position in
     let mine = found_at (here running s ahead next) found in
     let at_after : (after_next running s ahead next).position.at ≡ s.position.at + length (take next.1 ahead) =
-    ap (λ k. k + length (take next.1 ahead)) (noted_at next.0 (take next.1 ahead) (here running s ahead next).position ∙ at_here) in
+    step.at ∙ ap (λ k. s.position.at + k) (sym step.taken) in
     record {
       rest = w.rest;
       end = w.end;
-      cut = (sym (take-append-drop next.1 ahead), next_first s.position ahead next e ∙ sym taken, w.cut);
-      spans = (at_here, omega (arith, taken, bounds.0), subst (λ k. Follow k (map entry_span shown) w.end) at_after w.spans);
+      cut = (sym (take-append-drop next.1 ahead), step.first ∙ sym step.taken, w.cut);
+      spans = (step.place, omega (arith, step.taken, step.least), subst (λ k. Follow k (map entry_span shown) w.end) at_after w.spans);
       left = w.left;
       tells = append_assoc mine (flat_map findings_of shown) w.left ∙ ap (λ l. mine ++ l) w.tells ∙ found_front (here running s ahead next) found;
       numbered = (

@@ -29,33 +29,22 @@ numbered b = unfolded next_numbered pass_numbered (length b) (first_position, b)
 
 -- ---- one step
 
--- the descriptor that may come at a position, and how long it is
-abbrev pub coming : List ℕ → Position → Option (Role × ℕ)
-coming b p = next_role p (drop p.at b)
-
--- the descriptor that these bytes have at a position
-abbrev pub numbered_at : List ℕ → Position → Role × ℕ → Numbered
-numbered_at b p next = numbered_next p (drop p.at b) next
-
--- where it is, how long, and where the walk goes on
-pub record Step (b : List ℕ) (p : Position) (next : Role × ℕ) : Type 0 where
-  pub is : coming b p ≡ Some next
+-- the descriptor with which these bytes begin at a position: how long it is, where, and where the walk goes on
+pub record Step (p : Position) (ahead : List ℕ) (next : Role × ℕ) : Type 0 where
+  pub is : next_role p ahead ≡ Some next
   pub least : 2 ≤ next.1
-  pub most : next.1 ≤ length (drop p.at b)
-  pub taken : length (take next.1 (drop p.at b)) ≡ next.1
-  pub first : slice_index (take next.1 (drop p.at b)) 0 ≡ next.1
-  pub place : (numbered_at b p next).position.at ≡ p.at
-  pub at : (next_position (numbered_at b p next)).at ≡ p.at + next.1
-  pub after : drop next.1 (drop p.at b) ≡ drop (next_position (numbered_at b p next)).at b
+  pub most : next.1 ≤ length ahead
+  pub taken : length (take next.1 ahead) ≡ next.1
+  pub first : slice_index (take next.1 ahead) 0 ≡ next.1
+  pub place : (numbered_next p ahead next).position.at ≡ p.at
+  pub at : (next_position (numbered_next p ahead next)).at ≡ p.at + next.1
 
-pub step_of : (b : List ℕ) (p : Position) (next : Role × ℕ) → coming b p ≡ Some next → Step b p next
-step_of b p next is =
-    let ahead = drop p.at b in
-    let m = numbered_at b p next in
+pub step_of : (p : Position) (ahead : List ℕ) (next : Role × ℕ) → next_role p ahead ≡ Some next → Step p ahead next
+step_of p ahead next is =
+    let m = numbered_next p ahead next in
     let bounds = next_bounds p ahead next is in
     let taken : length m.bytes ≡ next.1 = length-take-le next.1 ahead bounds.1 in
     let place : m.position.at ≡ p.at = same_at next.0 ahead p in
-    let at : (next_position m).at ≡ p.at + next.1 = omega (arith, noted_at next.0 m.bytes m.position, place, taken) in
     record {
       is = is;
       least = bounds.0;
@@ -63,11 +52,18 @@ step_of b p next is =
       taken = taken;
       first = next_first p ahead next is;
       place = place;
-      at = at;
-      after = drop-drop next.1 p.at b ∙ sym (ap (λ k. drop k b) at);
+      at = omega (arith, noted_at next.0 m.bytes m.position, place, taken);
     }
 
 -- ---- all of them
+
+-- the descriptor that may come at a position, and how long it is
+abbrev pub coming : List ℕ → Position → Option (Role × ℕ)
+coming b p = next_role p (drop p.at b)
+
+-- the descriptor that these bytes have at a position
+abbrev pub numbered_at : List ℕ → Position → Role × ℕ → Numbered
+numbered_at b p next = numbered_next p (drop p.at b) next
 
 pub behind_is : (b : List ℕ) (was : WalkedDescriptor) (n : Numbered) → (as_numbers b was n).position ≡ next_position n
 unfolding as_numbers
@@ -84,7 +80,7 @@ Ends b P = (n : ℕ) (was : WalkedDescriptor) → (n ≡ 0) ⊎ (coming b was.po
 -- it holds of a descriptor more, where it holds of those behind that
 abbrev pub Continues : List ℕ → Behind → Type 0
 Continues b P =
-    (n : ℕ) (was : WalkedDescriptor) (next : Role × ℕ) (ns : List Numbered) → Step b was.position next
+    (n : ℕ) (was : WalkedDescriptor) (next : Role × ℕ) (ns : List Numbered) → Step was.position (drop was.position.at b) next
     → (let m = numbered_at b was.position next in P n (as_numbers b was m) ns → P (suc n) was (m ∷ ns))
 
 -- one of them behind a struct, and the struct after it
@@ -96,9 +92,11 @@ same_step : (b : List ℕ) (was : WalkedDescriptor) (next : Role × ℕ) → com
     → (let m = numbered_at b was.position next in let q = (as_numbers b was m).position in
     pass_numbered (was.position, drop was.position.at b) next ≡ (m, (q, drop q.at b)))
 same_step b was next is =
-    let m = numbered_at b was.position next in
+    let p = was.position in
+    let m = numbered_at b p next in
     let behind = behind_is b was m in
-    ap₂ (λ p rest. (m, (p, rest))) (sym behind) ((step_of b was.position next is).after ∙ ap (λ (p : Position). drop p.at b) (sym behind))
+    let at = (step_of p (drop p.at b) next is).at in
+    ap₂ (λ q rest. (m, (q, rest))) (sym behind) (drop-drop next.1 p.at b ∙ ap (λ k. drop k b) (sym at ∙ ap (λ (q : Position). q.at) (sym behind)))
 
 -- so it holds of all of them
 pub by_steps : (b : List ℕ) (P : Behind) → Ends b P → Continues b P → P (length b) nothing (numbered b)
@@ -107,4 +105,4 @@ by_steps b P ends more =
     subst (P (length b) nothing)
     (sym (map-id (unfolded next (pass_struct b) (length b) nothing))
     ∙ unfolded_map (λ m. m) (λ was. (was.position, drop was.position.at b)) next (pass_struct b) next_numbered pass_numbered (λ was. refl) (same_step b) (length b) nothing)
-    (by_each_step next (pass_struct b) P ends (λ n was next ns is later. more n was next ns (step_of b was.position next is) later) (length b) nothing)
+    (by_each_step next (pass_struct b) P ends (λ n was next ns is later. more n was next ns (step_of was.position (drop was.position.at b) next is) later) (length b) nothing)

@@ -85,7 +85,7 @@ goes_on : (b : List ℕ) (was : WalkedDescriptor) (next : Role × ℕ) → comin
     → GoesOn b was (as_numbers b was (numbered_at b was.position next))
 unfolding as_numbers
 goes_on b was next is =
-    let step = step_of b was.position next is in
+    let step = step_of was.position (drop was.position.at b) next is in
     record {
       place = step.place;
       least = omega (arith, step.first, step.least);
