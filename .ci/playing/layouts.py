@@ -8,10 +8,10 @@ import re
 
 WIDTHS = {"u8": "uint8_t", "u16": "uint16_t", "u32": "uint32_t", "u64": "uint64_t", "usize": "size_t", "bool": "bool"}
 # The names in C of fields that the source calls otherwise.
-NAMES = {"at": "held", "NzgDescriptor.kind": "type", "Position.interface": "interface_", "Position.class": "class_",
+NAMES = {"at": "held", "WalkedDescriptor.kind": "type", "Position.interface": "interface_", "Position.class": "class_",
          "NzgPacket.bytes": "data", "Position.at": "next"}
 # The structs in C that the source calls otherwise.
-STRUCTS = {"EndpointZero": "device"}
+STRUCTS = {"EndpointZero": "device", "WalkedDescriptor": "descriptor"}
 
 
 # What the program in Rust begins with: `offset_of` of the standard library is younger than the oldest Rust that is served.
@@ -84,7 +84,8 @@ def of_rust(text):
 
 
 def of_source():
-    text = "".join(map(text_of, sorted(glob.glob("crates/usb_c/src/*.rt") + glob.glob("crates/usb_device/src/*.rt")) + ["crates/usb_find/src/search.rt", "crates/usb_walk/src/position.rt"]))
+    folders = [path for crate in ("usb_c", "usb_device", "usb_walk") for path in glob.glob(f"crates/{crate}/src/*.rt")]
+    text = "".join(map(text_of, [*sorted(folders), "crates/usb_find/src/search.rt"]))
     found = dict(of_calls(text, r'#\[unsafe\(no_mangle\)\]\s*(?:#\[[^\n]*\]\s*)?pub extern "C" '))
     for name, body in re.findall(r"#\[repr\(C\)\]\s*(?:#\[derive\([^)]*\)\]\s*)?pub struct (\w+) \{(.*?)\n\}", text, re.S):
         fields = re.findall(r"^    (?:pub )?(\w+): ([^,]+),", body.replace("*mut u8", "*mut c_void"), re.M)

@@ -26,6 +26,7 @@ pub use Rattle.usb_listing.specs.Comments
 pub use Rattle.usb_listing.specs.Listings
 pub use Rattle.usb_explain.specs.Explanations
 pub use Rattle.usb_remarks.specs.Outline
+pub use Rattle.usb_walk.specs.WalkedDescriptors
 pub use Rattle.usb_explain.specs.Fields
 pub use Rattle.usb_file_data.specs.Rules
 pub use Rattle.usb_file_data.specs.Findings

@@ -27,7 +27,7 @@ pub mod descriptors {
 }
 
 /// All descriptors of a device in a file; their listing for people, which is read back to the same file; each of them as a
-/// value, with its owner, its findings and its fields; and what they mean, in words.
+/// value, with its owner, its findings and its fields, or as plain numbers, which need no memory; and what they mean, in words.
 pub mod files {
     pub use usb_explain::{ClassCodes, Field, Fields, Form, Look, Manner, explain};
     pub use usb_file::{
@@ -40,7 +40,7 @@ pub mod files {
     };
     pub use usb_remarks::{Descriptor, IntervalRange, Outline, PacketSizes, Remark, SetSpeed};
     pub use usb_text::OutFault;
-    pub use usb_walk::{DescriptorOwner, InterfaceSetting, Role};
+    pub use usb_walk::{DescriptorOwner, InterfaceSetting, Role, WalkedDescriptor};
 }
 
 /// What breaks a rule of chapter 9.

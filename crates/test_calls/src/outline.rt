@@ -3,7 +3,7 @@ use crate::programs::MOUSE;
 use anyhow::Result;
 use nozzlegorse::files::{
     ClassCodes, DescriptorOwner, Fields, Form, InterfaceSetting, Outline, Role, SetSpeed,
-    read_input,
+    WalkedDescriptor, read_input,
 };
 use nozzlegorse::rules::{Cause, Part, found_in_order};
 
@@ -13,6 +13,18 @@ const FUNCTION: [u8; 53] = [
     9, 2, 53, 0, 1, 1, 0, 0x80, 50, 8, 0x0b, 0, 1, 0xff, 0, 0, 0, 3, 0x30, 0xaa, 9, 4, 0, 0, 2,
     0xff, 0, 0, 0, 3, 0x24, 1, 7, 5, 0x80, 3, 8, 0, 10, 3, 0x25, 2, 9, 4, 0, 1, 0, 0xff, 0, 0, 0,
     2, 0x30,
+];
+
+/// A file with eighteen descriptors. Its qualifier has a subclass without a class (V11), and the
+/// set after it clears bit 7 of bmAttributes (V9). In the first set an association names interface 5, which isn't there, and one
+/// that follows an endpoint binds none (V13); the last endpoint has the address of endpoint 0 (V6). In the other one an
+/// association names interface 7 (V13).
+const NUMBERED: [u8; 134] = [
+    18, 1, 0, 2, 0, 0, 0, 64, 9, 0x12, 1, 0, 0, 1, 0, 0, 0, 1, 9, 2, 80, 0, 1, 1, 0, 0x80, 50, 8,
+    0x0b, 0, 1, 0xff, 0, 0, 0, 3, 0x30, 0xaa, 8, 0x0b, 5, 1, 0xff, 0, 0, 0, 9, 4, 0, 0, 1, 0xff, 0,
+    0, 0, 3, 0x24, 1, 7, 5, 0x81, 3, 8, 0, 10, 3, 0x25, 2, 3, 0x25, 3, 8, 0x0b, 6, 0, 0xff, 0, 0,
+    0, 9, 4, 0, 1, 1, 0xff, 0, 0, 0, 7, 5, 0x80, 3, 8, 0, 10, 3, 0x25, 4, 10, 6, 0, 2, 0, 1, 0, 64,
+    1, 0, 9, 7, 26, 0, 1, 1, 0, 0, 50, 9, 4, 0, 0, 0, 0xff, 0, 0, 0, 8, 0x0b, 7, 1, 0xff, 0, 0, 0,
 ];
 
 /// The owner of what belongs to the set alone.
@@ -91,6 +103,35 @@ fn each_descriptor_has_its_owner(rt: HostRuntime) {
     assert!(rt; outline.next().is_none());
 }
 
+/// As plain numbers each has its place, its role, that of what an extra belongs to, and its depth.
+#[test]
+fn a_walk_has_each_descriptor_as_numbers(rt: HostRuntime) {
+    let mut descriptor = WalkedDescriptor::start();
+    for wanted in [
+        (0, 2, 0, 1),
+        (9, 5, 2, 2),
+        (17, 6, 2, 2),
+        (20, 3, 0, 2),
+        (29, 6, 3, 3),
+        (32, 4, 0, 3),
+        (39, 6, 4, 4),
+        (42, 3, 0, 2),
+        (51, 6, 3, 3),
+    ] {
+        assert!(rt; descriptor.next_in(&FUNCTION));
+        assert_eq!(rt;
+            (
+                descriptor.place,
+                descriptor.role,
+                descriptor.owner,
+                descriptor.depth
+            ),
+            wanted
+        );
+    }
+    assert!(rt; !descriptor.next_in(&FUNCTION));
+}
+
 /// What is outside of sets is nobody's. The other part has sets of its own.
 #[test]
 fn owners_are_of_a_part(rt: HostRuntime) {
@@ -127,6 +168,29 @@ fn findings_stand_at_their_descriptors(rt: HostRuntime) -> Result<()> {
         told.as_slice(),
         [(20, 5, count), (32, 6, address)].as_slice()
     );
+    Ok(())
+}
+
+/// A finding has the number of its descriptor, where each descriptor of the input counts.
+#[test]
+fn findings_have_the_numbers_of_their_descriptors(rt: HostRuntime) -> Result<()> {
+    let input = read_input(rt.alloc(), &NUMBERED)?;
+    let found = found_in_order(rt.alloc(), &input)?;
+    let mut told = Vec::new(rt.alloc());
+    for descriptor in Outline::of(&NUMBERED, None, &found) {
+        for one in descriptor.findings {
+            told.push((descriptor.at, one.descriptor, one.finding.rule))?;
+        }
+    }
+    let wanted = [
+        (38, 4, 13),
+        (71, 10, 13),
+        (88, 12, 6),
+        (98, 14, 11),
+        (108, 15, 9),
+        (126, 17, 13),
+    ];
+    assert_eq!(rt; told.as_slice(), wanted.as_slice());
     Ok(())
 }
 

@@ -7,10 +7,11 @@ use Rattle.std.proofs.lemmas.List.{length-map, set_split}
 use Rattle.std.proofs.lemmas.Option.{slice_get-map}
 use Rattle.std.proofs.Math.ListN.{set}
 use Rattle.usb_walk.specs.declared.role.Role.{Role}
+use Rattle.usb_walk.specs.declared.walked_descriptor.WalkedDescriptor.{WalkedDescriptor}
+use Rattle.usb_walk.specs.RoleNumbers.{role_in}
 use Rattle.usb_walk.specs.Surroundings.{codes_of}
 use Rattle.usb_explain.specs.Fields.{fields_of}
-use Rattle.usb_c.specs.declared.descriptor.NzgDescriptor.{NzgDescriptor}
-use Rattle.usb_c.specs.DescriptorFields.{bytes_in, field_at, field_numbers, role_in}
+use Rattle.usb_c.specs.DescriptorFields.{bytes_in, field_at, field_numbers}
 use Rattle.usb_c.specs.FieldLists.{AllByNumber, fields_at}
 use Rattle.usb_c.proofs.Placed.{PutSoFar, one_put, room_for_one}
 
@@ -39,7 +40,7 @@ module _ {X A : Type 0} (g : X → A) (all : List X) (old now : List A) (filled 
         one_put (λ x. g x ∷ []) all x rest old now filled p (set now filled (g x)) (filled + 1)
         (set_split now filled (g x) room ∙ ap (λ (n : ℕ). take filled now ++ (g x ∷ drop n now)) next ∙ sym (append_assoc (take filled now) (g x ∷ []) (drop (filled + 1) now))) refl
 
-pub as_many : (d : NzgDescriptor) (role : Role) (b : List ℕ) → length (fields_at d role b) ≡ length (fields_of role (codes_of d.position) b)
+pub as_many : (d : WalkedDescriptor) (role : Role) (b : List ℕ) → length (fields_at d role b) ≡ length (fields_of role (codes_of d.position) b)
 as_many d role b = length-map (fields_of role (codes_of d.position) b) (field_numbers d.place)
 
 -- ---- a field by its number

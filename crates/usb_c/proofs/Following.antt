@@ -1,47 +1,18 @@
--- Counts of a position, and a field by its number.
-use Rattle.std.proofs.Common.{◌≡◌, ◌≤◌, ℕ, zero, suc, ◌+◌, nat_le, true, List, [], ◌∷◌, ◌++◌, length, map, Option, Some, None, IfSome, unwrap_or, refl, sym, ap, subst, ◌∙◌, arith, length-append}
+-- A field by its number.
+use Rattle.std.proofs.Common.{◌≡◌, ◌≤◌, ℕ, zero, suc, ◌+◌, true, List, [], ◌∷◌, ◌++◌, length, map, Option, Some, None, IfSome, unwrap_or, refl, sym, ap, subst, ◌∙◌, arith, length-append}
 use Rattle.std.specs.Iterator.{SkipsThenYields, Yields, YieldsFirstBy}
 use Rattle.std.specs.List.{AllByRecursion, slice_get}
 use Rattle.std.specs.Option.{option_map}
-use Rattle.std.proofs.lemmas.Bool.{and_parts}
-use Rattle.std.proofs.lemmas.Bool.Decides.{nat_tests}
 use Rattle.std.proofs.lemmas.List.{length-map}
 use Rattle.std.proofs.lemmas.Option.{none-some, slice_get_past}
 use Rattle.usb_names.specs.declared.codes.ClassCodes.{ClassCodes}
 use Rattle.usb_explain.specs.declared.field.Field.{Field}
-use Rattle.usb_walk.specs.declared.position.Position.{Position}
 use Rattle.usb_walk.specs.declared.role.Role.{Role}
 use Rattle.usb_walk.specs.declared.role.Role.TheVariants as roles
 use Rattle.usb_explain.specs.FieldLaws.{first_place, has_fields, span_of_field}
 use Rattle.usb_explain.specs.Fields.{PlacedField, fields_of, placed_of}
 use Rattle.usb_remarks.specs.OutlineLaws.{Follow, Span}
 use Rattle.usb_explain.proofs.FieldsCover.{fields_have_all_bytes}
-use Rattle.usb_walk.specs.Positions.{Counted}
-use Rattle.usb_c.specs.Descriptors.{is_counted}
-
--- ---- bounds
-
--- the tests of a count are those of a record
-le_of : (a b : ℕ) → nat_le a b ≡ true → a ≤ b
-le_of a b e = grind (arith, nat_tests)
-
-pub counted_of : (p : Position) → is_counted p ≡ true → Counted p
-unfolding is_counted
-counted_of p e =
-    let at = p.at in
-    let one = and_parts (nat_le p.strings at) _ e in
-    let two = and_parts (nat_le p.main_sets at) _ one.1 in
-    let three = and_parts (nat_le p.other_sets at) _ two.1 in
-    let four = and_parts (nat_le p.associations at) _ three.1 in
-    let five = and_parts (nat_le p.settings at) (nat_le p.endpoints at) four.1 in
-    record {
-      strings = le_of p.strings at one.0;
-      main_sets = le_of p.main_sets at two.0;
-      other_sets = le_of p.other_sets at three.0;
-      associations = le_of p.associations at four.0;
-      settings = le_of p.settings at five.0;
-      endpoints = le_of p.endpoints at five.1;
-    }
 
 -- ---- an item of an iterator by its number
 

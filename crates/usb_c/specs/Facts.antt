@@ -15,14 +15,14 @@ use Rattle.usb_file_data.specs.Inputs.{InputFaulty, IsInput, IsNoDump}
 use Rattle.usb_file_data.specs.Numbers.{rule_number}
 use Rattle.usb_file.specs.Completed.{IsCompleted}
 use Rattle.usb_walk.specs.declared.role.Role.TheVariants as roles
+use Rattle.usb_walk.specs.declared.walked_descriptor.WalkedDescriptor.{WalkedDescriptor}
 use Rattle.usb_walk.specs.Places.{part_number}
+use Rattle.usb_walk.specs.RoleNumbers.{role_number}
 use Rattle.usb_remarks.specs.Outline.{Described, outline}
 use Rattle.usb_c.specs.declared.answer.Verdict.{Verdict}
 use Rattle.usb_c.specs.declared.answer.Verdict.TheVariants as verdicts
-use Rattle.usb_c.specs.declared.descriptor.NzgDescriptor.{NzgDescriptor}
 use Rattle.usb_c.specs.declared.finding.NzgFinding.{NzgFinding}
 use Rattle.usb_c.specs.Answers.{Fills, Puts}
-use Rattle.usb_c.specs.Descriptors.{role_number}
 use Rattle.usb_c.specs.Hosts.{PutsFile}
 use Rattle.usb_c.specs.Texts.{Refuses, TellsInput}
 
@@ -82,7 +82,7 @@ abbrev pub is_string : ℕ → List ℕ → Bool
 is_string n d = (length d == n) && (slice_index d 0 == n) && (slice_index d 1 == 3) && (n % 2 == 0)
 
 -- the string of which a struct says its role, its place and its length, if it stands there
-abbrev pub string_at : List ℕ → NzgDescriptor → Option (List ℕ)
+abbrev pub string_at : List ℕ → WalkedDescriptor → Option (List ℕ)
 string_at b s =
     let d = take s.length (drop s.place b) in
     if (s.role == role_number roles.Text) && is_string s.length d then Some d else None

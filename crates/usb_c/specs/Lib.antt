@@ -4,7 +4,6 @@ pub mod Captures
 pub mod Conformance
 pub mod Decoders
 pub mod DescriptorFields
-pub mod Descriptors
 pub mod Devices
 pub mod Enumerations
 pub mod Explaining
@@ -13,12 +12,9 @@ pub mod FieldLists
 pub mod FromText
 pub mod Hosts
 pub mod Remarks
-pub mod Strings
 pub mod Texts
 pub mod Words
 pub mod Transactions
 pub mod Transfers
 pub mod Writes
-pub mod WalkedEndpoints
-pub mod WalkedTrees
 pub mod inside

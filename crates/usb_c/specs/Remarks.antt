@@ -6,12 +6,12 @@ use Rattle.usb_file_data.specs.Inputs.{InputFaulty, IsInput}
 use Rattle.usb_remarks.specs.declared.remark.Remark.{Remark}
 use Rattle.usb_remarks.specs.declared.speed.SetSpeed.{SetSpeed}
 use Rattle.usb_walk.specs.Places.{part_number}
+use Rattle.usb_walk.specs.RoleNumbers.{role_number}
 use Rattle.usb_remarks.specs.Outline.{Described, outline}
 use Rattle.usb_remarks.specs.RemarkNumbers.{remark_number}
 use Rattle.usb_remarks.specs.Remarks.{remarks_on}
 use Rattle.usb_c.specs.declared.answer.Verdict.{Verdict}
 use Rattle.usb_c.specs.declared.remark.NzgRemark.{NzgRemark}
-use Rattle.usb_c.specs.Descriptors.{role_number}
 use Rattle.usb_c.specs.Texts.{Refuses, TellsInput}
 
 -- a remark by its number, with the place and the role of the descriptor on which it is

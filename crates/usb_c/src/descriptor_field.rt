@@ -2,13 +2,12 @@
 ghost use Rattle.std.specs.Prelude.{◌≡◌, ◌≤◌, ◌<◌, ◌+◌, ◌^◌, IfSome, is_some, length, option_map, slice_get, unwrap_or};
 ghost use Rattle.std.specs.Option.{option_copied};
 ghost use Rattle.usb_explain.specs.Fields.{fields_of, placed_of};
-ghost use Rattle.usb_c.specs.DescriptorFields.{bytes_in, field_at, field_of, field_numbers, name_in_place, number_of, role_in};
+ghost use Rattle.usb_c.specs.DescriptorFields.{bytes_in, field_at, field_of, field_numbers, name_in_place, number_of};
 
 use crate::buffer::fill;
-use crate::descriptor::NzgDescriptor;
 use usb_explain::{ClassCodes, Field, Fields};
 use usb_fields::{after, byte_at, prefix};
-use usb_walk::Role;
+use usb_walk::{Role, WalkedDescriptor, role_in};
 
 /// A field of a descriptor as numbers: the struct `nzg_field` of nozzlegorse.h.
 #[repr(C)]
@@ -31,7 +30,7 @@ pub struct NzgField {
 #[unsafe(no_mangle)]
 pub extern "C" fn nzg_field(
     bytes: &[u8],
-    descriptor: &NzgDescriptor,
+    descriptor: &WalkedDescriptor,
     number: usize,
     field: &mut NzgField,
 ) -> bool
@@ -47,7 +46,7 @@ pub extern "C" fn nzg_field(
     }
 }
 
-fn field_of(bytes: &[u8], descriptor: &NzgDescriptor, number: usize) -> Option<NzgField>
+fn field_of(bytes: &[u8], descriptor: &WalkedDescriptor, number: usize) -> Option<NzgField>
     ensures { result ≡ field_of bytes.now descriptor.now number }
 {
     match role_in(descriptor.role) {
@@ -59,7 +58,7 @@ fn field_of(bytes: &[u8], descriptor: &NzgDescriptor, number: usize) -> Option<N
     }
 }
 
-fn field_at(descriptor: &NzgDescriptor, number: usize, role: Role, d: &[u8]) -> Option<NzgField>
+fn field_at(descriptor: &WalkedDescriptor, number: usize, role: Role, d: &[u8]) -> Option<NzgField>
     requires least { 2 ≤ length d.now }
     requires few { length d.now < 256 }
     requires room { descriptor.now.place + length d.now < 2 ^ 64 }
@@ -128,7 +127,7 @@ fn number_of(value: &[u8]) -> u64
 }
 
 /// The bytes of a descriptor, where it is one of these.
-pub(crate) fn bytes_in<'b>(bytes: &'b [u8], d: &NzgDescriptor) -> Option<&'b [u8]>
+pub(crate) fn bytes_in<'b>(bytes: &'b [u8], d: &WalkedDescriptor) -> Option<&'b [u8]>
     ensures bytes { option_copied result ≡ bytes_in bytes.now d.now }
     ensures least { IfSome result (λ it. 2 ≤ length it.now) }
     ensures few { IfSome result (λ it. length it.now < 256) }
@@ -144,23 +143,5 @@ pub(crate) fn bytes_in<'b>(bytes: &'b [u8], d: &NzgDescriptor) -> Option<&'b [u8
         Some(prefix(ahead, length))
     } else {
         None
-    }
-}
-
-/// The role of a number, if it is one.
-pub(crate) fn role_in(number: u8) -> Option<Role>
-    ensures { result ≡ role_in number }
-{
-    match number {
-        1 => Some(Role::Device),
-        2 => Some(Role::Configuration),
-        3 => Some(Role::Interface),
-        4 => Some(Role::Endpoint),
-        5 => Some(Role::Association),
-        6 => Some(Role::Raw),
-        7 => Some(Role::Qualifier),
-        8 => Some(Role::Languages),
-        9 => Some(Role::Text),
-        _ => None,
     }
 }

@@ -7,17 +7,16 @@ ghost use Rattle.usb_c.specs.FieldLists.{field_named, fields_at, fields_in, firs
 ghost use Rattle.usb_c.specs.declared.answer.Verdict.TheVariants as verdicts;
 
 use crate::answer::{Answer, Verdict};
-use crate::descriptor::NzgDescriptor;
-use crate::descriptor_field::{NzgField, bytes_in, field_numbers, role_in};
+use crate::descriptor_field::{NzgField, bytes_in, field_numbers};
 use usb_explain::{ClassCodes, Fields};
-use usb_walk::Role;
+use usb_walk::{Role, WalkedDescriptor, role_in};
 
 /// Puts all fields of a descriptor into the buffer, in the order of the bytes. There are none where the struct is no descriptor of
 /// these bytes.
 #[unsafe(no_mangle)]
 pub extern "C" fn nzg_fields(
     bytes: &[u8],
-    descriptor: &NzgDescriptor,
+    descriptor: &WalkedDescriptor,
     fields: &mut [NzgField],
 ) -> Answer
     ensures { AnswersOn (Puts verdicts.Done (fields_in bytes.now descriptor.now) fields.old fields.new) result }
@@ -25,7 +24,7 @@ pub extern "C" fn nzg_fields(
     put_fields(bytes, descriptor, fields).answer()
 }
 
-fn put_fields(bytes: &[u8], descriptor: &NzgDescriptor, out: &mut [NzgField]) -> Verdict
+fn put_fields(bytes: &[u8], descriptor: &WalkedDescriptor, out: &mut [NzgField]) -> Verdict
     ensures { Puts verdicts.Done (fields_in bytes.now descriptor.now) out.old out.new result }
 {
     let (Some(role), Some(d)) = (role_in(descriptor.role), bytes_in(bytes, descriptor)) else {
@@ -35,7 +34,12 @@ fn put_fields(bytes: &[u8], descriptor: &NzgDescriptor, out: &mut [NzgField]) ->
 }
 
 #[tactic(auto, using(crate::proofs::FieldLists::as_many))]
-fn put_fields_of(descriptor: &NzgDescriptor, role: Role, d: &[u8], out: &mut [NzgField]) -> Verdict
+fn put_fields_of(
+    descriptor: &WalkedDescriptor,
+    role: Role,
+    d: &[u8],
+    out: &mut [NzgField],
+) -> Verdict
     requires least { 2 ≤ length d.now }
     requires few { length d.now < 256 }
     requires room { descriptor.now.place + length d.now < 2 ^ 64 }
@@ -57,7 +61,7 @@ fn count_fields(role: Role, interface: Option<ClassCodes>, d: &[u8]) -> usize
     Fields::of(role, interface, d).count()
 }
 
-fn put_all(descriptor: &NzgDescriptor, role: Role, d: &[u8], out: &mut [NzgField])
+fn put_all(descriptor: &WalkedDescriptor, role: Role, d: &[u8], out: &mut [NzgField])
     requires least { 2 ≤ length d.now }
     requires few { length d.now < 256 }
     requires place { descriptor.now.place + length d.now < 2 ^ 64 }
@@ -76,7 +80,7 @@ fn put_all(descriptor: &NzgDescriptor, role: Role, d: &[u8], out: &mut [NzgField
 #[unsafe(no_mangle)]
 pub extern "C" fn nzg_field_named(
     bytes: &[u8],
-    descriptor: &NzgDescriptor,
+    descriptor: &WalkedDescriptor,
     name: &[u8],
     field: &mut NzgField,
 ) -> bool
@@ -92,7 +96,7 @@ pub extern "C" fn nzg_field_named(
     }
 }
 
-fn field_named(bytes: &[u8], descriptor: &NzgDescriptor, name: &[u8]) -> Option<NzgField>
+fn field_named(bytes: &[u8], descriptor: &WalkedDescriptor, name: &[u8]) -> Option<NzgField>
     ensures { result ≡ field_named bytes.now descriptor.now name.now }
 {
     let (Some(role), Some(d)) = (role_in(descriptor.role), bytes_in(bytes, descriptor)) else {
@@ -101,7 +105,7 @@ fn field_named(bytes: &[u8], descriptor: &NzgDescriptor, name: &[u8]) -> Option<
     first_named(descriptor, role, d, name)
 }
 
-fn first_named(descriptor: &NzgDescriptor, role: Role, d: &[u8], name: &[u8]) -> Option<NzgField>
+fn first_named(descriptor: &WalkedDescriptor, role: Role, d: &[u8], name: &[u8]) -> Option<NzgField>
     requires least { 2 ≤ length d.now }
     requires few { length d.now < 256 }
     requires room { descriptor.now.place + length d.now < 2 ^ 64 }

@@ -9,13 +9,12 @@ ghost use Rattle.usb_c.specs.declared.answer.Verdict.TheVariants as verdicts;
 
 use crate::answer::{Answer, Verdict, refused_input};
 use crate::buffer::fill_done;
-use crate::walk::role_number;
 use std::alloc::Global;
 use usb_file::{Input, read_input};
 use usb_file_data::{Found, Rule, found_in_order};
 use usb_remarks::laws::each_finding_is_reported_once;
 use usb_remarks::{Descriptor, Outline};
-use usb_walk::part_number;
+use usb_walk::{part_number, role_number};
 
 /// A broken rule at the descriptor that breaks it: the struct `nzg_finding` of nozzlegorse.h.
 #[repr(C)]

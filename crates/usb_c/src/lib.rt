@@ -6,8 +6,8 @@
 //! strings are `specs/Facts.antt`; what is remarked of them is `specs/Remarks.antt`.
 //!
 //! `nzg_next` goes from a descriptor to the next one, and `nzg_field` gives its fields, as numbers in the caller's structs and without
-//! memory: `specs/Descriptors.antt`, `specs/DescriptorFields.antt`. [`laws`] says which descriptors those are. So are a transfer and a
-//! write: `specs/Transfers.antt`, `specs/Writes.antt`. A device is numbers too, [`EndpointZero`], beside an image and a room that each
+//! memory: [`WalkedDescriptor`] of `usb_walk`, `specs/DescriptorFields.antt`. `usb_remarks::laws` says which descriptors those are. So
+//! are a transfer and a write: `specs/Transfers.antt`, `specs/Writes.antt`. A device is numbers too, [`EndpointZero`], beside an image and a room that each
 //! call is lent: `specs/Devices.antt`.
 //!
 //! `nzg_find` is what stands first among any bytes, whole sets and device descriptors, and `nzg_find_all` all of it: `usb_find`.
@@ -29,7 +29,6 @@ mod capture_item;
 mod conformance;
 mod decoder;
 mod decoder_handle;
-mod descriptor;
 mod descriptor_field;
 mod device;
 mod device_owner;
@@ -55,7 +54,6 @@ mod recorded;
 mod remark;
 mod remark_text;
 mod step;
-mod string_place;
 mod string_text;
 mod taken;
 mod text;
@@ -77,7 +75,6 @@ pub use capture_handle::NzgCapture;
 pub use conformance::{NzgOpenTransfer, nzg_judge_acked, nzg_judge_device};
 pub use decoder::{nzg_decoder_close, nzg_decoder_feed, nzg_decoder_list, nzg_decoder_open};
 pub use decoder_handle::NzgDecoder;
-pub use descriptor::NzgDescriptor;
 pub use descriptor_field::{NzgField, nzg_field};
 pub use device::{nzg_device_acked, nzg_device_image, nzg_device_reset, nzg_device_serve};
 pub use device_owner::{
@@ -112,6 +109,7 @@ pub use transfer::{nzg_transfer_next, nzg_transfer_open, nzg_transfer_take};
 pub use transfer_numbers::NzgTransfer;
 pub use trouble_text::nzg_trouble_text;
 pub use usb_device::EndpointZero;
+pub use usb_walk::WalkedDescriptor;
 pub use walk::nzg_next;
 pub use with_strings::nzg_with_strings;
 pub use write::{NzgWrite, nzg_write_next, nzg_write_open, nzg_write_take};

@@ -11,12 +11,11 @@ ghost use Rattle.usb_c.specs.declared.answer.Verdict.TheVariants as verdicts;
 use crate::answer::{Answer, Verdict, refused_input};
 use crate::buffer::fill_done;
 use crate::text::running_speed;
-use crate::walk::role_number;
 use std::alloc::{AllocError, Global};
 use usb_file::{Input, read_input};
 use usb_file_data::found_in_order;
 use usb_remarks::{Descriptor, Outline, Remark, SetSpeed};
-use usb_walk::part_number;
+use usb_walk::{part_number, role_number};
 
 /// A remark on a descriptor, which breaks no rule: the struct `nzg_remark` of nozzlegorse.h.
 #[repr(C)]

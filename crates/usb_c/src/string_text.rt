@@ -8,10 +8,10 @@ ghost use Rattle.usb_c.specs.declared.answer.Verdict.TheVariants as verdicts;
 
 use crate::answer::{Answer, Verdict};
 use crate::buffer::fill_done;
-use crate::descriptor::NzgDescriptor;
 use std::alloc::{AllocError, Global};
 use usb_fields::{after, byte_at, descriptor_type, prefix};
 use usb_text::{Text, put_units_in};
+use usb_walk::WalkedDescriptor;
 
 /// The number of the role of a string.
 const STRING: u8 = 9;
@@ -22,7 +22,7 @@ const STRING: u8 = 9;
 pub extern "C" fn nzg_text(
     alloc: Global,
     bytes: &[u8],
-    string: &NzgDescriptor,
+    string: &WalkedDescriptor,
     text: &mut [u8],
 ) -> Answer
     ensures { AnswersOn (TellsString (string_at bytes.now string.now) text.old text.new) result }
@@ -31,7 +31,7 @@ pub extern "C" fn nzg_text(
 }
 
 /// The string descriptor of which a struct says its role, its place and its length, if it stands there.
-fn string_at<'b>(bytes: &'b [u8], string: &NzgDescriptor) -> Option<&'b [u8]>
+fn string_at<'b>(bytes: &'b [u8], string: &WalkedDescriptor) -> Option<&'b [u8]>
     ensures { option_copied result ≡ string_at bytes.now string.now }
 {
     let d = prefix(after(bytes, string.place), usize::from(string.length));

@@ -8,3 +8,4 @@ pub mod FieldSteps
 pub mod FieldsCover
 pub mod RemarksShown
 pub mod RemarksCounted
+pub mod StringsShown

@@ -21,4 +21,5 @@ pub mod Fields
 pub mod FieldLaws
 pub mod FindingLines
 pub mod RemarkLines
+pub mod WalkedStrings
 pub mod inside

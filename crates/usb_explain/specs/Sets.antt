@@ -3,7 +3,7 @@ use Rattle.std.specs.Prelude.{ℕ, List, ◌++◌, slice_index, ◌+◌, ◌-◌
 use Rattle.usb_fields.specs.Bytes.{big_endian, little_endian_at}
 use Rattle.usb_text.specs.Characters.{units_in}
 use Rattle.usb_text.specs.Shown.{Shown, Bytes, Number, Units}
-use Rattle.usb_explain.specs.declared.string_names.StringPlace.{StringPlace}
+use Rattle.usb_walk.specs.declared.string_place.StringPlace.{StringPlace}
 use Rattle.usb_remarks.specs.declared.speed.SetSpeed.{SetSpeed}
 use Rattle.usb_explain.specs.Names.{class_names, function_class_names}
 use Rattle.usb_remarks.specs.Power.{milliamperes}

@@ -4,7 +4,7 @@ use Rattle.usb_file_data.specs.declared.file.Strings.{Strings}
 use Rattle.usb_file_data.specs.declared.file.Input.{Input}
 use Rattle.usb_file_data.specs.declared.file.Input.TheVariants as inputs
 use Rattle.usb_file_data.specs.declared.fault.InputFault.{InputFault}
-use Rattle.usb_explain.specs.declared.string_names.StringPlace.{StringPlace}
+use Rattle.usb_walk.specs.declared.string_place.StringPlace.{StringPlace}
 use Rattle.usb_explain.specs.declared.string_names.Missing.TheVariants.{NotInInput, NotRead}
 use Rattle.usb_explain.specs.StringNames.{StringNames, names_of, no_names}
 use Rattle.usb_explain.specs.declared.manner.Manner.{Manner}

@@ -2,6 +2,7 @@
 ghost use Rattle.usb_explain.specs.FieldLaws.{AllFieldsHaveAllBytes};
 ghost use Rattle.usb_explain.specs.Fragments.{AllFragmentBytesOnce};
 ghost use Rattle.usb_explain.specs.Laws.{AllSayLineOfFault, BriefLeavesOutFields};
+ghost use Rattle.usb_explain.specs.WalkedStrings.{WalkIsAsExplained};
 
 /// Each byte of a fragment is in one descriptor: its descriptors follow each other from the first byte on, each at its place, and
 /// then comes the rest.
@@ -25,4 +26,9 @@ pub fn a_brief_explanation_leaves_out_the_fields()
 /// without bytes, and have just the bytes from the place of the first one up to the end of the descriptor.
 pub fn each_byte_of_a_descriptor_is_in_one_field()
     ensures { AllFieldsHaveAllBytes }
+{}
+
+/// By their numbers, the strings of the walk over an input have the indices and the languages that its explanation shows.
+pub fn strings_are_placed_as_explained()
+    ensures { WalkIsAsExplained }
 {}

@@ -8,6 +8,7 @@ ghost use Rattle.usb_explain.specs.Subjects.{place_among, place_by};
 use std::alloc::Global;
 use std::marker::Model;
 use usb_file_data::{DescriptorFile, NoMemory, Strings, named};
+use usb_walk::StringPlace;
 
 /// Why the string of an index isn't there.
 #[derive(Clone, Copy, Debug, PartialEq, Eq, Hash)]
@@ -16,15 +17,6 @@ pub(crate) enum Missing {
     NotInInput,
     /// The input is broken, and its strings aren't read.
     NotRead,
-}
-
-/// The place of a string among those of a file.
-#[derive(Clone, Copy, Debug, PartialEq, Eq, Hash)]
-pub(crate) struct StringPlace {
-    /// The index that names it.
-    pub(crate) index: u8,
-    /// Its language.
-    pub(crate) language: u16,
 }
 
 /// The strings of an input by their indices, in its first language.

@@ -4,10 +4,11 @@ ghost use Rattle.usb_explain.specs.Fragments.{subject_alone};
 ghost use Rattle.usb_explain.specs.Subjects.{names_in, place_of, subject_of};
 
 use crate::manner::Manner;
-use crate::string_names::{Missing, Names, StringPlace, string_place};
+use crate::string_names::{Missing, Names, string_place};
 use std::alloc::{AllocError, Global};
 use std::marker::Model;
 use usb_file_data::{Input, InputFault};
+use usb_walk::StringPlace;
 
 /// What is explained, and what is known of the whole of it.
 #[derive(Drop)]

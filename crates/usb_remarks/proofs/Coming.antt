@@ -16,7 +16,7 @@ use Rattle.usb_remarks.specs.Standings.{start}
 use Rattle.usb_walk.specs.Trees.{descriptor_length, descriptors}
 use Rattle.usb_remarks.specs.inside.Coming.{Awaits, Counts, interfaces_of}
 use Rattle.usb_walk.proofs.Cuts.{descriptors_step, length_within}
-use Rattle.usb_remarks.proofs.Outlines.{next_says}
+use Rattle.usb_walk.proofs.NextRoles.{next_says}
 
 -- ---- one comes where there is one to come
 

@@ -3,6 +3,7 @@ pub mod Classes
 pub mod Coming
 pub mod EndpointSteps
 pub mod EndpointsShown
+pub mod EndpointWalks
 pub mod NumberSteps
 pub mod Open
 pub mod Outlines
@@ -12,4 +13,5 @@ pub mod Spans
 pub mod Standings
 pub mod Tables
 pub mod Telling
+pub mod WalkedOutlines
 pub mod rest

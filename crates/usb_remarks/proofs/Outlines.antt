@@ -1,114 +1,42 @@
 -- An outline, descriptor by descriptor.
-use Rattle.std.proofs.Common.{◌≡◌, ◌≤◌, ◌<◌, ℕ, zero, suc, ◌+◌, ◌-◌, List, [], ◌∷◌, ◌++◌, flat_map, length, map, take, drop, Option, Some, None, unwrap_or, option_and_then, refl, sym, ap, ◌∙◌, arith, length-drop}
-use Rattle.std.specs.Option.{option_map}
-use Rattle.std.proofs.lemmas.Option.{none-some}
-use Rattle.std.proofs.lemmas.List.{length-take-le}
+use Rattle.std.proofs.Common.{◌≡◌, ◌<◌, inl, inr, ℕ, ◌+◌, List, [], ◌∷◌, ◌++◌, flat_map, length, map, take, drop, Option, Some, None, refl, ap, arith, length-drop}
 use Rattle.usb_file_data.specs.declared.cause.Found.{Found}
 use Rattle.usb_walk.specs.declared.role.Role.{Role}
 use Rattle.usb_remarks.specs.declared.speed.SetSpeed.{SetSpeed}
-use Rattle.usb_walk.specs.declared.position.Position.{Position}
 use Rattle.usb_remarks.specs.declared.standing.Standing.{Standing}
 use Rattle.usb_walk.specs.Surroundings.{depth_of}
 use Rattle.usb_remarks.specs.OutlineLaws.{Span, as_in_tree, span_of}
-use Rattle.usb_remarks.specs.Outline.{Entry, after_next, bytes_of, describe, entries_from, entry_next, findings_of, first_entries, here, left_next, outline_from}
+use Rattle.usb_remarks.specs.Outline.{Ahead, Entry, after_next, bytes_of, describe, entry_next, findings_of, here, left_next, next_ahead, outline_from, pass_ahead}
 use Rattle.usb_walk.specs.Owners.{owner_of}
-use Rattle.usb_walk.specs.Roles.{next_role, role_of}
-use Rattle.usb_walk.specs.Trees.{TreeDescriptor, descriptor_length, tree_descriptor}
+use Rattle.usb_walk.specs.Roles.{next_role}
+use Rattle.usb_walk.specs.Trees.{TreeDescriptor, tree_descriptor}
 use Rattle.usb_remarks.specs.Standings.{AreCounted}
 use Rattle.usb_remarks.proofs.Standings.{counted_entered}
-use Rattle.usb_walk.proofs.Cuts.{length_within}
-use Rattle.usb_walk.proofs.Positions.{counted_noted, noted_at, same_at}
-
--- ---- the length of a descriptor
-
-some_length : (r : Role) (n : ℕ) (next : Role × ℕ) → Some (r, n) ≡ Some next → n ≡ next.1
-some_length r n next e = ap (λ (o : Option (Role × ℕ)). unwrap_or (option_map (λ next. next.1) o) n) e
-
-role_length : (role : Option Role) (n : ℕ) (next : Role × ℕ) → option_map (λ role. (role, n)) role ≡ Some next → n ≡ next.1
-role_length None n next e = absurd (none-some next e)
-role_length (Some r) n next e = some_length r n next e
-
-next_length : (p : Position) (ahead : List ℕ) (len : Option ℕ) (next : Role × ℕ)
-    → option_and_then (λ n. option_map (λ role. (role, n)) (role_of p (take n ahead))) len ≡ Some next → len ≡ Some next.1
-next_length p ahead None next e = absurd (none-some next e)
-next_length p ahead (Some n) next e = ap Some (role_length (role_of p (take n ahead)) n next e)
-
--- it is what its first byte says
-pub next_says : (p : Position) (ahead : List ℕ) (next : Role × ℕ) → next_role p ahead ≡ Some next → descriptor_length ahead ≡ Some next.1
-unfolding next_role
-next_says p ahead next e = next_length p ahead (descriptor_length ahead) next e
-
--- a descriptor has two bytes at least, and no more than there are
-pub next_bounds : (p : Position) (ahead : List ℕ) (next : Role × ℕ) → next_role p ahead ≡ Some next → (2 ≤ next.1) × (next.1 ≤ length ahead)
-next_bounds p ahead next e = length_within ahead next.1 (next_says p ahead next e)
+use Rattle.usb_walk.proofs.NextRoles.{next_bounds}
+use Rattle.usb_walk.proofs.Positions.{counted_noted}
+use Rattle.usb_walk.proofs.Unfolded.{unfolded_enough, unfolded_none}
+use Rattle.usb_walk.proofs.WalkSteps.{step_of}
 
 -- ---- one step
 
--- where a descriptor can stand, it comes first
-pub entries_next : (n : ℕ) (running : Option SetSpeed) (s : Standing) (found : List Found) (ahead : List ℕ) (next : Role × ℕ) → next_role s.position ahead ≡ Some next
-    → first_entries (suc n) running s found ahead
-    ≡ entry_next running s found ahead next ∷ first_entries n running (after_next running s ahead next) (left_next running s found ahead next) (drop next.1 ahead)
-unfolding first_entries
-entries_next n running s found ahead next e =
-    ap (λ o. unwrap_or
-    (option_map
-    (λ next. entry_next running s found ahead next ∷ first_entries n running (after_next running s ahead next) (left_next running s found ahead next) (drop next.1 ahead))
-    o) []) e
-
--- where none can, none comes
-pub entries_none : (n : ℕ) (running : Option SetSpeed) (s : Standing) (found : List Found) (ahead : List ℕ) → next_role s.position ahead ≡ None
-    → first_entries n running s found ahead ≡ []
-unfolding first_entries
-entries_none zero running s found ahead e = refl
-entries_none (suc n) running s found ahead e =
-    ap (λ o. unwrap_or
-    (option_map
-    (λ next. entry_next running s found ahead next ∷ first_entries n running (after_next running s ahead next) (left_next running s found ahead next) (drop next.1 ahead))
-    o) []) e
-
--- more than enough is the same
-same_by : (n m : ℕ) (running : Option SetSpeed) (s : Standing) (found : List Found) (ahead : List ℕ) (o : Option (Role × ℕ)) → next_role s.position ahead ≡ o
-    → length ahead ≤ n → length ahead ≤ m → first_entries n running s found ahead ≡ first_entries m running s found ahead
-same_by n m running s found ahead None e p q = entries_none n running s found ahead e ∙ sym (entries_none m running s found ahead e)
-same_by zero m running s found ahead (Some next) e p q = let b = next_bounds s.position ahead next e in absurd (omega (arith, b.0, b.1))
-same_by (suc n) zero running s found ahead (Some next) e p q = let b = next_bounds s.position ahead next e in absurd (omega (arith, b.0, b.1))
-same_by (suc n) (suc m) running s found ahead (Some next) e p q =
-    let b = next_bounds s.position ahead next e in
-    let left : length (drop next.1 ahead) ≡ length ahead - next.1 = length-drop next.1 ahead in
-    let t = after_next running s ahead next in
-    let fs = left_next running s found ahead next in
-    let rest = drop next.1 ahead in
-    entries_next n running s found ahead next e
-    ∙ ap (λ l. entry_next running s found ahead next ∷ l)
-    (same_by n m running t fs rest (next_role t.position rest) refl (omega (arith, b.0, b.1, left)) (omega (arith, b.0, b.1, left)))
-    ∙ sym (entries_next m running s found ahead next e)
-
--- the first descriptor of those in some bytes, and those behind it
-first_of : (n : ℕ) (running : Option SetSpeed) (s : Standing) (found : List Found) (ahead : List ℕ) (next : Role × ℕ) → next_role s.position ahead ≡ Some next → length ahead ≤ n
-    → first_entries n running s found ahead
-    ≡ entry_next running s found ahead next ∷ entries_from running (after_next running s ahead next) (left_next running s found ahead next) (drop next.1 ahead)
-first_of zero running s found ahead next e p = let b = next_bounds s.position ahead next e in absurd (omega (arith, b.0, b.1))
-first_of (suc n) running s found ahead next e p =
-    let b = next_bounds s.position ahead next e in
-    let left : length (drop next.1 ahead) ≡ length ahead - next.1 = length-drop next.1 ahead in
-    let t = after_next running s ahead next in
-    let fs = left_next running s found ahead next in
-    let rest = drop next.1 ahead in
-    entries_next n running s found ahead next e
-    ∙ ap (λ l. entry_next running s found ahead next ∷ l)
-    (same_by n (length rest) running t fs rest (next_role t.position rest) refl (omega (arith, b.0, b.1, left)) (omega arith))
+-- a descriptor has two bytes at least
+fewer_ahead : (running : Option SetSpeed) (here : Ahead) (next : Role × ℕ) → next_ahead here ≡ Some next → length (drop next.1 here.2) < length here.2
+fewer_ahead running here next e =
+    let b = next_bounds here.0.position here.2 next e in
+    omega (arith, b.0, b.1, length-drop next.1 here.2)
 
 pub outline_next : (running : Option SetSpeed) (s : Standing) (found : List Found) (ahead : List ℕ) (next : Role × ℕ) → next_role s.position ahead ≡ Some next
     → outline_from running s found ahead
     ≡ describe running (entry_next running s found ahead next) ∷ outline_from running (after_next running s ahead next) (left_next running s found ahead next) (drop next.1 ahead)
-outline_next running s found ahead next e = ap (λ l. map (describe running) l) (first_of (length ahead) running s found ahead next e (omega arith))
+outline_next running s found ahead next e =
+    ap (λ l. map (describe running) l)
+    (unfolded_enough next_ahead (pass_ahead running) (λ here. length here.2) (fewer_ahead running) (length ahead) (s, found, ahead) next e (omega arith))
 
 pub outline_none : (running : Option SetSpeed) (s : Standing) (found : List Found) (ahead : List ℕ) → next_role s.position ahead ≡ None → outline_from running s found ahead ≡ []
-outline_none running s found ahead e = ap (λ l. map (describe running) l) (entries_none (length ahead) running s found ahead e)
+outline_none running s found ahead e = ap (λ l. map (describe running) l) (unfolded_none next_ahead (pass_ahead running) (length ahead) (s, found, ahead) (inr e))
 
 pub outline_nil : (running : Option SetSpeed) (s : Standing) (found : List Found) → outline_from running s found [] ≡ []
-unfolding first_entries
-outline_nil running s found = refl
+outline_nil running s found = ap (λ l. map (describe running) l) (unfolded_none next_ahead (pass_ahead running) 0 (s, found, []) (inl refl))
 
 -- from the same state the same is left
 pub left_same : (running : Option SetSpeed) (s t : Standing) (fs gs : List Found) (a b : List ℕ) → s ≡ t → fs ≡ gs → a ≡ b
@@ -117,27 +45,24 @@ left_same running s t fs gs a b e f g = cc
 
 -- ---- what is kept from one descriptor to the next
 
-pub stays_counted : (running : Option SetSpeed) (s : Standing) (ahead : List ℕ) (next : Role × ℕ) → AreCounted s → 2 ≤ next.1 → next.1 ≤ length ahead
+pub stays_counted : (running : Option SetSpeed) (s : Standing) (ahead : List ℕ) (next : Role × ℕ) → next_role s.position ahead ≡ Some next → AreCounted s
     → AreCounted (after_next running s ahead next)
-stays_counted running s ahead next counted least most =
-    let taken : length (take next.1 ahead) ≡ next.1 = length-take-le next.1 ahead most in
-    let here_counted = counted_entered next.0 running ahead s counted in
-    let at : (after_next running s ahead next).position.at ≡ (here running s ahead next).position.at + length (take next.1 ahead) =
-    ap (λ k. k + length (take next.1 ahead)) (noted_at next.0 (take next.1 ahead) (here running s ahead next).position) in
+stays_counted running s ahead next e counted =
+    let step = step_of s.position ahead next e in
+    let entered = counted_entered next.0 running ahead s counted in
+    let place : (here running s ahead next).position.at ≡ s.position.at = step.place in
+    let at : (after_next running s ahead next).position.at ≡ s.position.at + next.1 = step.at in
     record {
-      in_position = counted_noted next.0 (take next.1 ahead) (length (take next.1 ahead)) (here running s ahead next).position (omega (arith, taken, least)) here_counted.in_position;
-      descriptors = omega (arith, at, taken, least, here_counted.descriptors);
+      in_position = counted_noted next.0 (take next.1 ahead) (length (take next.1 ahead)) (here running s ahead next).position (omega (arith, step.taken, step.least)) entered.in_position;
+      descriptors = omega (arith, at, place, step.least, entered.descriptors);
     }
 
-pub stays_room : (running : Option SetSpeed) (s : Standing) (ahead : List ℕ) (next : Role × ℕ) → next.1 ≤ length ahead → s.position.at + length ahead < 9223372036854775808
+pub stays_room : (running : Option SetSpeed) (s : Standing) (ahead : List ℕ) (next : Role × ℕ) → next_role s.position ahead ≡ Some next → s.position.at + length ahead < 9223372036854775808
     → (after_next running s ahead next).position.at + length (drop next.1 ahead) < 9223372036854775808
-stays_room running s ahead next most room =
-    let taken : length (take next.1 ahead) ≡ next.1 = length-take-le next.1 ahead most in
-    let left : length (drop next.1 ahead) ≡ length ahead - next.1 = length-drop next.1 ahead in
-    let noted : (after_next running s ahead next).position.at ≡ (here running s ahead next).position.at + length (take next.1 ahead) =
-    ap (λ k. k + length (take next.1 ahead)) (noted_at next.0 (take next.1 ahead) (here running s ahead next).position) in
-    let entered : (here running s ahead next).position.at ≡ s.position.at = same_at next.0 ahead s.position in
-    omega (arith, taken, left, noted, entered, most, room)
+stays_room running s ahead next e room =
+    let step = step_of s.position ahead next e in
+    let at : (after_next running s ahead next).position.at ≡ s.position.at + next.1 = step.at in
+    omega (arith, at, length-drop next.1 ahead, step.most, room)
 
 -- ---- what an outline says of its descriptors
 

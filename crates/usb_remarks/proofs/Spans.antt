@@ -1,48 +1,26 @@
 -- The descriptors of a walk, and where they stand.
-use Rattle.std.proofs.Common.{◌≡◌, ◌≤◌, ℕ, zero, suc, ◌+◌, List, [], ◌∷◌, ◌++◌, ◌||◌, if◌then◌else◌, nat_lt, flat_map, length, map, slice_index, take, drop, Option, Some, None, refl, sym, ap, subst, ◌∙◌, arith, append_assoc, length-append}
+use Rattle.std.proofs.Common.{◌≡◌, ◌≤◌, ℕ, ◌+◌, List, [], ◌∷◌, ◌++◌, flat_map, length, map, take, drop, Option, Some, refl, sym, ap, ap₂, subst, ◌∙◌, arith, append_assoc, length-append}
 use Rattle.std.specs.List.{AllByRecursion}
-use Rattle.std.proofs.lemmas.Bool.Decides.{nat_tests}
-use Rattle.std.proofs.lemmas.Option.{none-some}
-use Rattle.std.proofs.lemmas.List.{length-take-le, take-append-drop}
+use Rattle.std.proofs.lemmas.List.{take-append-drop}
 use Rattle.std.proofs.Math.Seq.{drop-append_seam}
-use Rattle.usb_walk.specs.Trees.{descriptor_length, TreeDescriptor}
+use Rattle.usb_walk.specs.Trees.{TreeDescriptor}
 use Rattle.usb_walk.specs.declared.role.Role.{Role}
-use Rattle.usb_walk.specs.declared.position.Position.{Position}
 use Rattle.usb_remarks.specs.declared.standing.Standing.{Standing}
-use Rattle.usb_remarks.specs.Outline.{Entry, after_next, bytes_of, end_of, entries, entry_next, findings_of, first_entries, here, left_next, outline}
+use Rattle.usb_remarks.specs.Outline.{Entry, after_next, bytes_of, end_of, entries, entry_next, findings_of, first_entries, here, left_next, next_ahead, outline, pass_ahead}
 use Rattle.usb_remarks.specs.Findings.{found_at}
 use Rattle.usb_remarks.specs.OutlineLaws.{AllEachByteOnce, AreNumbered, Cut, Follow, HasItsOwnFindings, span_of}
 use Rattle.usb_walk.specs.Roles.{next_role}
 use Rattle.usb_remarks.specs.Standings.{start}
 use Rattle.usb_remarks.specs.declared.speed.SetSpeed.{SetSpeed}
 use Rattle.usb_file_data.specs.declared.cause.Found.{Found}
-use Rattle.usb_remarks.proofs.Outlines.{bytes_same, entries_next, entries_none, entry_in_tree, entry_span, next_bounds, next_says, spans_same}
-use Rattle.usb_walk.proofs.Positions.{noted_at, same_at}
+use Rattle.usb_remarks.proofs.Outlines.{bytes_same, entry_in_tree, entry_span, spans_same}
+use Rattle.usb_walk.proofs.Unfolded.{by_each_step}
+use Rattle.usb_walk.proofs.WalkSteps.{step_of}
 use Rattle.usb_remarks.proofs.Standings.{looked_number, start_at}
 use Rattle.usb_remarks.proofs.Telling.{are_numbered, found_front}
 
--- its two tests
-length_if : (len m n : ℕ) → (if nat_lt len 2 || nat_lt m len then None else Some len) ≡ Some n → (2 ≤ n) × (n ≤ m) × (len ≡ n)
-length_if len m n e = grind (arith, nat_tests)
-
--- the first byte of a descriptor is its length
-first_byte : (k len : ℕ) (rest : List ℕ) → 2 ≤ k → slice_index (take k (len ∷ rest)) 0 ≡ len
-first_byte zero len rest some = absurd (omega arith)
-first_byte (suc k) len rest some = refl
-
-length_first : (b : List ℕ) (n : ℕ) → descriptor_length b ≡ Some n → slice_index (take n b) 0 ≡ n
-length_first [] n e = absurd (none-some n e)
-length_first (len ∷ rest) n e =
-    let bounds = length_if len (length rest + 1) n e in
-    first_byte n len rest bounds.0 ∙ bounds.2
-
-pub next_first : (p : Position) (ahead : List ℕ) (next : Role × ℕ) → next_role p ahead ≡ Some next → slice_index (take next.1 ahead) 0 ≡ next.1
-next_first p ahead next e = length_first ahead next.1 (next_says p ahead next e)
-
 -- What a walk shows from here on.
-pub record Walk (running : Option SetSpeed) (n : ℕ) (s : Standing) (found : List Found) (ahead : List ℕ) : Type 0 where
-  pub shown : List Entry
-  pub is : first_entries n running s found ahead ≡ shown
+pub record Walk (s : Standing) (found : List Found) (ahead : List ℕ) (shown : List Entry) : Type 0 where
   pub rest : List ℕ
   pub end : ℕ
   pub cut : Cut ahead shown rest
@@ -51,49 +29,35 @@ pub record Walk (running : Option SetSpeed) (n : ℕ) (s : Standing) (found : Li
   pub tells : flat_map findings_of shown ++ left ≡ found
   pub numbered : AreNumbered s.descriptors shown
 
-walk_none : (running : Option SetSpeed) (n : ℕ) (s : Standing) (found : List Found) (ahead : List ℕ) → first_entries n running s found ahead ≡ []
-    → Walk running n s found ahead
-walk_none running n s found ahead e = record { shown = []; is = e; rest = ahead; end = s.position.at; cut = refl; spans = refl; left = found; tells = refl; numbered = tt }
+walk_none : (s : Standing) (found : List Found) (ahead : List ℕ) → Walk s found ahead []
+walk_none s found ahead = record { rest = ahead; end = s.position.at; cut = refl; spans = refl; left = found; tells = refl; numbered = tt }
 
-walk_more : (running : Option SetSpeed) (n : ℕ) (s : Standing) (found : List Found) (ahead : List ℕ) (next : Role × ℕ) → next_role s.position ahead ≡ Some next
-    → Walk running n (after_next running s ahead next) (left_next running s found ahead next) (drop next.1 ahead) → Walk running (suc n) s found ahead
-walk_more running n s found ahead next e w =
-    let bounds = next_bounds s.position ahead next e in
-    let taken : length (take next.1 ahead) ≡ next.1 = length-take-le next.1 ahead bounds.1 in
+walk_more : (running : Option SetSpeed) (s : Standing) (found : List Found) (ahead : List ℕ) (next : Role × ℕ) (shown : List Entry) → next_role s.position ahead ≡ Some next
+    → Walk (after_next running s ahead next) (left_next running s found ahead next) (drop next.1 ahead) shown → Walk s found ahead (entry_next running s found ahead next ∷ shown)
+walk_more running s found ahead next shown e w =
+    let step = step_of s.position ahead next e in
     let number : (here running s ahead next).descriptors ≡ s.descriptors = looked_number next.0 running ahead s in
-    let at_here : (here running s ahead next).position.at ≡ s.position.at = same_at next.0 ahead s.position in
     let mine = found_at (here running s ahead next) found in
     let at_after : (after_next running s ahead next).position.at ≡ s.position.at + length (take next.1 ahead) =
-    ap (λ k. k + length (take next.1 ahead)) (noted_at next.0 (take next.1 ahead) (here running s ahead next).position ∙ at_here) in
+    step.at ∙ ap (λ k. s.position.at + k) (sym step.taken) in
     record {
-      shown = entry_next running s found ahead next ∷ w.shown;
-      is = entries_next n running s found ahead next e ∙ ap (λ l. entry_next running s found ahead next ∷ l) w.is;
       rest = w.rest;
       end = w.end;
-      cut = (sym (take-append-drop next.1 ahead), next_first s.position ahead next e ∙ sym taken, w.cut);
-      spans = (at_here, omega (arith, taken, bounds.0), subst (λ k. Follow k (map entry_span w.shown) w.end) at_after w.spans);
+      cut = (sym (take-append-drop next.1 ahead), step.first ∙ sym step.taken, w.cut);
+      spans = (step.place, omega (arith, step.taken, step.least), subst (λ k. Follow k (map entry_span shown) w.end) at_after w.spans);
       left = w.left;
-      tells = append_assoc mine (flat_map findings_of w.shown) w.left ∙ ap (λ l. mine ++ l) w.tells ∙ found_front (here running s ahead next) found;
+      tells = append_assoc mine (flat_map findings_of shown) w.left ∙ ap (λ l. mine ++ l) w.tells ∙ found_front (here running s ahead next) found;
       numbered = (
         subst (λ k. AllByRecursion (λ f. f.descriptor ≡ k) mine) number (are_numbered (here running s ahead next) found),
-        subst (λ k. AreNumbered k w.shown) (ap (λ k. k + 1) number) w.numbered,
+        subst (λ k. AreNumbered k shown) (ap (λ k. k + 1) number) w.numbered,
       );
     }
 
-walk_by : (running : Option SetSpeed) (n : ℕ) (s : Standing) (found : List Found) (ahead : List ℕ) (next : Option (Role × ℕ)) → next_role s.position ahead ≡ next
-    → ((s : Standing) (found : List Found) (ahead : List ℕ) → Walk running n s found ahead) → Walk running (suc n) s found ahead
-walk_by running n s found ahead None e onward = walk_none running (suc n) s found ahead (entries_none (suc n) running s found ahead e)
-walk_by running n s found ahead (Some next) e onward =
-    walk_more running n s found ahead next e (onward (after_next running s ahead next) (left_next running s found ahead next) (drop next.1 ahead))
-
-walk_zero : (running : Option SetSpeed) (s : Standing) (found : List Found) (ahead : List ℕ) → first_entries zero running s found ahead ≡ []
-unfolding first_entries
-walk_zero running s found ahead = refl
-
 -- each walk shows descriptors one after another
-pub walk_shows : (running : Option SetSpeed) (n : ℕ) (s : Standing) (found : List Found) (ahead : List ℕ) → Walk running n s found ahead
-walk_shows running zero s found ahead = walk_none running zero s found ahead (walk_zero running s found ahead)
-walk_shows running (suc n) s found ahead = walk_by running n s found ahead (next_role s.position ahead) refl (walk_shows running n)
+pub walk_shows : (n : ℕ) (running : Option SetSpeed) (s : Standing) (found : List Found) (ahead : List ℕ) → Walk s found ahead (first_entries n running s found ahead)
+walk_shows n running s found ahead =
+    by_each_step next_ahead (pass_ahead running) (λ n here shown. Walk here.0 here.1 here.2 shown)
+    (λ n here none. walk_none here.0 here.1 here.2) (λ n here next shown is w. walk_more running here.0 here.1 here.2 next shown is w) n (s, found, ahead)
 
 -- what is said of a walk: of the bytes that are left, and of its descriptors
 abbrev pub Aim : Type 1
@@ -104,29 +68,23 @@ abbrev pub adding : Aim → List TreeDescriptor → Aim
 adding E before = λ rest c. E rest (before ++ c)
 
 -- a walk of which this holds, whose descriptors have their own findings, and which comes to the end of these
-pub record Ended (E : Aim) (running : Option SetSpeed) (n : ℕ) (s : Standing) (found : List Found) (ahead : List ℕ) : Type 0 where
-  pub walk : Walk running n s found ahead
-  pub aimed : E walk.rest (map entry_in_tree walk.shown)
-  pub own : AllByRecursion HasItsOwnFindings walk.shown
+pub record Ended (E : Aim) (s : Standing) (found : List Found) (ahead : List ℕ) (shown : List Entry) : Type 0 where
+  pub walk : Walk s found ahead shown
+  pub aimed : E walk.rest (map entry_in_tree shown)
+  pub own : AllByRecursion HasItsOwnFindings shown
   pub all_reported : walk.left ≡ []
 
--- where no bytes are, no descriptor can stand
-none_of_nothing : (s : Standing) → next_role s.position [] ≡ None
-unfolding next_role
-none_of_nothing s = refl
-
-pub ended_none : (E : Aim) (running : Option SetSpeed) (n : ℕ) (s : Standing) (found : List Found) → found ≡ [] → E [] [] → Ended E running n s found []
+pub ended_none : (E : Aim) (s : Standing) (found : List Found) → found ≡ [] → E [] [] → Ended E s found [] []
 unfolding walk_none
-ended_none E running n s found none aimed =
-    record { walk = walk_none running n s found [] (entries_none n running s found [] (none_of_nothing s)); aimed = aimed; own = tt; all_reported = none }
+ended_none E s found none aimed = record { walk = walk_none s found []; aimed = aimed; own = tt; all_reported = none }
 
-pub ended_more : (E : Aim) (running : Option SetSpeed) (n : ℕ) (s : Standing) (found : List Found) (ahead : List ℕ) (next : Role × ℕ) → next_role s.position ahead ≡ Some next
-    → HasItsOwnFindings (entry_next running s found ahead next)
-    → Ended (adding E (entry_in_tree (entry_next running s found ahead next) ∷ [])) running n (after_next running s ahead next) (left_next running s found ahead next) (drop next.1 ahead)
-    → Ended E running (suc n) s found ahead
+pub ended_more : (E : Aim) (running : Option SetSpeed) (s : Standing) (found : List Found) (ahead : List ℕ) (next : Role × ℕ) (shown : List Entry)
+    → next_role s.position ahead ≡ Some next → HasItsOwnFindings (entry_next running s found ahead next)
+    → Ended (adding E (entry_in_tree (entry_next running s found ahead next) ∷ [])) (after_next running s ahead next) (left_next running s found ahead next) (drop next.1 ahead) shown
+    → Ended E s found ahead (entry_next running s found ahead next ∷ shown)
 unfolding walk_more
-ended_more E running n s found ahead next e own ended =
-    record { walk = walk_more running n s found ahead next e ended.walk; aimed = ended.aimed; own = (own, ended.own); all_reported = ended.all_reported }
+ended_more E running s found ahead next shown e own ended =
+    record { walk = walk_more running s found ahead next shown e ended.walk; aimed = ended.aimed; own = (own, ended.own); all_reported = ended.all_reported }
 
 -- spans end where the lengths add up to
 spans_end : (shown : List Entry) (from to : ℕ) → Follow from (map entry_span shown) to → from + length (flat_map (λ d. d.bytes) shown) ≡ to
@@ -153,34 +111,29 @@ left_behind done rest b end parts ends = subst (λ k. drop k b ≡ rest) ends (a
 -- each byte once, of any bytes
 pub once_by : AllEachByteOnce
 once_by running found b =
-    let w = walk_shows running (length b) start found b in
-    let ends : length (flat_map (λ e. e.bytes) w.shown) ≡ w.end = ends_at w.shown w.end w.spans in
-    let rest : drop w.end b ≡ w.rest = left_behind (flat_map (λ e. e.bytes) w.shown) w.rest b w.end (cut_parts w.shown b w.rest w.cut) ends in
-    let end : end_of running found b ≡ w.end =
-    ap (λ (l : List ℕ). length l) (bytes_same running (entries running found b) ∙ ap (λ l. flat_map (λ (e : Entry). e.bytes) l) w.is) ∙ ends in
-    let spans : map span_of (outline running found b) ≡ map entry_span w.shown =
-    spans_same running (entries running found b) ∙ ap (λ l. map entry_span l) w.is in
-    let bytes_are : bytes_of (outline running found b) ≡ flat_map (λ e. e.bytes) w.shown =
-    bytes_same running (entries running found b) ∙ ap (λ l. flat_map (λ (e : Entry). e.bytes) l) w.is in
+    let es = entries running found b in
+    let w = walk_shows (length b) running start found b in
+    let ends : length (flat_map (λ e. e.bytes) es) ≡ w.end = ends_at es w.end w.spans in
+    let rest : drop w.end b ≡ w.rest = left_behind (flat_map (λ e. e.bytes) es) w.rest b w.end (cut_parts es b w.rest w.cut) ends in
+    let bytes_are : bytes_of (outline running found b) ≡ flat_map (λ e. e.bytes) es = bytes_same running es in
+    let end : end_of running found b ≡ w.end = ap (λ (l : List ℕ). length l) bytes_are ∙ ends in
+    let after : w.rest ≡ drop (end_of running found b) b = sym rest ∙ ap (λ k. drop k b) (sym end) in
     record {
-      parts = cut_parts w.shown b w.rest w.cut ∙ ap (λ l. l ++ w.rest) (sym bytes_are)
-          ∙ ap (λ l. bytes_of (outline running found b) ++ l) (sym rest ∙ ap (λ k. drop k b) (sym end));
-      cut = subst (λ k. Cut b (entries running found b) (drop k b)) (sym end)
-          (subst (λ l. Cut b (entries running found b) l) (sym rest) (subst (λ l. Cut b l w.rest) (sym w.is) w.cut));
+      parts = cut_parts es b w.rest w.cut ∙ ap₂ ◌++◌ (sym bytes_are) after;
+      cut = subst (λ l. Cut b es l) after w.cut;
       spans = subst (λ k. Follow 0 (map span_of (outline running found b)) k) (sym end)
-          (subst (λ l. Follow 0 l w.end) (sym spans) (subst (λ k. Follow k (map entry_span w.shown) w.end) start_at w.spans));
+          (subst (λ l. Follow 0 l w.end) (sym (spans_same running es)) (subst (λ k. Follow k (map entry_span es) w.end) start_at w.spans));
     }
 
 -- where a walk ends, and what it leaves
-pub end_and_rest : (running : Option SetSpeed) (found : List Found) (b : List ℕ) (w : Walk running (length b) start found b)
+pub end_and_rest : (running : Option SetSpeed) (found : List Found) (b : List ℕ) (w : Walk start found b (entries running found b))
     → end_of running found b + length w.rest ≡ length b
 end_and_rest running found b w =
-    let parts : length b ≡ length (flat_map (λ e. e.bytes) w.shown) + length w.rest =
-    ap length (cut_parts w.shown b w.rest w.cut) ∙ length-append (flat_map (λ e. e.bytes) w.shown) w.rest in
-    ap (λ (l : List ℕ). length l + length w.rest) (bytes_same running (entries running found b) ∙ ap (λ l. flat_map (λ (e : Entry). e.bytes) l) w.is) ∙ sym parts
+    let es = entries running found b in
+    let parts : length b ≡ length (flat_map (λ e. e.bytes) es) + length w.rest =
+    ap length (cut_parts es b w.rest w.cut) ∙ length-append (flat_map (λ e. e.bytes) es) w.rest in
+    ap (λ (l : List ℕ). length l + length w.rest) (bytes_same running es) ∙ sym parts
 
 -- the descriptors of bytes have no more than these
 pub bytes_within : (running : Option SetSpeed) (found : List Found) (b : List ℕ) → end_of running found b ≤ length b
-bytes_within running found b =
-    let w = walk_shows running (length b) start found b in
-    omega (arith, end_and_rest running found b w)
+bytes_within running found b = omega (arith, end_and_rest running found b (walk_shows (length b) running start found b))

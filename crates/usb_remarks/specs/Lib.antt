@@ -9,7 +9,6 @@ pub mod FaultPlaces
 pub mod Findings
 pub mod HeaderRemarks
 pub mod InterfaceNumbers
-pub mod Numbered
 pub mod Outline
 pub mod OutlineLaws
 pub mod OwnedEndpoints
@@ -24,4 +23,6 @@ pub mod SettingRemarks
 pub mod Standings
 pub mod StringRemarks
 pub mod Uncovered
+pub mod WalkedEndpoints
+pub mod WalkedOutlines
 pub mod inside

@@ -1,6 +1,6 @@
 -- The outline of bytes: their descriptors one after another, each with all that is known of it at its place.
-use Rattle.std.specs.Prelude.{ℕ, Bool, zero, suc, List, [], ◌∷◌, length, map, take, drop, flat_map, slice_index, Option, unwrap_or}
-use Rattle.std.specs.Option.{option_copied, option_map}
+use Rattle.std.specs.Prelude.{ℕ, Bool, List, length, map, take, drop, flat_map, slice_index, Option}
+use Rattle.std.specs.Option.{option_copied}
 use Rattle.usb_file_data.specs.declared.cause.Found.{Found}
 use Rattle.usb_names.specs.declared.codes.ClassCodes.{ClassCodes}
 use Rattle.usb_remarks.specs.declared.descriptor.Descriptor.{Descriptor}
@@ -18,6 +18,7 @@ use Rattle.usb_remarks.specs.InterfaceNumbers.{follows, is_late, missing_interfa
 use Rattle.usb_walk.specs.Owners.{owner_of}
 use Rattle.usb_walk.specs.Places.{place_in}
 use Rattle.usb_walk.specs.Roles.{next_role}
+use Rattle.usb_walk.specs.Unfolded.{unfolded}
 use Rattle.usb_remarks.specs.SetStart.{entered}
 use Rattle.usb_remarks.specs.Standings.{passed, start}
 
@@ -130,15 +131,22 @@ left_next running s found ahead next = drop (length (found_at (here running s ah
 abbrev pub after_next : Option SetSpeed → Standing → List ℕ → Role × ℕ → Standing
 after_next running s ahead next = passed next.0 (take next.1 ahead) (here running s ahead next)
 
+-- what a walk goes on with: the state, the findings that are left, and the bytes ahead
+abbrev pub Ahead : Type 0
+Ahead = Standing × List Found × List ℕ
+
+-- what may come there
+abbrev pub next_ahead : Ahead → Option (Role × ℕ)
+next_ahead here = next_role here.0.position here.2
+
+-- the descriptor that it is, and what the walk goes on with after it
+abbrev pub pass_ahead : Option SetSpeed → Ahead → Role × ℕ → Entry × Ahead
+pass_ahead running (s, found, ahead) next =
+    (entry_next running s found ahead next, (after_next running s ahead next, left_next running s found ahead next, drop next.1 ahead))
+
 -- the descriptors from here on, at most n
-unfoldable pub first_entries : ℕ → Option SetSpeed → Standing → List Found → List ℕ → List Entry
-first_entries zero running s found ahead = []
-first_entries (suc n) running s found ahead =
-    unwrap_or
-    (option_map
-    (λ next. entry_next running s found ahead next ∷ first_entries n running (after_next running s ahead next) (left_next running s found ahead next) (drop next.1 ahead))
-    (next_role s.position ahead))
-    []
+abbrev pub first_entries : ℕ → Option SetSpeed → Standing → List Found → List ℕ → List Entry
+first_entries n running s found ahead = unfolded next_ahead (pass_ahead running) n (s, found, ahead)
 
 -- all of them: there are no more than bytes
 abbrev pub entries_from : Option SetSpeed → Standing → List Found → List ℕ → List Entry

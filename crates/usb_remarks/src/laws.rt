@@ -3,6 +3,10 @@
 ghost use Rattle.usb_remarks.specs.OutlineLaws.{AllEachByteOnce, BrokenCoversUpToFault, WholeHasNoRest, WholeShowsTree, WholeReportsFindings};
 ghost use Rattle.usb_remarks.specs.OwnedEndpoints.{WholeShowsEndpoints};
 ghost use Rattle.usb_remarks.specs.Remarks.{FullOrHighIsOpen, LowOrFullIsOpen};
+ghost use Rattle.usb_remarks.specs.WalkedEndpoints.{WalkHasEndpoints};
+ghost use Rattle.usb_remarks.specs.WalkedOutlines.{WalkIsOutline};
+ghost use Rattle.usb_walk.specs.WalkedStrings.{WalkHasStrings};
+ghost use Rattle.usb_walk.specs.WalkedTrees.{WalkIsTree};
 
 /// Each byte once: the descriptors of any bytes follow each other from the first byte on, each at its place and as long as its
 /// bLength, and then comes the rest. Of a set, a file or a dump no bytes are left: each of them is in a descriptor.
@@ -43,4 +47,30 @@ pub fn each_endpoint_has_its_setting()
 pub fn an_open_speed_is_both()
     ensures low_or_full { LowOrFullIsOpen }
     ensures full_or_high { FullOrHighIsOpen }
+{}
+
+/// From the first one on `WalkedDescriptor::next_in` gives the descriptors of the outline of the bytes, each as the numbers of its
+/// position: each byte once and in order, of a set, a file or a dump to its end, of other bytes up to their fault, with the roles,
+/// depths and owners of the tree.
+pub fn a_walk_is_the_outline()
+    ensures { WalkIsOutline }
+{}
+
+/// Of a set, a file or a dump it gives the descriptors of its tree in their order: each with its role, its depth and its part, and an
+/// association or a raw one with the role of the nearest configuration, interface or endpoint before it.
+pub fn a_walk_is_the_tree()
+    ensures { WalkIsTree }
+{}
+
+/// The endpoints among them are those of the sets, set after set and in their order: the position of each has the number of its set,
+/// its interface and alternate setting and its address.
+pub fn a_walk_has_the_endpoints()
+    ensures { WalkHasEndpoints }
+{}
+
+/// Of an input the strings of the walk are its strings, each with its index, its language and its bytes. Those of a file come
+/// language by language in the order of its list of languages, and in each language one for each index that the file names,
+/// ascending. A set and a dump have none (USB 2.0, 9.6.7).
+pub fn a_walk_has_the_strings_of_a_file()
+    ensures { WalkHasStrings }
 {}

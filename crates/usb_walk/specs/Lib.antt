@@ -1,6 +1,13 @@
 pub mod Positions
 pub mod Roles
+pub mod RoleNumbers
 pub mod Owners
 pub mod Places
 pub mod Trees
 pub mod Surroundings
+pub mod Numbered
+pub mod Unfolded
+pub mod NamedStrings
+pub mod WalkedDescriptors
+pub mod WalkedTrees
+pub mod WalkedStrings

@@ -1,8 +1,7 @@
 //! What a descriptor is at its place.
-ghost use Rattle.std.specs.Prelude.{◌≡◌, length};
-ghost use Rattle.usb_walk.specs.Roles.{inner_role, is_alone, outer_role, role_if, role_of, string_role, typed_role};
 ghost use Rattle.std.specs.Prelude.{◌≡◌};
-ghost use Rattle.usb_walk.specs.Roles.{is_association, is_endpoint, is_interface, is_of_type};
+ghost use Rattle.usb_walk.specs.RoleNumbers.{role_in, role_number};
+ghost use Rattle.usb_walk.specs.Roles.{inner_role, is_alone, is_association, is_endpoint, is_interface, is_of_type, outer_role, role_if, role_of, string_role, typed_role};
 
 use crate::position::Position;
 use usb_fields::{byte_at, descriptor_length, descriptor_type, word_at};
@@ -128,6 +127,41 @@ pub enum Role {
     Languages,
     /// A string (USB 2.0, 9.6.7).
     Text,
+}
+
+/// The number of a role: `enum nzg_role` of nozzlegorse.h.
+pub fn role_number(role: Role) -> u8
+    ensures { result ≡ role_number role }
+{
+    match role {
+        Role::Device => 1,
+        Role::Configuration => 2,
+        Role::Interface => 3,
+        Role::Endpoint => 4,
+        Role::Association => 5,
+        Role::Raw => 6,
+        Role::Qualifier => 7,
+        Role::Languages => 8,
+        Role::Text => 9,
+    }
+}
+
+/// The role of a number, if it is one.
+pub fn role_in(number: u8) -> Option<Role>
+    ensures { result ≡ role_in number }
+{
+    match number {
+        1 => Some(Role::Device),
+        2 => Some(Role::Configuration),
+        3 => Some(Role::Interface),
+        4 => Some(Role::Endpoint),
+        5 => Some(Role::Association),
+        6 => Some(Role::Raw),
+        7 => Some(Role::Qualifier),
+        8 => Some(Role::Languages),
+        9 => Some(Role::Text),
+        _ => None,
+    }
 }
 
 fn is_of_type(kind: u8, least: u8, d: &[u8]) -> bool

@@ -7,10 +7,11 @@ ghost use Rattle.usb_text.specs.Written.{is_words};
 ghost use Rattle.usb_explain.specs.Sets.{languages_shown, string_place_shown, string_shown};
 ghost use Rattle.usb_explain.specs.StringNames.{index_shown, units_shown};
 
-use crate::string_names::{Missing, Names, StringPlace};
+use crate::string_names::{Missing, Names};
 use std::alloc::AllocError;
 use usb_fields::after;
 use usb_text::Page;
+use usb_walk::StringPlace;
 
 /// Puts the words of the language list's heading (USB 2.0, 9.6.7).
 pub(crate) fn put_languages_words<P: Page>(page: &mut P, b: &[u8]) -> Result<(), AllocError>

@@ -24,7 +24,7 @@ use Rattle.usb_walk.specs.declared.role.Role.TheVariants.{Device, Qualifier, Ass
 use Rattle.usb_walk.specs.declared.role.Role.TheVariants as roles
 use Rattle.usb_remarks.specs.declared.standing.Standing.{Standing}
 use Rattle.usb_remarks.specs.OutlineLaws.{Cut, HasItsOwnFindings}
-use Rattle.usb_remarks.specs.Outline.{Entry, findings_of}
+use Rattle.usb_remarks.specs.Outline.{Entry, findings_of, first_entries}
 use Rattle.usb_remarks.specs.Findings.{found_at}
 use Rattle.usb_remarks.specs.SetStart.{entered}
 use Rattle.usb_walk.specs.Positions.{noted}
@@ -78,14 +78,14 @@ own_of_none (d ∷ ds) none =
 -- of few bytes few are left
 pub few_left : (k : ℕ) (running : Option SetSpeed) (s : Standing) (ahead : List ℕ) → length ahead ≤ k → EndsFew k running s ahead
 few_left k running s ahead le fs nil n enough =
-    let w = walk_shows running n s fs ahead in
-    let fewer : length w.rest ≤ k = omega (arith, le, cut_rest w.shown ahead w.rest w.cut) in
+    let es = first_entries n running s fs ahead in
+    let w = walk_shows n running s fs ahead in
     let none = w.tells ∙ nil in
     record {
       walk = w;
-      aimed = fewer;
-      own = own_of_none w.shown (nil_before (flat_map findings_of w.shown) w.left none);
-      all_reported = nil_after (flat_map findings_of w.shown) w.left none;
+      aimed = omega (arith, le, cut_rest es ahead w.rest w.cut);
+      own = own_of_none es (nil_before (flat_map findings_of es) w.left none);
+      all_reported = nil_after (flat_map findings_of es) w.left none;
     }
 
 taken : (n : ℕ) (b : List ℕ) → length (take n b) ≤ n

@@ -9,6 +9,7 @@ use Rattle.usb_walk.specs.Trees.{descriptor_length, TreeDescriptor, tree_descrip
 use Rattle.usb_walk.specs.declared.role.Role.{Role}
 use Rattle.usb_remarks.specs.declared.standing.Standing.{Standing}
 use Rattle.usb_remarks.specs.Findings.{found_at}
+use Rattle.usb_remarks.specs.Outline.{first_entries}
 use Rattle.usb_walk.specs.Surroundings.{depth_of}
 use Rattle.usb_remarks.proofs.Outlines.{entry_in_tree}
 use Rattle.usb_walk.specs.Owners.{of_interface, of_set, owner_above, owner_of, part_in, setting_in}
@@ -124,7 +125,7 @@ goes_for E F running v later ahead follows goes s fs at told n enough =
     let ended = goes s fs at told n enough in
     record {
       walk = ended.walk;
-      aimed = follows ended.walk.rest (map entry_in_tree ended.walk.shown) ended.aimed;
+      aimed = follows ended.walk.rest (map entry_in_tree (first_entries n running s fs ahead)) ended.aimed;
       own = ended.own;
       all_reported = ended.all_reported;
     }

@@ -1,8 +1,8 @@
 -- Walks that come to the end of the bytes, and their text.
-use Rattle.std.proofs.Common.{◌≡◌, ◌≤◌, ℕ, zero, suc, List, [], ◌++◌, flat_map, length, map, drop, Option, Some, is_some, sym, ap, subst, ◌∙◌, arith, append-nil, length-drop, ◌∷◌}
+use Rattle.std.proofs.Common.{◌≡◌, ◌≤◌, inr, ℕ, zero, suc, List, [], ◌++◌, flat_map, length, map, drop, Option, Some, None, is_some, refl, sym, ap, subst, ◌∙◌, arith, append-nil, length-drop, ◌∷◌}
 use Rattle.usb_walk.specs.declared.role.Role.{Role}
 use Rattle.usb_remarks.specs.declared.standing.Standing.{Standing}
-use Rattle.usb_remarks.specs.Outline.{Entry, after_next, end_of, entries, entry_next, findings_of, left_next, outline}
+use Rattle.usb_remarks.specs.Outline.{Entry, after_next, end_of, entries, entry_next, findings_of, first_entries, left_next, next_ahead, outline, pass_ahead}
 use Rattle.usb_remarks.specs.OutlineLaws.{AreNumbered, EachFindingOnce, HasItsOwnFindings, as_in_tree}
 use Rattle.usb_remarks.specs.Findings.{IsAtPlace, finding_at}
 use Rattle.std.specs.List.{AllByRecursion}
@@ -12,7 +12,9 @@ use Rattle.usb_remarks.specs.declared.speed.SetSpeed.{SetSpeed}
 use Rattle.usb_walk.specs.Trees.{tree_descriptors}
 use Rattle.usb_file_data.specs.declared.file.Input.{Input}
 use Rattle.usb_file_data.specs.Findings.{found_in_order}
-use Rattle.usb_remarks.proofs.Outlines.{entry_in_tree, found_same, next_bounds, tree_same}
+use Rattle.usb_walk.proofs.NextRoles.{next_bounds}
+use Rattle.usb_walk.proofs.Unfolded.{unfolded_more, unfolded_none}
+use Rattle.usb_remarks.proofs.Outlines.{entry_in_tree, found_same, tree_same}
 use Rattle.usb_file_data.specs.declared.cause.Found.{Found}
 use Rattle.usb_file_data.specs.declared.cause.Cause.{Cause}
 use Rattle.usb_file_data.specs.declared.finding.Finding.{Finding}
@@ -27,12 +29,18 @@ use Rattle.usb_remarks.proofs.Telling.{AllAtPlace}
 use Rattle.usb_walk.specs.declared.position.Position.{Position}
 use Rattle.usb_remarks.proofs.Spans.{Aim, Ended, adding, end_and_rest, ended_more, ended_none}
 
+-- where no bytes are, no descriptor can stand
+none_of_nothing : (s : Standing) → next_role s.position [] ≡ None
+unfolding next_role
+none_of_nothing s = refl
+
 -- a walk from here ends so, if it may take as many steps as there are bytes
 abbrev pub Ends : Aim → Option SetSpeed → Standing → List Found → List ℕ → Type 0
-Ends E running s fs ahead = (n : ℕ) → length ahead ≤ n → Ended E running n s fs ahead
+Ends E running s fs ahead = (n : ℕ) → length ahead ≤ n → Ended E s fs ahead (first_entries n running s fs ahead)
 
 pub ends_here : (E : Aim) (running : Option SetSpeed) (s : Standing) (fs : List Found) → fs ≡ [] → E [] [] → Ends E running s fs []
-ends_here E running s fs none aimed n enough = ended_none E running n s fs none aimed
+ends_here E running s fs none aimed n enough =
+    subst (λ l. Ended E s fs [] l) (sym (unfolded_none next_ahead (pass_ahead running) n (s, fs, []) (inr (none_of_nothing s)))) (ended_none E s fs none aimed)
 
 -- a descriptor takes one step, and has two bytes at least
 pub ends_behind : (E : Aim) (running : Option SetSpeed) (s : Standing) (fs : List Found) (ahead : List ℕ) (next : Role × ℕ) → next_role s.position ahead ≡ Some next
@@ -44,7 +52,8 @@ ends_behind E running s fs ahead next e own onward zero enough =
     absurd (omega (arith, bounds.0, bounds.1, enough))
 ends_behind E running s fs ahead next e own onward (suc n) enough =
     let bounds = next_bounds s.position ahead next e in
-    ended_more E running n s fs ahead next e own (onward n (omega (arith, length-drop next.1 ahead, bounds.0, bounds.1, enough)))
+    subst (λ l. Ended E s fs ahead l) (sym (unfolded_more next_ahead (pass_ahead running) n (s, fs, ahead) next e))
+    (ended_more E running s fs ahead next _ e own (onward n (omega (arith, length-drop next.1 ahead, bounds.0, bounds.1, enough))))
 
 -- a walk over all bytes of an input shows its descriptors
 abbrev pub ShowsAll : Input → Aim
@@ -94,16 +103,14 @@ all_tells running input b leaves =
     let w = ended.walk in
     let es = entries running found b in
     let told : flat_map findings_of es ≡ found =
-    ap (λ l. flat_map findings_of l) w.is ∙ sym (append-nil (flat_map findings_of w.shown))
-    ∙ ap (λ l. flat_map findings_of w.shown ++ l) (sym ended.all_reported) ∙ w.tells in
-    let own : AllByRecursion HasItsOwnFindings es = subst (λ l. AllByRecursion HasItsOwnFindings l) (sym w.is) ended.own in
-    let ruled = without_causes found (subst (λ l. AllByRecursion (λ f. HasRule f.finding) l) told (all_have_rules es own)) in
+    sym (append-nil (flat_map findings_of es)) ∙ ap (λ l. flat_map findings_of es ++ l) (sym ended.all_reported) ∙ w.tells in
+    let ruled = without_causes found (subst (λ l. AllByRecursion (λ f. HasRule f.finding) l) told (all_have_rules es ended.own)) in
     record {
       tells = record {
         reported = found_same running es ∙ told;
-        own = own;
-        numbered = subst (λ l. AreNumbered 0 l) (sym w.is) (subst (λ k. AreNumbered k w.shown) start_number w.numbered);
+        own = ended.own;
+        numbered = subst (λ k. AreNumbered k es) start_number w.numbered;
         count = sym (length-map found (λ f. f.finding)) ∙ sym (as_many (map (λ f. f.finding) found) ruled);
       };
-      shows = tree_same running es ∙ ap (λ l. map entry_in_tree l) w.is ∙ ended.aimed.1;
+      shows = tree_same running es ∙ ended.aimed.1;
     }

@@ -27,15 +27,16 @@ pub invariant_of-self-2 : goal.invariant_of-self-2
 invariant_of-self-2 c =
     let b = c.self.inside.ahead.now in
     let next : Role × ℕ = (c.in-Some.role, c.in-Some.count) in
+    let comes = sym c.next_role.ensures.next ∙ c.in-Some.is in
     let at : c.step_over.new.self.position.at ≡ (after_next c.self.inside.running c.self.inside.standing b next).position.at = ap (λ (s : Standing). s.position.at) c.step_over.ensures.standing in
     let left : length c.split_at.result.1.now ≡ length (drop c.in-Some.count b) = ap length c.split_at.ensures.back in
     let entered : Position = position_at c.in-Some.role b c.self.inside.standing.position in
     let taken : length (take c.in-Some.count b) ≡ c.in-Some.count = length-take-le c.in-Some.count b c.in-Some.ensures.most in
     let still : c.step_over.new.self.position.left ≡ entered.left - c.in-Some.count =
     ap (λ (s : Standing). s.position.left) c.step_over.ensures.standing ∙ after_left c.in-Some.role (take c.in-Some.count b) entered ∙ ap (λ k. entered.left - k) taken in (
-      subst (λ (s : Standing). AreCounted s) (sym c.step_over.ensures.standing) (stays_counted c.self.inside.running c.self.inside.standing b next c.self.invariant.0 c.in-Some.ensures.least c.in-Some.ensures.most),
-      omega (arith, at, left, stays_room c.self.inside.running c.self.inside.standing b next c.in-Some.ensures.most c.self.invariant.1),
-      rw (still, c.split_at.ensures.back) (c.pass.ensures c.self.inside.standing.position (sym c.next_role.ensures.next ∙ c.in-Some.is) c.self.invariant.2),
+      subst (λ (s : Standing). AreCounted s) (sym c.step_over.ensures.standing) (stays_counted c.self.inside.running c.self.inside.standing b next comes c.self.invariant.0),
+      omega (arith, at, left, stays_room c.self.inside.running c.self.inside.standing b next comes c.self.invariant.1),
+      rw (still, c.split_at.ensures.back) (c.pass.ensures c.self.inside.standing.position comes c.self.invariant.2),
     )
 
 pub returns-clause-steps : goal.returns-clause-steps

@@ -1,5 +1,0 @@
-use Rattle.usb_c.proofs.InputStrings.{walk_has_strings}
-use Rattle.usb_c.proofs.laws.a_walk_has_the_strings_of_a_file.Goals as goal
-
-pub returns : goal.returns
-returns c = walk_has_strings

@@ -1,5 +1,0 @@
-use Rattle.usb_c.proofs.StringsShown.{walk_is_as_explained}
-use Rattle.usb_c.proofs.laws.strings_are_placed_as_explained.Goals as goal
-
-pub returns : goal.returns
-returns c = walk_is_as_explained
