@@ -9,7 +9,7 @@ use Rattle.usb_host.specs.declared.transfer.TransferStage.{TransferStage}
 use Rattle.usb_host.specs.declared.transfer.TransferStage.TheVariants as stages
 use Rattle.usb_host.specs.Transfer.{TransferView, addressed, due, token_due}
 use Rattle.usb_host.specs.Steps.{HostPhase, HostView, ResetDue, Reading, Ended, Wanted, WantsNothing, WantsReset, WantsSent, sends, wanted}
-use Rattle.usb_device.specs.declared.transaction.NzgTransaction.{NzgTransaction}
+use Rattle.usb_c.specs.declared.transaction.NzgTransaction.{NzgTransaction}
 use Rattle.usb_c.specs.Hosts.{transaction_due}
 use Rattle.usb_c.specs.Transactions.{sent_told, transaction_of}
 

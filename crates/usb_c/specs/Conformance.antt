@@ -5,7 +5,7 @@ use Rattle.usb_fields.specs.Packets.{Reply, Sent}
 use Rattle.usb_fields.specs.declared.setup.Setup.{Setup}
 use Rattle.usb_device.specs.Conformance.{IsJudged, difference_number, is_free_to, is_ready}
 use Rattle.usb_device.specs.declared.conformance.Difference.{Difference}
-use Rattle.usb_device.specs.declared.transaction.NzgPacket.{NzgPacket}
+use Rattle.usb_c.specs.declared.transaction.NzgPacket.{NzgPacket}
 use Rattle.usb_device.specs.Offers.{offer_in, packet_in}
 use Rattle.usb_device.specs.Step.{DeviceView}
 use Rattle.usb_device.specs.Stages.{toggle_number}

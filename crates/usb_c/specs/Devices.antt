@@ -14,7 +14,7 @@ use Rattle.usb_device.specs.Step.{DeviceView}
 use Rattle.usb_device.specs.View.{device_of, served_over, IsOf}
 use Rattle.usb_device.specs.declared.beside.Unanswered.{Unanswered}
 use Rattle.usb_device.specs.declared.endpoint_zero.EndpointZero.{EndpointZero}
-use Rattle.usb_device.specs.declared.transaction.NzgPacket.{NzgPacket}
+use Rattle.usb_c.specs.declared.transaction.NzgPacket.{NzgPacket}
 use Rattle.usb_c.specs.Transactions.{packet_of}
 use Rattle.usb_c.specs.declared.answer.Verdict.{Verdict}
 use Rattle.usb_c.specs.declared.answer.Verdict.TheVariants as verdicts

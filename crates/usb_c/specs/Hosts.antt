@@ -27,7 +27,7 @@ use Rattle.usb_host.specs.Order.{step_of}
 use Rattle.usb_host.specs.Steps.{HostPhase, HostView, ResetDue, Reading, Ended, Takes, Wanted, WantsNothing, WantsReset, WantsSent, chosen_host, outcome_of}
 use Rattle.usb_host.specs.Terms.{IsUnread, everything}
 use Rattle.usb_host.specs.Transfer.{TransferView}
-use Rattle.usb_device.specs.declared.transaction.NzgTransaction.{NzgTransaction}
+use Rattle.usb_c.specs.declared.transaction.NzgTransaction.{NzgTransaction}
 use Rattle.usb_c.specs.Transactions.{transaction_of}
 
 -- The outcome of a host.

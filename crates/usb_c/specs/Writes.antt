@@ -2,7 +2,7 @@
 use Rattle.std.specs.Prelude.{◌≡◌, ◌≢◌, ℕ, Bool, true, false, length, List, Option, Some, None}
 use Rattle.usb_fields.specs.Packets.{Sent, Token, OutToken}
 use Rattle.usb_c.specs.Transactions.{transaction_of}
-use Rattle.usb_device.specs.declared.transaction.NzgTransaction.{NzgTransaction}
+use Rattle.usb_c.specs.declared.transaction.NzgTransaction.{NzgTransaction}
 use Rattle.usb_host.specs.Transfer.{TransferView, due_of}
 use Rattle.usb_c.specs.declared.answer.Verdict.{Verdict}
 use Rattle.usb_c.specs.declared.answer.Verdict.TheVariants as verdicts
