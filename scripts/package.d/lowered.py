@@ -57,14 +57,14 @@ INLINED = r"\b(?:alwaysinline|inlinehint)\b"
 OF_TEXTS = re.compile(r'define internal [^@]*@"(?:(?:usb_(?:explain|hex|listing|names|remarks|text)|itoa|memchr)::|usb_device::piece::find_inlined").* (#\d+) \{\n')
 # Nor is what decides about a request, and what a device does in several calls: each is there once then, with a small frame.
 OF_DEVICES = re.compile(
-    r'define internal [^@]*@"(?:usb_device::(?:endpoint_zero::EndpointZero::(?:begin_data|decision|packet)'
+    r'define internal [^@]*@"(?:usb_device::(?:endpoint_zero::EndpointZero::(?:begin_data|decision|packet|stall|wait)|image::Image::sets'
     r"|request::Request::(?:change_feature|[gs]et_\w+|shown_attributes)|sets::Set(?:ting)?sIterator::next|string_table::number_at)|usb_fields::bytes::after"
     r'|core::slice::edits::copy_over::<i8,[^"]*)"\(.* (#\d+) \{\n'
 )
 # What is smaller where it is called than a call of it.
 OF_CALLS = re.compile(
     r'define internal [^@]*@"(?:usb_device::(?:endpoint_zero::EndpointZero::(?:begin_other|found|is_left|sends_status)'
-    r'|transaction::(?:sent|tell))|usb_fields::setup::Setup::(?:class|direction|from_bytes|recipient))"\(.* (#\d+) \{\n'
+    r')|usb_c::transaction::(?:sent|tell)|usb_fields::setup::Setup::(?:class|direction|from_bytes|recipient))"\(.* (#\d+) \{\n'
 )
 # What is smaller in some of the places where it is called.
 OF_FEW = re.compile(r'define internal [^@]*@"usb_device::(?:beside::is_open|sets::Settings::has_alternate)"\(.* (#\d+) \{\n')
