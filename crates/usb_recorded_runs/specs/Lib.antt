@@ -1,0 +1,4 @@
+pub mod Exchanges
+pub mod Captures
+pub mod Findings
+pub mod Laws
