@@ -238,8 +238,10 @@ REASONS = [
         "checks",
         "A pass over the settings enters all interfaces before the rules are checked in the order of the bytes: 26 of 55 instructions a setting. A small file takes 105 to fill its tables with zeros. A table of 256 bytes less gains nothing.",
     ),
-    ("recordings, the same, usbmon's text", "Each word is looked for from the start of its line: that takes 170 of 406."),
-    ("recordings", "The reader takes some 500 instructions a frame, what observes and writes its lines 450. Nothing was tried yet."),
+    (
+        "recordings",
+        "A part that lies whole in a piece is read there: 22.3, in usbmon's text 105, of the others 11.4, 63.5 and 71.1. Before, each went through the list that holds a part, and text byte by byte: 23.8, 389, 12.8, 70.9 and 78.4. Four bytes as one load, and what reads a part inlined: 20.2, 103, 9.70, 55.9 and 63.6. The frame of a line in a list of 96 bytes from the first: 83.6 in place of 103. That nothing is done for findings where there are none, and that rare calls aren't inlined, gains 1 in a hundred. A frame's bytes are a list of its own: some 150 instructions to ask for it, fill and free it. These are of a program of this work alone, which takes up to 5 in a hundred less.",
+    ),
     ("transactions, status stage of a header", "The next set's decoder is filled with 380 zeros, and what was read is moved through memory."),
 ]
 
