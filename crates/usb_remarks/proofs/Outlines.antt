@@ -1,5 +1,7 @@
 -- An outline, descriptor by descriptor.
 use Rattle.std.proofs.Common.{◌≡◌, ◌<◌, inl, inr, ℕ, ◌+◌, List, [], ◌∷◌, ◌++◌, flat_map, length, map, take, drop, Option, Some, None, refl, ap, arith, length-drop}
+use Rattle.std.proofs.lemmas.List.Folds.{flat_map-map}
+use Rattle.std.proofs.lemmas.Simd.{map-map}
 use Rattle.usb_file_data.specs.declared.cause.Found.{Found}
 use Rattle.usb_walk.specs.declared.role.Role.{Role}
 use Rattle.usb_remarks.specs.declared.speed.SetSpeed.{SetSpeed}
@@ -20,8 +22,8 @@ use Rattle.usb_walk.proofs.WalkSteps.{step_of}
 -- ---- one step
 
 -- a descriptor has two bytes at least
-fewer_ahead : (running : Option SetSpeed) (here : Ahead) (next : Role × ℕ) → next_ahead here ≡ Some next → length (drop next.1 here.2) < length here.2
-fewer_ahead running here next e =
+fewer_ahead : (here : Ahead) (next : Role × ℕ) → next_ahead here ≡ Some next → length (drop next.1 here.2) < length here.2
+fewer_ahead here next e =
     let b = next_bounds here.0.position here.2 next e in
     omega (arith, b.0, b.1, length-drop next.1 here.2)
 
@@ -30,7 +32,7 @@ pub outline_next : (running : Option SetSpeed) (s : Standing) (found : List Foun
     ≡ describe running (entry_next running s found ahead next) ∷ outline_from running (after_next running s ahead next) (left_next running s found ahead next) (drop next.1 ahead)
 outline_next running s found ahead next e =
     ap (λ l. map (describe running) l)
-    (unfolded_enough next_ahead (pass_ahead running) (λ here. length here.2) (fewer_ahead running) (length ahead) (s, found, ahead) next e (omega arith))
+    (unfolded_enough next_ahead (pass_ahead running) (λ here. length here.2) fewer_ahead (length ahead) (s, found, ahead) next e (omega arith))
 
 pub outline_none : (running : Option SetSpeed) (s : Standing) (found : List Found) (ahead : List ℕ) → next_role s.position ahead ≡ None → outline_from running s found ahead ≡ []
 outline_none running s found ahead e = ap (λ l. map (describe running) l) (unfolded_none next_ahead (pass_ahead running) (length ahead) (s, found, ahead) (inr e))
@@ -68,13 +70,11 @@ stays_room running s ahead next e room =
 
 pub bytes_same : (running : Option SetSpeed) (es : List Entry) → bytes_of (map (describe running) es) ≡ flat_map (λ e. e.bytes) es
 unfolding describe
-bytes_same running [] = refl
-bytes_same running (e ∷ es) = ap (λ l. e.bytes ++ l) (bytes_same running es)
+bytes_same running es = flat_map-map (λ d. d.bytes) (describe running) es
 
 pub found_same : (running : Option SetSpeed) (es : List Entry) → flat_map (λ d. d.findings) (map (describe running) es) ≡ flat_map findings_of es
 unfolding describe
-found_same running [] = refl
-found_same running (e ∷ es) = ap (λ l. findings_of e ++ l) (found_same running es)
+found_same running es = flat_map-map (λ d. d.findings) (describe running) es
 
 -- a place and a length
 abbrev pub entry_span : Entry → Span
@@ -82,8 +82,7 @@ entry_span e = record { start = e.standing.position.at; count = length e.bytes }
 
 pub spans_same : (running : Option SetSpeed) (es : List Entry) → map span_of (map (describe running) es) ≡ map entry_span es
 unfolding describe
-spans_same running [] = refl
-spans_same running (e ∷ es) = ap (λ l. entry_span e ∷ l) (spans_same running es)
+spans_same running es = map-map span_of (describe running) es
 
 -- a descriptor as in a tree
 abbrev pub entry_in_tree : Entry → TreeDescriptor
@@ -91,5 +90,4 @@ entry_in_tree e = tree_descriptor e.role (depth_of e.standing.position e.role) (
 
 pub tree_same : (running : Option SetSpeed) (es : List Entry) → map as_in_tree (map (describe running) es) ≡ map entry_in_tree es
 unfolding describe
-tree_same running [] = refl
-tree_same running (e ∷ es) = ap (λ l. entry_in_tree e ∷ l) (tree_same running es)
+tree_same running es = map-map as_in_tree (describe running) es

@@ -1,5 +1,6 @@
 -- A walk over an input has the descriptors of its outline, and so those of its tree.
 use Rattle.std.proofs.Common.{◌≡◌, ℕ, List, [], ◌∷◌, length, map, Option, None, refl, sym, ap, ◌∙◌}
+use Rattle.std.proofs.lemmas.Simd.{map-map}
 use Rattle.usb_file_data.specs.declared.cause.Found.{Found}
 use Rattle.usb_file_data.specs.declared.file.Input.{Input}
 use Rattle.usb_file_data.specs.Findings.{found_in_order}
@@ -33,15 +34,11 @@ walk_is_outline running found b = walk_by_positions b ∙ ap (all_as_numbers b n
 
 -- ---- and those of an input are its tree's
 
-entries_in_tree : (es : List Entry) → map by_tree (map by_position es) ≡ map entry_in_tree es
-entries_in_tree [] = refl
-entries_in_tree (e ∷ es) = ap (λ l. entry_in_tree e ∷ l) (entries_in_tree es)
-
 pub numbered_tree : (input : Input) (b : List ℕ) → IsInput input b → map by_tree (numbered b) ≡ tree_descriptors input
 numbered_tree input b is =
     let found = found_in_order input in
     let es = entries None found b in
-    ap (λ ns. map by_tree ns) (sym (outline_numbered None found b)) ∙ entries_in_tree es ∙ sym (tree_same None es) ∙ whole_shows None input b is
+    ap (λ ns. map by_tree ns) (sym (outline_numbered None found b)) ∙ map-map by_tree by_position es ∙ sym (tree_same None es) ∙ whole_shows None input b is
 
 pub walk_is_tree : WalkIsTree
 walk_is_tree input b is = walk_by_tree b ∙ ap (tree_numbers []) (numbered_tree input b is)

@@ -137,7 +137,7 @@ Ahead = Standing × List Found × List ℕ
 
 -- what may come there
 abbrev pub next_ahead : Ahead → Option (Role × ℕ)
-next_ahead here = next_role here.0.position here.2
+next_ahead (s, found, ahead) = next_role s.position ahead
 
 -- the descriptor that it is, and what the walk goes on with after it
 abbrev pub pass_ahead : Option SetSpeed → Ahead → Role × ℕ → Entry × Ahead

@@ -17,11 +17,11 @@ use Rattle.usb_walk.proofs.Unfolded.{by_each_step, unfolded_map}
 
 -- what may come in these bytes at a position
 abbrev pub next_numbered : Position × List ℕ → Option (Role × ℕ)
-next_numbered here = next_role here.0 here.1
+next_numbered (p, ahead) = next_role p ahead
 
 -- the descriptor that it is, and the position and the bytes after it
 abbrev pub pass_numbered : Position × List ℕ → Role × ℕ → Numbered × (Position × List ℕ)
-pass_numbered here next = let m = numbered_next here.0 here.1 next in (m, (next_position m, drop next.1 here.1))
+pass_numbered (p, ahead) next = let m = numbered_next p ahead next in (m, (next_position m, drop next.1 ahead))
 
 -- all of them: there are no more than bytes
 abbrev pub numbered : List ℕ → List Numbered
