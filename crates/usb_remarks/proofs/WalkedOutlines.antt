@@ -1,5 +1,5 @@
 -- A walk over an input has the descriptors of its outline, and so those of its tree.
-use Rattle.std.proofs.Common.{◌≡◌, ℕ, List, [], ◌∷◌, length, map, Option, None, refl, sym, ap, ◌∙◌}
+use Rattle.std.proofs.Common.{◌≡◌, ℕ, List, [], length, map, Option, None, refl, sym, ap, ◌∙◌}
 use Rattle.std.proofs.lemmas.Simd.{map-map}
 use Rattle.usb_file_data.specs.declared.cause.Found.{Found}
 use Rattle.usb_file_data.specs.declared.file.Input.{Input}
@@ -15,10 +15,10 @@ use Rattle.usb_walk.proofs.Unfolded.{unfolded_map}
 use Rattle.usb_walk.proofs.WalkSteps.{next_numbered, numbered, pass_numbered}
 use Rattle.usb_walk.proofs.Walking.{walk_by_positions}
 use Rattle.usb_remarks.specs.declared.speed.SetSpeed.{SetSpeed}
-use Rattle.usb_remarks.specs.Outline.{Entry, entries, next_ahead, pass_ahead}
+use Rattle.usb_remarks.specs.Outline.{entries, next_ahead, pass_ahead}
 use Rattle.usb_remarks.specs.Standings.{start}
 use Rattle.usb_remarks.specs.WalkedOutlines.{WalkIsOutline, by_position}
-use Rattle.usb_remarks.proofs.Outlines.{entry_in_tree, tree_same}
+use Rattle.usb_remarks.proofs.Outlines.{tree_same}
 use Rattle.usb_remarks.proofs.rest.Inputs.{whole_shows}
 
 -- ---- by their positions the descriptors of an outline are those of the bytes
