@@ -1,5 +1,5 @@
 -- A control transfer as numbers, and what calls do to it.
-use Rattle.std.specs.Prelude.{◌≡◌, ℕ, ◌==◌, nat_lt, if◌then◌else◌, List, length, Option, Some, None}
+use Rattle.std.specs.Prelude.{◌≡◌, ℕ, ◌==◌, nat_lt, if◌then◌else◌, length, Option, Some, None}
 use Rattle.std.specs.Option.{option_and_then, option_map}
 use Rattle.usb_c.specs.Transactions.{toggle_told}
 use Rattle.usb_fields.specs.Packets.{Reply}

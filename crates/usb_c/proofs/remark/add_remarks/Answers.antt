@@ -1,4 +1,4 @@
-use Rattle.std.proofs.Common.{List, ◌++◌, ap, map}
+use Rattle.std.proofs.Common.{List, ◌++◌, ap}
 use Rattle.usb_remarks.specs.Outline.{described}
 use Rattle.usb_c.specs.declared.remark.NzgRemark.{NzgRemark}
 use Rattle.usb_c.specs.Remarks.{numbered}
