@@ -32,7 +32,7 @@ GROUPS = {
 # What none may be over, of proved code and of code near to that: of thumbv7em, thumbv6m and riscv32imac.
 BOUNDED = ("thumbv7em", "thumbv6m", "riscv32imac")
 BOUNDS = {
-    "a device": (5_100, 6_400, 8_100),
+    "a device": (5_000, 6_300, 8_000),
     "the image of a device": (33_000, 39_000, 52_000),
     "a device with its image and a judge": (46_000, 58_000, 74_000),
     "a host": (32_000, 40_000, 51_000),
@@ -45,14 +45,14 @@ BOUNDS = {
     "remarks": (41_000, 50_000, 64_000),
     "texts": (206_000, 214_000, 260_000),
     "packets": (3_300, 3_650, 4_400),
-    "everything": (256_000, 300_000, 337_000),
+    "everything": (256_000, 275_000, 337_000),
 }
 # Of a device: all that a program keeps but the room that it lends, and each frame of the calls.
 STRUCT, STRUCT_BOUND, FRAME_BOUND = "nzg_device", 330, 200
 
 
 # A module for npm, as it is and packed by gzip: with every call, and without those for recordings.
-OF_NPM = {"every call": (320_000, 128_000), "all calls but those for recordings": (320_000, 110_000)}
+OF_NPM = {"every call": (320_000, 110_000), "all calls but those for recordings": (320_000, 110_000)}
 
 
 def modules(made, room):
