@@ -8,3 +8,4 @@ pub mod FieldLemmas
 pub mod WordLemmas
 pub mod ByteParts
 pub mod Exits
+pub mod Unfolded

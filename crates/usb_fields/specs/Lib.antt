@@ -7,3 +7,4 @@ pub mod Bytes
 pub mod Lending
 pub mod Marks
 pub mod Fields
+pub mod Unfolded

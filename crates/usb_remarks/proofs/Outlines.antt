@@ -14,7 +14,7 @@ use Rattle.usb_remarks.specs.Standings.{AreCounted}
 use Rattle.usb_remarks.proofs.Standings.{counted_entered}
 use Rattle.usb_walk.proofs.NextRoles.{next_bounds}
 use Rattle.usb_walk.proofs.Positions.{counted_noted}
-use Rattle.usb_walk.proofs.Unfolded.{unfolded_enough, unfolded_none}
+use Rattle.usb_fields.proofs.Unfolded.{unfolded_enough, unfolded_none}
 use Rattle.usb_walk.proofs.WalkSteps.{step_of}
 
 -- ---- one step

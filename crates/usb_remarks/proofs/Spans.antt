@@ -14,7 +14,7 @@ use Rattle.usb_remarks.specs.Standings.{start}
 use Rattle.usb_remarks.specs.declared.speed.SetSpeed.{SetSpeed}
 use Rattle.usb_file_data.specs.declared.cause.Found.{Found}
 use Rattle.usb_remarks.proofs.Outlines.{bytes_same, entry_in_tree, entry_span, spans_same}
-use Rattle.usb_walk.proofs.Unfolded.{by_each_step}
+use Rattle.usb_fields.proofs.Unfolded.{by_each_step}
 use Rattle.usb_walk.proofs.WalkSteps.{step_of}
 use Rattle.usb_remarks.proofs.Standings.{looked_number, start_at}
 use Rattle.usb_remarks.proofs.Telling.{are_numbered, found_front}

@@ -10,7 +10,7 @@ use Rattle.usb_walk.specs.WalkedStrings.{WalkHasStrings}
 use Rattle.usb_walk.specs.WalkedTrees.{WalkIsTree, tree_numbers}
 use Rattle.usb_walk.proofs.InputStrings.{strings_by_tree}
 use Rattle.usb_walk.proofs.TreeWalks.{by_tree, walk_by_tree}
-use Rattle.usb_walk.proofs.Unfolded.{unfolded_map}
+use Rattle.usb_fields.proofs.Unfolded.{unfolded_map}
 use Rattle.usb_walk.proofs.WalkSteps.{next_numbered, numbered, pass_numbered}
 use Rattle.usb_walk.proofs.Walking.{walk_by_positions}
 use Rattle.usb_remarks.specs.declared.speed.SetSpeed.{SetSpeed}

@@ -18,7 +18,7 @@ use Rattle.usb_remarks.specs.InterfaceNumbers.{follows, is_late, missing_interfa
 use Rattle.usb_walk.specs.Owners.{owner_of}
 use Rattle.usb_walk.specs.Places.{place_in}
 use Rattle.usb_walk.specs.Roles.{next_role}
-use Rattle.usb_walk.specs.Unfolded.{unfolded}
+use Rattle.usb_fields.specs.Unfolded.{unfolded}
 use Rattle.usb_remarks.specs.SetStart.{entered}
 use Rattle.usb_remarks.specs.Standings.{passed, start}
 

@@ -8,6 +8,5 @@ mod StringItems
 pub mod StringTexts
 mod StringTrees
 pub mod TreeWalks
-pub mod Unfolded
 pub mod WalkSteps
 pub mod Walking

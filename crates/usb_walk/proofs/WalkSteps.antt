@@ -7,11 +7,11 @@ use Rattle.usb_walk.specs.declared.walked_descriptor.WalkedDescriptor.{WalkedDes
 use Rattle.usb_walk.specs.Numbered.{Numbered, next_position, numbered_next}
 use Rattle.usb_walk.specs.Positions.{first_position}
 use Rattle.usb_walk.specs.Roles.{next_role}
-use Rattle.usb_walk.specs.Unfolded.{unfolded}
+use Rattle.usb_fields.specs.Unfolded.{unfolded}
 use Rattle.usb_walk.specs.WalkedDescriptors.{as_numbers, nothing}
 use Rattle.usb_walk.proofs.NextRoles.{next_bounds, next_first}
 use Rattle.usb_walk.proofs.Positions.{noted_at, same_at}
-use Rattle.usb_walk.proofs.Unfolded.{by_each_step, unfolded_map}
+use Rattle.usb_fields.proofs.Unfolded.{by_each_step, unfolded_map}
 
 -- ---- the descriptors of bytes by their positions
 

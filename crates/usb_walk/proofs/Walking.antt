@@ -11,7 +11,7 @@ use Rattle.usb_walk.specs.Numbered.{next_position, numbered_next}
 use Rattle.usb_walk.specs.Positions.{Counted, first_position}
 use Rattle.usb_walk.specs.WalkedDescriptors.{AllGoOn, GoesOn, all_as_numbers, as_numbers, first_walked, is_counted, next_as_numbers, next_of, nothing, walked}
 use Rattle.usb_walk.proofs.Positions.{counted_at, counted_noted}
-use Rattle.usb_walk.proofs.Unfolded.{unfolded_more, unfolded_none}
+use Rattle.usb_fields.proofs.Unfolded.{unfolded_more, unfolded_none}
 use Rattle.usb_walk.proofs.WalkSteps.{Behind, Continues, Ends, behind_is, by_steps, coming, numbered, numbered_at, step_of}
 
 -- ---- counts

@@ -6,7 +6,6 @@ pub mod Places
 pub mod Trees
 pub mod Surroundings
 pub mod Numbered
-pub mod Unfolded
 pub mod NamedStrings
 pub mod WalkedDescriptors
 pub mod WalkedTrees

@@ -16,7 +16,7 @@ use Rattle.usb_walk.specs.Positions.{first_position}
 use Rattle.usb_walk.specs.RoleNumbers.{role_number}
 use Rattle.usb_walk.specs.Roles.{next_role}
 use Rattle.usb_walk.specs.Surroundings.{depth_of}
-use Rattle.usb_walk.specs.Unfolded.{unfolded}
+use Rattle.usb_fields.specs.Unfolded.{unfolded}
 
 -- What a descriptor is, as numbers.
 
@@ -35,7 +35,7 @@ holder_of_role roles.Association p = p.below
 holder_of_role roles.Raw p = p.below
 holder_of_role role p = 0
 
--- the index and the language of a descriptor of this role, after another one
+-- the index and the language of the string that a descriptor of this role is, after another one
 abbrev pub string_of_role : Role → List ℕ → WalkedDescriptor → StringPlace
 string_of_role roles.Text b was = string_among (indices_in was.named) (list_at b was.languages_place) was.position.strings
 string_of_role role b was = no_string

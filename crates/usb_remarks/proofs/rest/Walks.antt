@@ -13,7 +13,7 @@ use Rattle.usb_walk.specs.Trees.{tree_descriptors}
 use Rattle.usb_file_data.specs.declared.file.Input.{Input}
 use Rattle.usb_file_data.specs.Findings.{found_in_order}
 use Rattle.usb_walk.proofs.NextRoles.{next_bounds}
-use Rattle.usb_walk.proofs.Unfolded.{unfolded_more, unfolded_none}
+use Rattle.usb_fields.proofs.Unfolded.{unfolded_more, unfolded_none}
 use Rattle.usb_remarks.proofs.Outlines.{entry_in_tree, found_same, tree_same}
 use Rattle.usb_file_data.specs.declared.cause.Found.{Found}
 use Rattle.usb_file_data.specs.declared.cause.Cause.{Cause}

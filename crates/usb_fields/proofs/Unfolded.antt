@@ -1,7 +1,7 @@
 -- Lists that come step by step: one step, none, enough of them, and all.
 use Rattle.std.proofs.Common.{◌≡◌, ◌≤◌, ◌<◌, ◌⊎◌, inl, inr, ℕ, zero, suc, List, [], ◌∷◌, map, Option, Some, None, unwrap_or, refl, sym, ap, subst, ◌∙◌, arith}
 use Rattle.std.specs.Option.{option_map}
-use Rattle.usb_walk.specs.Unfolded.{unfolded}
+use Rattle.usb_fields.specs.Unfolded.{unfolded}
 
 -- where something is next, it is taken first
 pub unfolded_more : {A S X : Type 0} (next : S → Option X) (step : S → X → A × S) (n : ℕ) (s : S) (x : X) → next s ≡ Some x
