@@ -4,3 +4,8 @@ pub mod RunLemmas
 pub mod CapturedLemmas
 pub mod FindingLemmas
 pub mod LengthLemmas
+pub mod HostLemmas
+pub mod PipeLemmas
+pub mod CarriedLemmas
+pub mod ToggleLemmas
+pub mod ToggleRuns

@@ -148,7 +148,7 @@ token_fits t stages.StatusIn sent e = same_fits _ sent e refl
 token_fits t stages.Completed sent e = absurd (let w : ⊥ = cc in w)
 token_fits t (stages.Failed why) sent e = absurd (let w : ⊥ = cc in w)
 
-due_fits : (phase : HostPhase) (sent : Sent) → wanted phase ≡ WantsSent sent → fits sent.token ≡ true
+pub due_fits : (phase : HostPhase) (sent : Sent) → wanted phase ≡ WantsSent sent → fits sent.token ≡ true
 due_fits ResetDue sent e = absurd (let w : ⊥ = cc in w)
 due_fits (Reading place t k) sent e = token_fits t t.stage sent e
 due_fits (Ended place) sent e = absurd (let w : ⊥ = cc in w)
@@ -159,7 +159,7 @@ received_whole : (p : PacketView) (received : Option PacketView) → IsLegal p �
 received_whole p None legal is = absurd (none_is_not_some (damage_of (packet_bytes p)) (packet_taken p legal) is)
 received_whole p (Some q) legal is = ap (λ r. Some r) (same_packet q p is.0 legal is.1)
 
-taken_whole : (p received : Option PacketView) → IsTakenOf false [] p received → received ≡ p
+pub taken_whole : (p received : Option PacketView) → IsTakenOf false [] p received → received ≡ p
 taken_whole None received is = is
 taken_whole (Some p) received is = received_whole p received is.0 is.1
 
@@ -178,7 +178,7 @@ all_append P [] ys p q = q
 all_append P (x ∷ xs) ys p q = (p.0, all_append P xs ys p.1 q)
 
 -- a device that hears all that is sent
-whole_heard : (address : ℕ) (token : Token) → fits token ≡ true
+pub whole_heard : (address : ℕ) (token : Token) → fits token ≡ true
     → (let s : Sent = record { address = address; token = token } in fitting (heard_sent (Some (token_packet s)) (data_packet token)) ≡ Some s)
 whole_heard address (SetupToken bytes) e =
     let s : Sent = record { address = address; token = SetupToken bytes } in ap (λ c. if c then Some s else None) e

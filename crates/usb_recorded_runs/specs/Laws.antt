@@ -2,13 +2,16 @@
 use Rattle.std.specs.Prelude.{◌≡◌, ◌⊎◌, ℕ, true, false, List, [], Option, None}
 use Rattle.std.specs.List.{AllByRecursion}
 use Rattle.usb_file_data.specs.declared.file.DescriptorFile.{DescriptorFile}
+use Rattle.usb_fields.specs.declared.packet.Speed.{Speed}
+use Rattle.usb_host.specs.declared.choice.Choice.{Choice}
+use Rattle.usb_host.specs.Limits.{LimitView}
 use Rattle.usb_device.specs.Requests.{answer}
 use Rattle.usb_bus.specs.declared.fate.Fate.{Fate}
 use Rattle.usb_bus.specs.DamagedRuns.{DamagedRunsAt}
-use Rattle.usb_bus.specs.Enumerate.{Pair}
+use Rattle.usb_bus.specs.Enumerate.{Pair, chosen_pair}
 use Rattle.usb_bus.specs.Exchanges.{is_lost_down}
 use Rattle.usb_capture.specs.declared.frame.Frame.{Frame}
-use Rattle.usb_capture.specs.declared.packet_finding.PacketFinding.TheVariants.{NoHandshake, NoRequest, SetupRefused}
+use Rattle.usb_capture.specs.declared.packet_finding.PacketFinding.TheVariants.{NoHandshake, NoRequest, SetupRefused, Toggle}
 use Rattle.usb_capture.specs.declared.reader.CaptureReader.{CaptureReader}
 use Rattle.usb_capture.specs.declared.recorded_packet.RecordedPacket.{RecordedPacket}
 use Rattle.usb_capture.specs.declared.transaction.Transaction.{Transaction}
@@ -57,6 +60,14 @@ SetupsAreTaken =
     IsRun f fates new earlier n last →
     (let transactions = heard times 1 (exchanges f fates earlier n) in
     IsFreeAfter NoRequest [] transactions × IsFreeAfter SetupRefused [] transactions)
+
+-- No data toggle is wrong (8.5.3, 8.6), of a host that enumerates a new device: a packet that comes again, since its ACK was lost, has
+-- the toggle that it had (8.6.4).
+abbrev pub NoToggleIsWrong : Type 0
+NoToggleIsWrong =
+    (f : DescriptorFile) (fates : List Fate) (limits : LimitView) (speed : Speed) (choice : Choice) (earlier : List Pair) (n : ℕ) (last : Pair)
+    (times : ℕ → Option ℕ) → IsRun f fates (chosen_pair limits speed choice) earlier n last →
+    IsFreeAfter Toggle [] (heard times 1 (exchanges f fates earlier n))
 
 -- No packet of data is longer than bMaxPacketSize0 of the device (5.5.3, 9.6.1): none is found to be, where that or nothing is known of
 -- the packet size at its address.

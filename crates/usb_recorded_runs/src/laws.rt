@@ -1,5 +1,5 @@
 //! The functions of these laws do nothing: their contracts are the laws.
-ghost use Rattle.usb_recorded_runs.specs.Laws.{CapturedRunsAreRead, HandshakesAreLost, NoPacketIsDamaged, NoPacketIsLong, RecordedRunsAreRead, SetupsAreTaken};
+ghost use Rattle.usb_recorded_runs.specs.Laws.{CapturedRunsAreRead, HandshakesAreLost, NoPacketIsDamaged, NoPacketIsLong, NoToggleIsWrong, RecordedRunsAreRead, SetupsAreTaken};
 
 /// The packets of a run that arrive are read back to the transactions of the run: of one whose token is lost there is nothing,
 /// and of another its token, its data and its handshake, as far as each arrives.
@@ -20,6 +20,11 @@ pub fn no_packet_is_damaged()
 /// Of the findings in transactions neither `NoRequest` nor `SetupRefused` is ever there.
 pub fn each_setup_is_taken()
     ensures { SetupsAreTaken }
+{}
+
+/// `Toggle` is never found: a packet that comes again after a loss has the toggle that it had.
+pub fn no_toggle_is_wrong()
+    ensures { NoToggleIsWrong }
 {}
 
 /// `Long` is found nowhere where nothing else is known of a packet size than the device's own.

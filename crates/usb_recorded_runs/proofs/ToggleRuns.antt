@@ -1,0 +1,232 @@
+-- In a run of both ends from a new pair on, no toggle is wrong.
+use Rattle.std.proofs.Common.{◌≡◌, ◌<◌, ◌+◌, ◌-◌, ℕ, Bool, true, false, List, [], ◌∷◌, ◌++◌, append_assoc, length, inl, inr, refl, sym, ◌∙◌, ap, subst, arith, length-append}
+use Rattle.std.specs.Prelude.{Option, Some}
+use Rattle.std.specs.List.{AllByRecursion}
+use Rattle.std.proofs.lemmas.List.{append-nil}
+use Rattle.usb_wire.specs.Packets.{IsLegal}
+use Rattle.usb_fields.specs.declared.setup.Setup.{Setup}
+use Rattle.usb_fields.specs.Packets.{NoReply, Sent}
+use Rattle.usb_file_data.specs.declared.file.DescriptorFile.{DescriptorFile}
+use Rattle.usb_host.specs.declared.transfer.TransferStage.{TransferStage}
+use Rattle.usb_host.specs.declared.transfer.TransferStage.TheVariants as stages
+use Rattle.usb_host.specs.Steps.{Ended, HostPhase, Reading, ResetDue, TakesIn, WantsSent, sends, wanted}
+use Rattle.usb_host.specs.Transfer.{TransferView, addressed, token_due}
+use Rattle.usb_device.specs.declared.state.State.{State}
+use Rattle.usb_device.specs.Requests.{Outcome, answer}
+use Rattle.usb_device.specs.Step.{DeviceStage, DeviceView, Served, served}
+use Rattle.usb_bus.specs.declared.fate.Fate.{Fate}
+use Rattle.usb_bus.specs.declared.fate.Fate.TheVariants as fates
+use Rattle.usb_bus.specs.Bus.{brought, carried}
+use Rattle.usb_bus.specs.Damaged.{is_ready}
+use Rattle.usb_bus.specs.Enumerate.{IsTransactionAt, Pair, RunsAt, answered}
+use Rattle.usb_bus.specs.Exchanges.{is_lost_ack, is_lost_down, is_lost_up}
+use Rattle.usb_bus.specs.Log.{count_before}
+use Rattle.usb_bus.specs.Run.{fate_at}
+use Rattle.usb_bus.specs.Wire.{ack_packet, data_packet, reply_packet, token_packet}
+use Rattle.usb_capture.specs.declared.packet_finding.PacketFinding.{PacketFinding}
+use Rattle.usb_capture.specs.declared.packet_finding.PacketFinding.TheVariants.{Toggle}
+use Rattle.usb_capture.specs.declared.transaction.Transaction.{Transaction}
+use Rattle.usb_capture.specs.BusTransfers.{Pipes, none_open, pipes_after, pipes_in, transfer_over}
+use Rattle.usb_capture.specs.PacketFindings.{has_wrong_toggle, is_found}
+use Rattle.usb_capture.proofs.Folds.{after_push}
+use Rattle.usb_recorded_runs.specs.Exchanges.{Exchange, arriving, exchange_in, exchanges, heard, packets_in, packets_of, transaction_of, unless_lost}
+use Rattle.usb_recorded_runs.specs.Findings.{IsFreeAfter}
+use Rattle.usb_recorded_runs.proofs.HostLemmas.{InWork, reset_works, takes_works}
+use Rattle.usb_recorded_runs.proofs.PipeLemmas.{Sound, sound_first}
+use Rattle.usb_recorded_runs.proofs.RecordedLemmas.{IsRegular}
+use Rattle.usb_recorded_runs.proofs.ToggleLemmas.{Agree, after_answer, fresh_agrees, heard_in, step, taken_agrees}
+
+-- ---- lists
+
+free_push : (finding : PacketFinding) (before ts : List Transaction) (t : Transaction) → IsFreeAfter finding before ts → is_found finding (before ++ ts) t ≡ false
+    → IsFreeAfter finding before (ts ++ t ∷ [])
+free_push finding before [] t free last = (subst (λ b. is_found finding b t ≡ false) (append-nil before) last, tt)
+free_push finding before (u ∷ ts) t free last =
+    (free.0, free_push finding (before ++ u ∷ []) ts t free.1 (subst (λ b. is_found finding b t ≡ false) (sym (append_assoc before (u ∷ []) ts)) last))
+
+-- one exchange more
+module _ (times : ℕ → Option ℕ) where
+  abbrev pub one_heard : ℕ → Exchange → List Transaction
+  one_heard number x = unless_lost (is_lost_down x.fate) (transaction_of number (times number) x)
+
+  pub heard_push : (number : ℕ) (xs : List Exchange) (x : Exchange)
+      → heard times number (xs ++ x ∷ []) ≡ heard times number xs ++ one_heard (number + length (packets_in xs)) x
+  heard_push number [] x =
+      let same : number ≡ number + 0 = omega arith in
+      append-nil (one_heard number x) ∙ ap (λ n. one_heard n x) same
+  heard_push number (y ∷ xs) x =
+      let first = one_heard number y in
+      let after = number + length (packets_of y) in
+      let same : after + length (packets_in xs) ≡ number + length (packets_of y ++ packets_in xs) = omega (arith, length-append (packets_of y) (packets_in xs)) in
+      ap (λ ts. first ++ ts) (heard_push after xs x ∙ ap (λ n. heard times after xs ++ one_heard n x) same)
+      ∙ sym (append_assoc first (heard times after xs) (one_heard (number + length (packets_of y ++ packets_in xs)) x))
+
+-- ---- addresses
+
+-- A token that arrives has an address of 7 bits.
+abbrev pub IsSmall : Exchange → Type 0
+IsSmall x = is_lost_down x.fate ≡ false → x.sent.address < 128
+
+pub all_small : (xs : List Exchange) → AllByRecursion IsRegular xs → AllByRecursion IsSmall xs
+all_small [] regular = tt
+all_small (x ∷ xs) regular = (λ kept. small x kept regular.0.legal, all_small xs regular.1)
+  where
+    small : (x : Exchange) → is_lost_down x.fate ≡ false → AllByRecursion IsLegal (packets_of x) → x.sent.address < 128
+    small x kept legal =
+        (subst (λ lost. AllByRecursion IsLegal (arriving lost (Some (token_packet x.sent)) ++ (arriving (is_lost_down x.fate) (data_packet x.sent.token)
+        ++ (arriving (is_lost_up x.fate) (reply_packet x.answered) ++ arriving (is_lost_ack x.fate) (ack_packet (brought x.fate x.answered)))))) kept legal).0.0
+
+all_front : {A : Type 0} (P : A → Type 0) (xs ys : List A) → AllByRecursion P (xs ++ ys) → AllByRecursion P xs
+all_front P [] ys each = tt
+all_front P (x ∷ xs) ys each = (each.0, all_front P xs ys each.1)
+
+all_last : {A : Type 0} (P : A → Type 0) (xs : List A) (x : A) → AllByRecursion P (xs ++ x ∷ []) → P x
+all_last P [] x each = each.0
+all_last P (y ∷ xs) x each = all_last P xs x each.1
+
+-- ---- a run
+
+module _ (f : DescriptorFile) (list : List Fate) (times : ℕ → Option ℕ) where
+  abbrev table : State → Setup → Outcome
+  table = answer f
+
+  abbrev cut : ℕ
+  cut = f.device.packet
+
+  abbrev made_of : DeviceView → Sent → Fate → Exchange
+  made_of d sent fate = record { fate = fate; sent = sent; address = d.state.address; answered = answered f d sent fate }
+
+  carried_kept : (d : DeviceView) (sent : Sent) (fate : Fate) → is_lost_down fate ≡ false
+      → carried table cut d sent fate ≡ (let r = served table cut d sent (is_ready fate) in record { reply = brought fate r.reply; device = after_answer table cut fate r })
+  carried_kept d sent fates.Pass kept = refl
+  carried_kept d sent fates.Busy kept = refl
+  carried_kept d sent fates.LostUp kept = refl
+  carried_kept d sent fates.LostAck kept = refl
+  carried_kept d sent fates.LostDown kept = absurd (let w : ⊥ = cc in w)
+
+  answered_kept : (d : DeviceView) (sent : Sent) (fate : Fate) → is_lost_down fate ≡ false → answered f d sent fate ≡ (served table cut d sent (is_ready fate)).reply
+  answered_kept d sent fates.Pass kept = refl
+  answered_kept d sent fates.Busy kept = refl
+  answered_kept d sent fates.LostUp kept = refl
+  answered_kept d sent fates.LostAck kept = refl
+  answered_kept d sent fates.LostDown kept = absurd (let w : ⊥ = cc in w)
+
+  abbrev Known : DeviceStage → Pipes → HostPhase → Type 0
+  Known d pipes phase = InWork (Agree d pipes) (fresh_agrees d pipes) phase
+
+  -- after these transactions
+  pub record IsRight (ts : List Transaction) (last : Pair) : Type 0 where
+    pub free : IsFreeAfter Toggle [] ts
+    pub sound : Sound (pipes_in ts)
+    pub known : Known last.device.stage (pipes_in ts) last.host.phase
+
+  below : (address : ℕ) (s sent : Sent) → WantsSent s ≡ WantsSent sent → s.address ≡ address → sent.address < 128 → address < 256
+  below address s sent e is low = let same : s ≡ sent = cc in let there : sent.address ≡ address = ap (λ z. z.address) (sym same) ∙ is in omega (arith, low, there)
+
+  due_small : (t : TransferView) (stage : TransferStage) (sent : Sent) → sends (addressed t.address (token_due t [] stage)) ≡ WantsSent sent → sent.address < 128 → t.address < 256
+  due_small t stages.Setup sent e low = below t.address _ sent e refl low
+  due_small t stages.DataIn sent e low = below t.address _ sent e refl low
+  due_small t stages.DataOut sent e low = below t.address _ sent e refl low
+  due_small t stages.StatusOut sent e low = below t.address _ sent e refl low
+  due_small t stages.StatusIn sent e low = below t.address _ sent e refl low
+  due_small t stages.Completed sent e low = absurd (let w : ⊥ = cc in w)
+  due_small t (stages.Failed why) sent e low = absurd (let w : ⊥ = cc in w)
+
+  -- a transaction whose token arrives
+  kept_right : (x last : Pair) (fate : Fate) (made : IsTransactionAt table cut fate x last) (ts : List Transaction) (number : ℕ) → is_lost_down fate ≡ false → IsSmall (made_of x.device made.sent fate)
+      → IsRight ts x → IsRight (ts ++ transaction_of number (times number) (made_of x.device made.sent fate) ∷ []) last
+  kept_right x last fate made ts number kept small right = of x.host.phase made.due made.host right.known
+    where
+      d : DeviceView
+      d = x.device
+
+      T : Transaction
+      T = transaction_of number (times number) (made_of d made.sent fate)
+
+      after : pipes_in (ts ++ T ∷ []) ≡ pipes_after T (pipes_in ts)
+      after = after_push pipes_after transfer_over none_open ts T
+
+      comes : carried table cut d made.sent fate ≡ (let r = served table cut d made.sent (is_ready fate) in record { reply = brought fate r.reply; device = after_answer table cut fate r })
+      comes = carried_kept d made.sent fate kept
+
+      of : (phase : HostPhase) → wanted phase ≡ WantsSent made.sent → TakesIn x.host phase (carried table cut d made.sent fate).reply last.host → Known d.stage (pipes_in ts) phase
+          → IsRight (ts ++ T ∷ []) last
+      of ResetDue due takes known = absurd (let w : ⊥ = cc in w)
+      of (Ended place) due takes known = absurd (let w : ⊥ = cc in w)
+      of (Reading place t k) due takes known =
+          let below : t.address < 256 = due_small t t.stage made.sent due (small kept) in
+          let stepped = step table cut d fate kept number (times number) (pipes_in ts) right.sound t below t.stage made.sent refl due known in
+          let token = stepped.0 in
+          let sent_is : made.sent ≡ record { address = t.address; token = token } = stepped.1 in
+          let r : Served = served table cut d (record { address = t.address; token = token }) (is_ready fate) in
+          let heard_is : T ≡ heard_in number (times number) t.address token (is_lost_ack fate) (brought fate r.reply) =
+          ap (λ s. transaction_of number (times number) (made_of d s fate)) sent_is
+          ∙ ap (λ a. heard_in number (times number) t.address token (is_lost_ack fate) (brought fate a)) (answered_kept d (record { address = t.address; token = token }) fate kept) in
+          let served_is : carried table cut d made.sent fate ≡ record { reply = brought fate r.reply; device = after_answer table cut fate r } =
+          ap (λ s. carried table cut d s fate) sent_is ∙ carried_kept d (record { address = t.address; token = token }) fate kept in
+          let device_is : last.device ≡ after_answer table cut fate r = made.device ∙ ap (λ c. c.device) served_is in
+          let pipes_is : pipes_in (ts ++ T ∷ []) ≡ pipes_after (heard_in number (times number) t.address token (is_lost_ack fate) (brought fate r.reply)) (pipes_in ts) =
+          after ∙ ap (λ u. pipes_after u (pipes_in ts)) heard_is in
+          record {
+            free = free_push Toggle [] ts T right.free (ap (λ u. has_wrong_toggle u (pipes_in ts)) heard_is ∙ stepped.2.right);
+            sound = subst Sound (sym pipes_is) stepped.2.sound_then;
+            known =
+                subst (λ p. Known last.device.stage p last.host.phase) (sym pipes_is)
+                (subst (λ v. Known v.stage (pipes_after (heard_in number (times number) t.address token (is_lost_ack fate) (brought fate r.reply)) (pipes_in ts)) last.host.phase) (sym device_is)
+                (takes_works (Agree (after_answer table cut fate r).stage (pipes_after (heard_in number (times number) t.address token (is_lost_ack fate) (brought fate r.reply)) (pipes_in ts)))
+                (fresh_agrees (after_answer table cut fate r).stage (pipes_after (heard_in number (times number) t.address token (is_lost_ack fate) (brought fate r.reply)) (pipes_in ts)))
+                x.host last.host place t k (brought fate r.reply) stepped.2.agrees
+                (subst (λ c. TakesIn x.host (Reading place t k) c.reply last.host) served_is takes)));
+          }
+
+  -- and one whose token is lost
+  lost_right : (x last : Pair) (made : IsTransactionAt table cut fates.LostDown x last) (ts : List Transaction) → IsRight ts x → IsRight (ts ++ []) last
+  lost_right x last made ts right = subst (λ us. IsRight us last) (sym (append-nil ts)) (record { free = right.free; sound = right.sound; known = of x.host.phase made.due made.host right.known })
+    where
+      of : (phase : HostPhase) → wanted phase ≡ WantsSent made.sent → TakesIn x.host phase NoReply last.host → Known x.device.stage (pipes_in ts) phase
+          → Known last.device.stage (pipes_in ts) last.host.phase
+      of ResetDue due takes known = absurd (let w : ⊥ = cc in w)
+      of (Ended place) due takes known = absurd (let w : ⊥ = cc in w)
+      of (Reading place t k) due takes known =
+          subst (λ v. Known v.stage (pipes_in ts) last.host.phase) (sym made.device)
+          (takes_works (Agree x.device.stage (pipes_in ts)) (fresh_agrees x.device.stage (pipes_in ts)) x.host last.host place t k NoReply
+          (taken_agrees x.device.stage (pipes_in ts) t t.stage NoReply refl known (λ is none. absurd (let w : ⊥ = cc in w))) takes)
+
+  one_right : (x last : Pair) (fate : Fate) (made : IsTransactionAt table cut fate x last) (ts : List Transaction) (number : ℕ) → IsSmall (made_of x.device made.sent fate)
+      → IsRight ts x → IsRight (ts ++ one_heard times number (made_of x.device made.sent fate)) last
+  one_right x last fates.Pass made ts number small right = kept_right x last fates.Pass made ts number refl small right
+  one_right x last fates.Busy made ts number small right = kept_right x last fates.Busy made ts number refl small right
+  one_right x last fates.LostUp made ts number small right = kept_right x last fates.LostUp made ts number refl small right
+  one_right x last fates.LostAck made ts number small right = kept_right x last fates.LostAck made ts number refl small right
+  one_right x last fates.LostDown made ts number small right = lost_right x last made ts right
+
+  pub run_right : (new : Pair) (earlier : List Pair) (n : ℕ) (last : Pair) → new.host.phase ≡ ResetDue → RunsAt table cut list new earlier n last
+      → AllByRecursion IsSmall (exchanges f list earlier n) → IsRight (heard times 1 (exchanges f list earlier n)) last
+  run_right new [] n last due (same, none) small = record {
+    free = tt;
+    sound = sound_first;
+    known = subst (λ y. Known y.device.stage none_open y.host.phase) (sym same) (subst (λ p. Known new.device.stage none_open p) (sym due) tt);
+  }
+  run_right new (x ∷ earlier) n last due (inl (reset, run)) small =
+      let small_then = all_front IsSmall (exchanges f list earlier n) [] (subst (λ w. AllByRecursion IsSmall (exchanges f list earlier (count_before w n) ++ exchange_in f list n x.device w)) reset.due small) in
+      let before = run_right new earlier n x due run small_then in
+      let ts = heard times 1 (exchanges f list earlier n) in
+      subst (λ w. IsRight (heard times 1 (exchanges f list earlier (count_before w n) ++ exchange_in f list n x.device w)) last) (sym reset.due)
+      (subst (λ xs. IsRight (heard times 1 xs) last) (sym (append-nil (exchanges f list earlier n)))
+      (record {
+        free = before.free;
+        sound = before.sound;
+        known = reset_works (Agree last.device.stage (pipes_in ts)) (fresh_agrees last.device.stage (pipes_in ts)) x.host last.host reset.due reset.host;
+      }))
+  run_right new (x ∷ earlier) n last due (inr (m, same, made, run)) small =
+      let back : n - 1 ≡ m = omega (arith, same) in
+      let xs = exchanges f list earlier m in
+      let one = made_of x.device made.sent (fate_at list m) in
+      let all : AllByRecursion IsSmall (xs ++ one ∷ []) =
+      subst (λ k. AllByRecursion IsSmall (exchanges f list earlier k ++ made_of x.device made.sent (fate_at list k) ∷ [])) back
+      (subst (λ w. AllByRecursion IsSmall (exchanges f list earlier (count_before w n) ++ exchange_in f list n x.device w)) made.due small) in
+      let before = run_right new earlier m x due run (all_front IsSmall xs (one ∷ []) all) in
+      subst (λ w. IsRight (heard times 1 (exchanges f list earlier (count_before w n) ++ exchange_in f list n x.device w)) last) (sym made.due)
+      (subst (λ k. IsRight (heard times 1 (exchanges f list earlier k ++ made_of x.device made.sent (fate_at list k) ∷ [])) last) (sym back)
+      (subst (λ ts. IsRight ts last) (sym (heard_push times 1 xs one))
+      (one_right x last (fate_at list m) made (heard times 1 xs) (1 + length (packets_in xs)) (all_last IsSmall xs one all) before)))
