@@ -182,6 +182,10 @@ token_right size known InToken NoReply own token reply = refl
 abbrev pub IsNotLong : ℕ → Transaction → Type 0
 IsNotLong size t = (sizes : List ℕ) → (size_at t.to.address sizes ≡ 0) ⊎ (size_at t.to.address sizes ≡ size) → is_long sizes t ≡ false
 
+pub one_not_long : (size number : ℕ) (time : Option ℕ) (x : Exchange) → IsShortIn size x → IsNotLong size (transaction_of number time x)
+one_not_long size number time x short sizes own =
+    token_right size (size_at x.sent.address sizes) x.sent.token (brought x.fate x.answered) own short.token (came_short size x.fate x.answered short.reply)
+
 none_long_first : (size : ℕ) (lost : Bool) (t : Transaction) (ts : List Transaction) → IsNotLong size t → AllByRecursion (IsNotLong size) ts
     → AllByRecursion (IsNotLong size) (unless_lost lost t ++ ts)
 none_long_first size true t ts short later = later
@@ -192,6 +196,5 @@ pub none_long : (size : ℕ) (times : ℕ → Option ℕ) (number : ℕ) (xs : L
 none_long size times number [] short = tt
 none_long size times number (x ∷ xs) short =
     none_long_first size (is_lost_down x.fate) (transaction_of number (times number) x) (heard times (number + length (packets_of x)) xs)
-    (λ sizes own.
-    token_right size (size_at x.sent.address sizes) x.sent.token (brought x.fate x.answered) own short.0.token (came_short size x.fate x.answered short.0.reply))
+    (one_not_long size number (times number) x short.0)
     (none_long size times (number + length (packets_of x)) xs short.1)

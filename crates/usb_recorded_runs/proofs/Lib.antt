@@ -7,5 +7,10 @@ pub mod LengthLemmas
 pub mod HostLemmas
 pub mod PipeLemmas
 pub mod CarriedLemmas
-pub mod ToggleLemmas
-pub mod ToggleRuns
+pub mod FrontLemmas
+pub mod DeviceLemmas
+pub mod HeardLemmas
+pub mod StepLemmas
+pub mod KnownRuns
+pub mod SizeLemmas
+pub mod AnswerLemmas

@@ -11,7 +11,7 @@ use Rattle.usb_bus.specs.DamagedRuns.{DamagedRunsAt}
 use Rattle.usb_bus.specs.Enumerate.{Pair, chosen_pair}
 use Rattle.usb_bus.specs.Exchanges.{is_lost_down}
 use Rattle.usb_capture.specs.declared.frame.Frame.{Frame}
-use Rattle.usb_capture.specs.declared.packet_finding.PacketFinding.TheVariants.{NoHandshake, NoRequest, SetupRefused, Toggle}
+use Rattle.usb_capture.specs.declared.packet_finding.PacketFinding.TheVariants.{Long, NoHandshake, NoRequest, SetupRefused, Toggle}
 use Rattle.usb_capture.specs.declared.reader.CaptureReader.{CaptureReader}
 use Rattle.usb_capture.specs.declared.recorded_packet.RecordedPacket.{RecordedPacket}
 use Rattle.usb_capture.specs.declared.transaction.Transaction.{Transaction}
@@ -78,6 +78,13 @@ NoPacketIsLong =
     AllByRecursion
     (λ t. (sizes : List ℕ) → (size_at t.to.address sizes ≡ 0) ⊎ (size_at t.to.address sizes ≡ f.device.packet) → is_long sizes t ≡ false)
     (heard times 1 (exchanges f fates earlier n))
+
+-- None is found to be too long in an enumeration of a new device, whatever was read of its packet size: the device says no other one.
+abbrev pub NoLongPacketIsFound : Type 0
+NoLongPacketIsFound =
+    (f : DescriptorFile) (fates : List Fate) (limits : LimitView) (speed : Speed) (choice : Choice) (earlier : List Pair) (n : ℕ) (last : Pair)
+    (times : ℕ → Option ℕ) → IsRun f fates (chosen_pair limits speed choice) earlier n last →
+    IsFreeAfter Long [] (heard times 1 (exchanges f fates earlier n))
 
 -- A handshake lacks in a transaction whose token arrives only where it was lost, or where the device has another address (8.5).
 abbrev pub HandshakesAreLost : Type 0

@@ -1,5 +1,5 @@
 //! The functions of these laws do nothing: their contracts are the laws.
-ghost use Rattle.usb_recorded_runs.specs.Laws.{CapturedRunsAreRead, HandshakesAreLost, NoPacketIsDamaged, NoPacketIsLong, NoToggleIsWrong, RecordedRunsAreRead, SetupsAreTaken};
+ghost use Rattle.usb_recorded_runs.specs.Laws.{CapturedRunsAreRead, HandshakesAreLost, NoLongPacketIsFound, NoPacketIsDamaged, NoPacketIsLong, NoToggleIsWrong, RecordedRunsAreRead, SetupsAreTaken};
 
 /// The packets of a run that arrive are read back to the transactions of the run: of one whose token is lost there is nothing,
 /// and of another its token, its data and its handshake, as far as each arrives.
@@ -30,6 +30,11 @@ pub fn no_toggle_is_wrong()
 /// `Long` is found nowhere where nothing else is known of a packet size than the device's own.
 pub fn no_packet_is_long()
     ensures { NoPacketIsLong }
+{}
+
+/// Nor is it found anywhere in an enumeration of a new device, which says no other packet size of itself.
+pub fn no_long_packet_is_found()
+    ensures { NoLongPacketIsFound }
 {}
 
 /// `NoHandshake` is found only where an answer or an ACK was lost, or where the device has another address, as one that has not

@@ -1,18 +1,19 @@
--- In a run of both ends from a new pair on, no toggle is wrong.
-use Rattle.std.proofs.Common.{◌≡◌, ◌<◌, ◌+◌, ◌-◌, ℕ, Bool, true, false, List, [], ◌∷◌, ◌++◌, append_assoc, length, inl, inr, refl, sym, ◌∙◌, ap, subst, arith, length-append}
-use Rattle.std.specs.Prelude.{Option, Some}
+-- In a run of both ends from a new pair on, no toggle is wrong, and no transfer says another packet size than the device's own.
+use Rattle.std.proofs.Common.{◌≡◌, ◌<◌, ◌+◌, ◌-◌, ℕ, Bool, true, false, List, [], ◌∷◌, ◌++◌, append_assoc, length, take, inl, inr, refl, sym, ◌∙◌, ap, subst, arith, length-append}
+use Rattle.std.specs.Prelude.{Option, Some, None}
 use Rattle.std.specs.List.{AllByRecursion}
+use Rattle.std.specs.Option.{option_to_list}
 use Rattle.std.proofs.lemmas.List.{append-nil}
 use Rattle.usb_wire.specs.Packets.{IsLegal}
 use Rattle.usb_fields.specs.declared.setup.Setup.{Setup}
-use Rattle.usb_fields.specs.Packets.{NoReply, Sent}
+use Rattle.usb_fields.specs.Packets.{NoReply, Sent, joined, packets}
 use Rattle.usb_file_data.specs.declared.file.DescriptorFile.{DescriptorFile}
 use Rattle.usb_host.specs.declared.transfer.TransferStage.{TransferStage}
 use Rattle.usb_host.specs.declared.transfer.TransferStage.TheVariants as stages
 use Rattle.usb_host.specs.Steps.{Ended, HostPhase, Reading, ResetDue, TakesIn, WantsSent, sends, wanted}
 use Rattle.usb_host.specs.Transfer.{TransferView, addressed, token_due}
 use Rattle.usb_device.specs.declared.state.State.{State}
-use Rattle.usb_device.specs.Requests.{Outcome, answer}
+use Rattle.usb_device.specs.Requests.{Bytes, Outcome, answer}
 use Rattle.usb_device.specs.Step.{DeviceStage, DeviceView, Served, served}
 use Rattle.usb_bus.specs.declared.fate.Fate.{Fate}
 use Rattle.usb_bus.specs.declared.fate.Fate.TheVariants as fates
@@ -23,18 +24,24 @@ use Rattle.usb_bus.specs.Exchanges.{is_lost_ack, is_lost_down, is_lost_up}
 use Rattle.usb_bus.specs.Log.{count_before}
 use Rattle.usb_bus.specs.Run.{fate_at}
 use Rattle.usb_bus.specs.Wire.{ack_packet, data_packet, reply_packet, token_packet}
+use Rattle.usb_capture.specs.declared.control_transfer.ControlTransfer.{ControlTransfer}
 use Rattle.usb_capture.specs.declared.packet_finding.PacketFinding.{PacketFinding}
-use Rattle.usb_capture.specs.declared.packet_finding.PacketFinding.TheVariants.{Toggle}
+use Rattle.usb_capture.specs.declared.packet_finding.PacketFinding.TheVariants.{Long, Toggle}
 use Rattle.usb_capture.specs.declared.transaction.Transaction.{Transaction}
-use Rattle.usb_capture.specs.BusTransfers.{Pipes, none_open, pipes_after, pipes_in, transfer_over}
+use Rattle.usb_capture.specs.BusTransfers.{Pipes, none_open, pipes_after, pipes_in, transfer_over, transfers_in}
 use Rattle.usb_capture.specs.PacketFindings.{has_wrong_toggle, is_found}
-use Rattle.usb_capture.proofs.Folds.{after_push}
+use Rattle.usb_capture.specs.PacketSizes.{sizes_in}
+use Rattle.usb_capture.proofs.Folds.{after_push, given_push}
 use Rattle.usb_recorded_runs.specs.Exchanges.{Exchange, arriving, exchange_in, exchanges, heard, packets_in, packets_of, transaction_of, unless_lost}
 use Rattle.usb_recorded_runs.specs.Findings.{IsFreeAfter}
 use Rattle.usb_recorded_runs.proofs.HostLemmas.{InWork, reset_works, takes_works}
 use Rattle.usb_recorded_runs.proofs.PipeLemmas.{Sound, sound_first}
 use Rattle.usb_recorded_runs.proofs.RecordedLemmas.{IsRegular}
-use Rattle.usb_recorded_runs.proofs.ToggleLemmas.{Agree, after_answer, fresh_agrees, heard_in, step, taken_agrees}
+use Rattle.usb_recorded_runs.proofs.AnswerLemmas.{fronts_tell}
+use Rattle.usb_recorded_runs.proofs.HeardLemmas.{heard_in}
+use Rattle.usb_recorded_runs.proofs.LengthLemmas.{IsShortIn, one_not_long}
+use Rattle.usb_recorded_runs.proofs.SizeLemmas.{IfOver, Says, TellsSize, own_size}
+use Rattle.usb_recorded_runs.proofs.StepLemmas.{Agree, after_answer, fresh_agrees, step, taken_agrees}
 
 -- ---- lists
 
@@ -93,11 +100,14 @@ module _ (f : DescriptorFile) (list : List Fate) (times : ℕ → Option ℕ) wh
   abbrev cut : ℕ
   cut = f.device.packet
 
+  pub tells : (s : State) (q : Setup) (bytes : List ℕ) → answer f s q ≡ Bytes bytes → (m : ℕ) → TellsSize f.device.packet q (joined (take m (packets bytes f.device.packet q.length)))
+  tells = fronts_tell f
+
   abbrev made_of : DeviceView → Sent → Fate → Exchange
   made_of d sent fate = record { fate = fate; sent = sent; address = d.state.address; answered = answered f d sent fate }
 
   carried_kept : (d : DeviceView) (sent : Sent) (fate : Fate) → is_lost_down fate ≡ false
-      → carried table cut d sent fate ≡ (let r = served table cut d sent (is_ready fate) in record { reply = brought fate r.reply; device = after_answer table cut fate r })
+      → carried table cut d sent fate ≡ (let r = served table cut d sent (is_ready fate) in record { reply = brought fate r.reply; device = after_answer table cut tells fate r })
   carried_kept d sent fates.Pass kept = refl
   carried_kept d sent fates.Busy kept = refl
   carried_kept d sent fates.LostUp kept = refl
@@ -112,13 +122,23 @@ module _ (f : DescriptorFile) (list : List Fate) (times : ℕ → Option ℕ) wh
   answered_kept d sent fates.LostDown kept = absurd (let w : ⊥ = cc in w)
 
   abbrev Known : DeviceStage → Pipes → HostPhase → Type 0
-  Known d pipes phase = InWork (Agree d pipes) (fresh_agrees d pipes) phase
+  Known d pipes phase = InWork (Agree table cut tells d pipes) (fresh_agrees table cut tells d pipes) phase
 
   -- after these transactions
   pub record IsRight (ts : List Transaction) (last : Pair) : Type 0 where
-    pub free : IsFreeAfter Toggle [] ts
+    pub toggles : IsFreeAfter Toggle [] ts
+    pub lengths : IsFreeAfter Long [] ts
+    pub says : AllByRecursion (Says cut) (transfers_in ts)
     pub sound : Sound (pipes_in ts)
     pub known : Known last.device.stage (pipes_in ts) last.host.phase
+
+  low_small : (address : ℕ) → address < 128 → address < 256
+  low_small address low = omega (arith, low)
+
+  all_over : (ts : List ControlTransfer) (o : Option ControlTransfer) → AllByRecursion (Says cut) ts → IfOver cut o → AllByRecursion (Says cut) (ts ++ option_to_list o)
+  all_over [] None says over = tt
+  all_over [] (Some t) says over = (over, tt)
+  all_over (first ∷ ts) o says over = (says.0, all_over ts o says.1 over)
 
   below : (address : ℕ) (s sent : Sent) → WantsSent s ≡ WantsSent sent → s.address ≡ address → sent.address < 128 → address < 256
   below address s sent e is low = let same : s ≡ sent = cc in let there : sent.address ≡ address = ap (λ z. z.address) (sym same) ∙ is in omega (arith, low, there)
@@ -133,9 +153,9 @@ module _ (f : DescriptorFile) (list : List Fate) (times : ℕ → Option ℕ) wh
   due_small t (stages.Failed why) sent e low = absurd (let w : ⊥ = cc in w)
 
   -- a transaction whose token arrives
-  kept_right : (x last : Pair) (fate : Fate) (made : IsTransactionAt table cut fate x last) (ts : List Transaction) (number : ℕ) → is_lost_down fate ≡ false → IsSmall (made_of x.device made.sent fate)
+  kept_right : (x last : Pair) (fate : Fate) (made : IsTransactionAt table cut fate x last) (ts : List Transaction) (number : ℕ) → is_lost_down fate ≡ false → IsSmall (made_of x.device made.sent fate) → IsShortIn cut (made_of x.device made.sent fate)
       → IsRight ts x → IsRight (ts ++ transaction_of number (times number) (made_of x.device made.sent fate) ∷ []) last
-  kept_right x last fate made ts number kept small right = of x.host.phase made.due made.host right.known
+  kept_right x last fate made ts number kept small short right = of x.host.phase made.due made.host right.known
     where
       d : DeviceView
       d = x.device
@@ -146,7 +166,7 @@ module _ (f : DescriptorFile) (list : List Fate) (times : ℕ → Option ℕ) wh
       after : pipes_in (ts ++ T ∷ []) ≡ pipes_after T (pipes_in ts)
       after = after_push pipes_after transfer_over none_open ts T
 
-      comes : carried table cut d made.sent fate ≡ (let r = served table cut d made.sent (is_ready fate) in record { reply = brought fate r.reply; device = after_answer table cut fate r })
+      comes : carried table cut d made.sent fate ≡ (let r = served table cut d made.sent (is_ready fate) in record { reply = brought fate r.reply; device = after_answer table cut tells fate r })
       comes = carried_kept d made.sent fate kept
 
       of : (phase : HostPhase) → wanted phase ≡ WantsSent made.sent → TakesIn x.host phase (carried table cut d made.sent fate).reply last.host → Known d.stage (pipes_in ts) phase
@@ -155,33 +175,37 @@ module _ (f : DescriptorFile) (list : List Fate) (times : ℕ → Option ℕ) wh
       of (Ended place) due takes known = absurd (let w : ⊥ = cc in w)
       of (Reading place t k) due takes known =
           let below : t.address < 256 = due_small t t.stage made.sent due (small kept) in
-          let stepped = step table cut d fate kept number (times number) (pipes_in ts) right.sound t below t.stage made.sent refl due known in
+          let own = own_size cut (transfers_in ts) made.sent.address right.says (low_small made.sent.address (small kept)) in
+          let stepped = step table cut tells d fate kept number (times number) (pipes_in ts) right.sound t below t.stage made.sent refl due known in
           let token = stepped.0 in
           let sent_is : made.sent ≡ record { address = t.address; token = token } = stepped.1 in
           let r : Served = served table cut d (record { address = t.address; token = token }) (is_ready fate) in
           let heard_is : T ≡ heard_in number (times number) t.address token (is_lost_ack fate) (brought fate r.reply) =
           ap (λ s. transaction_of number (times number) (made_of d s fate)) sent_is
           ∙ ap (λ a. heard_in number (times number) t.address token (is_lost_ack fate) (brought fate a)) (answered_kept d (record { address = t.address; token = token }) fate kept) in
-          let served_is : carried table cut d made.sent fate ≡ record { reply = brought fate r.reply; device = after_answer table cut fate r } =
+          let served_is : carried table cut d made.sent fate ≡ record { reply = brought fate r.reply; device = after_answer table cut tells fate r } =
           ap (λ s. carried table cut d s fate) sent_is ∙ carried_kept d (record { address = t.address; token = token }) fate kept in
-          let device_is : last.device ≡ after_answer table cut fate r = made.device ∙ ap (λ c. c.device) served_is in
+          let device_is : last.device ≡ after_answer table cut tells fate r = made.device ∙ ap (λ c. c.device) served_is in
           let pipes_is : pipes_in (ts ++ T ∷ []) ≡ pipes_after (heard_in number (times number) t.address token (is_lost_ack fate) (brought fate r.reply)) (pipes_in ts) =
           after ∙ ap (λ u. pipes_after u (pipes_in ts)) heard_is in
           record {
-            free = free_push Toggle [] ts T right.free (ap (λ u. has_wrong_toggle u (pipes_in ts)) heard_is ∙ stepped.2.right);
+            toggles = free_push Toggle [] ts T right.toggles (ap (λ u. has_wrong_toggle u (pipes_in ts)) heard_is ∙ stepped.2.right);
+            lengths = free_push Long [] ts T right.lengths (one_not_long cut number (times number) (made_of d made.sent fate) short (sizes_in (transfers_in ts)) own);
+            says = subst (AllByRecursion (Says cut)) (sym (given_push pipes_after transfer_over none_open ts T))
+                (all_over (transfers_in ts) (transfer_over T (pipes_in ts)) right.says (subst (λ u. IfOver cut (transfer_over u (pipes_in ts))) (sym heard_is) stepped.2.over));
             sound = subst Sound (sym pipes_is) stepped.2.sound_then;
             known =
                 subst (λ p. Known last.device.stage p last.host.phase) (sym pipes_is)
                 (subst (λ v. Known v.stage (pipes_after (heard_in number (times number) t.address token (is_lost_ack fate) (brought fate r.reply)) (pipes_in ts)) last.host.phase) (sym device_is)
-                (takes_works (Agree (after_answer table cut fate r).stage (pipes_after (heard_in number (times number) t.address token (is_lost_ack fate) (brought fate r.reply)) (pipes_in ts)))
-                (fresh_agrees (after_answer table cut fate r).stage (pipes_after (heard_in number (times number) t.address token (is_lost_ack fate) (brought fate r.reply)) (pipes_in ts)))
+                (takes_works (Agree table cut tells (after_answer table cut tells fate r).stage (pipes_after (heard_in number (times number) t.address token (is_lost_ack fate) (brought fate r.reply)) (pipes_in ts)))
+                (fresh_agrees table cut tells (after_answer table cut tells fate r).stage (pipes_after (heard_in number (times number) t.address token (is_lost_ack fate) (brought fate r.reply)) (pipes_in ts)))
                 x.host last.host place t k (brought fate r.reply) stepped.2.agrees
                 (subst (λ c. TakesIn x.host (Reading place t k) c.reply last.host) served_is takes)));
           }
 
   -- and one whose token is lost
   lost_right : (x last : Pair) (made : IsTransactionAt table cut fates.LostDown x last) (ts : List Transaction) → IsRight ts x → IsRight (ts ++ []) last
-  lost_right x last made ts right = subst (λ us. IsRight us last) (sym (append-nil ts)) (record { free = right.free; sound = right.sound; known = of x.host.phase made.due made.host right.known })
+  lost_right x last made ts right = subst (λ us. IsRight us last) (sym (append-nil ts)) (record { toggles = right.toggles; lengths = right.lengths; says = right.says; sound = right.sound; known = of x.host.phase made.due made.host right.known })
     where
       of : (phase : HostPhase) → wanted phase ≡ WantsSent made.sent → TakesIn x.host phase NoReply last.host → Known x.device.stage (pipes_in ts) phase
           → Known last.device.stage (pipes_in ts) last.host.phase
@@ -189,44 +213,52 @@ module _ (f : DescriptorFile) (list : List Fate) (times : ℕ → Option ℕ) wh
       of (Ended place) due takes known = absurd (let w : ⊥ = cc in w)
       of (Reading place t k) due takes known =
           subst (λ v. Known v.stage (pipes_in ts) last.host.phase) (sym made.device)
-          (takes_works (Agree x.device.stage (pipes_in ts)) (fresh_agrees x.device.stage (pipes_in ts)) x.host last.host place t k NoReply
-          (taken_agrees x.device.stage (pipes_in ts) t t.stage NoReply refl known (λ is none. absurd (let w : ⊥ = cc in w))) takes)
+          (takes_works (Agree table cut tells x.device.stage (pipes_in ts)) (fresh_agrees table cut tells x.device.stage (pipes_in ts)) x.host last.host place t k NoReply
+          (taken_agrees table cut tells x.device.stage (pipes_in ts) t t.stage NoReply refl known (λ is none. absurd (let w : ⊥ = cc in w))) takes)
 
-  one_right : (x last : Pair) (fate : Fate) (made : IsTransactionAt table cut fate x last) (ts : List Transaction) (number : ℕ) → IsSmall (made_of x.device made.sent fate)
+  one_right : (x last : Pair) (fate : Fate) (made : IsTransactionAt table cut fate x last) (ts : List Transaction) (number : ℕ) → IsSmall (made_of x.device made.sent fate) → IsShortIn cut (made_of x.device made.sent fate)
       → IsRight ts x → IsRight (ts ++ one_heard times number (made_of x.device made.sent fate)) last
-  one_right x last fates.Pass made ts number small right = kept_right x last fates.Pass made ts number refl small right
-  one_right x last fates.Busy made ts number small right = kept_right x last fates.Busy made ts number refl small right
-  one_right x last fates.LostUp made ts number small right = kept_right x last fates.LostUp made ts number refl small right
-  one_right x last fates.LostAck made ts number small right = kept_right x last fates.LostAck made ts number refl small right
-  one_right x last fates.LostDown made ts number small right = lost_right x last made ts right
+  one_right x last fates.Pass made ts number small short right = kept_right x last fates.Pass made ts number refl small short right
+  one_right x last fates.Busy made ts number small short right = kept_right x last fates.Busy made ts number refl small short right
+  one_right x last fates.LostUp made ts number small short right = kept_right x last fates.LostUp made ts number refl small short right
+  one_right x last fates.LostAck made ts number small short right = kept_right x last fates.LostAck made ts number refl small short right
+  one_right x last fates.LostDown made ts number small short right = lost_right x last made ts right
 
   pub run_right : (new : Pair) (earlier : List Pair) (n : ℕ) (last : Pair) → new.host.phase ≡ ResetDue → RunsAt table cut list new earlier n last
-      → AllByRecursion IsSmall (exchanges f list earlier n) → IsRight (heard times 1 (exchanges f list earlier n)) last
-  run_right new [] n last due (same, none) small = record {
-    free = tt;
+      → AllByRecursion IsSmall (exchanges f list earlier n) → AllByRecursion (IsShortIn cut) (exchanges f list earlier n) → IsRight (heard times 1 (exchanges f list earlier n)) last
+  run_right new [] n last due (same, none) small short = record {
+    toggles = tt;
+    lengths = tt;
+    says = tt;
     sound = sound_first;
     known = subst (λ y. Known y.device.stage none_open y.host.phase) (sym same) (subst (λ p. Known new.device.stage none_open p) (sym due) tt);
   }
-  run_right new (x ∷ earlier) n last due (inl (reset, run)) small =
+  run_right new (x ∷ earlier) n last due (inl (reset, run)) small short =
       let small_then = all_front IsSmall (exchanges f list earlier n) [] (subst (λ w. AllByRecursion IsSmall (exchanges f list earlier (count_before w n) ++ exchange_in f list n x.device w)) reset.due small) in
-      let before = run_right new earlier n x due run small_then in
+      let short_then = all_front (IsShortIn cut) (exchanges f list earlier n) [] (subst (λ w. AllByRecursion (IsShortIn cut) (exchanges f list earlier (count_before w n) ++ exchange_in f list n x.device w)) reset.due short) in
+      let before = run_right new earlier n x due run small_then short_then in
       let ts = heard times 1 (exchanges f list earlier n) in
       subst (λ w. IsRight (heard times 1 (exchanges f list earlier (count_before w n) ++ exchange_in f list n x.device w)) last) (sym reset.due)
       (subst (λ xs. IsRight (heard times 1 xs) last) (sym (append-nil (exchanges f list earlier n)))
       (record {
-        free = before.free;
+        toggles = before.toggles;
+        lengths = before.lengths;
+        says = before.says;
         sound = before.sound;
-        known = reset_works (Agree last.device.stage (pipes_in ts)) (fresh_agrees last.device.stage (pipes_in ts)) x.host last.host reset.due reset.host;
+        known = reset_works (Agree table cut tells last.device.stage (pipes_in ts)) (fresh_agrees table cut tells last.device.stage (pipes_in ts)) x.host last.host reset.due reset.host;
       }))
-  run_right new (x ∷ earlier) n last due (inr (m, same, made, run)) small =
+  run_right new (x ∷ earlier) n last due (inr (m, same, made, run)) small short =
       let back : n - 1 ≡ m = omega (arith, same) in
       let xs = exchanges f list earlier m in
       let one = made_of x.device made.sent (fate_at list m) in
       let all : AllByRecursion IsSmall (xs ++ one ∷ []) =
       subst (λ k. AllByRecursion IsSmall (exchanges f list earlier k ++ made_of x.device made.sent (fate_at list k) ∷ [])) back
       (subst (λ w. AllByRecursion IsSmall (exchanges f list earlier (count_before w n) ++ exchange_in f list n x.device w)) made.due small) in
-      let before = run_right new earlier m x due run (all_front IsSmall xs (one ∷ []) all) in
+      let all_short : AllByRecursion (IsShortIn cut) (xs ++ one ∷ []) =
+      subst (λ k. AllByRecursion (IsShortIn cut) (exchanges f list earlier k ++ made_of x.device made.sent (fate_at list k) ∷ [])) back
+      (subst (λ w. AllByRecursion (IsShortIn cut) (exchanges f list earlier (count_before w n) ++ exchange_in f list n x.device w)) made.due short) in
+      let before = run_right new earlier m x due run (all_front IsSmall xs (one ∷ []) all) (all_front (IsShortIn cut) xs (one ∷ []) all_short) in
       subst (λ w. IsRight (heard times 1 (exchanges f list earlier (count_before w n) ++ exchange_in f list n x.device w)) last) (sym made.due)
       (subst (λ k. IsRight (heard times 1 (exchanges f list earlier k ++ made_of x.device made.sent (fate_at list k) ∷ [])) last) (sym back)
       (subst (λ ts. IsRight ts last) (sym (heard_push times 1 xs one))
-      (one_right x last (fate_at list m) made (heard times 1 xs) (1 + length (packets_in xs)) (all_last IsSmall xs one all) before)))
+      (one_right x last (fate_at list m) made (heard times 1 xs) (1 + length (packets_in xs)) (all_last IsSmall xs one all) (all_last (IsShortIn cut) xs one all_short) before)))
