@@ -133,3 +133,14 @@ fronts_tell f s q bytes e m read kind whole =
     of rest (inl joins) has is = whole_tells f.device q.length (joined (take m (packets bytes f.device.packet q.length))) rest (joins ∙ is) has
     of rest (inr none) has is =
         absurd (let e : false ≡ true = sym (ap (is_whole 1) (nothing_front (joined (take m (packets bytes f.device.packet q.length))) rest none)) ∙ has in let w : ⊥ = cc in w)
+
+-- nor are they more bytes than were asked for
+pub fronts_few : (size limit : ℕ) (bytes : List ℕ) (m : ℕ) → length bytes ≤ limit → length (joined (take m (packets bytes size limit))) ≤ limit
+fronts_few size limit bytes m within = let before = front_of size limit bytes m within in of before.0 before.1
+  where
+    front : List ℕ
+    front = joined (take m (packets bytes size limit))
+
+    of : (rest : List ℕ) → (front ++ rest ≡ bytes) ⊎ (front ++ rest ≡ []) → length front ≤ limit
+    of rest (inl joins) = omega (arith, length-append front rest, ap length joins)
+    of rest (inr none) = omega (arith, ap length (nothing_front front rest none))

@@ -38,7 +38,6 @@ use Rattle.usb_capture.specs.PacketFindings.{has_wrong_toggle, is_wrong_at}
 use Rattle.usb_capture.specs.Readings.{is_done}
 use Rattle.usb_capture.specs.Transfers.{open_with}
 use Rattle.usb_recorded_runs.specs.Exchanges.{data_heard, handshake_heard}
-use Rattle.usb_recorded_runs.proofs.HostLemmas.{BringsOrNone}
 use Rattle.usb_recorded_runs.proofs.PipeLemmas.{Holds, OpenAt, Sound, again, begins_at, ended_at, found_unseen, goes_at, goes_with}
 
 -- ---- a device

@@ -40,9 +40,8 @@ use Rattle.usb_capture.specs.PacketFindings.{has_wrong_toggle, is_wrong_at}
 use Rattle.usb_capture.specs.Readings.{is_done}
 use Rattle.usb_capture.specs.Transfers.{open_with}
 use Rattle.usb_recorded_runs.specs.Exchanges.{data_heard, handshake_heard}
-use Rattle.usb_recorded_runs.proofs.HostLemmas.{BringsOrNone}
 use Rattle.usb_recorded_runs.proofs.PipeLemmas.{Holds, OpenAt, Sound, again, begins_at, ended_at, found_unseen, goes_at, goes_with}
-use Rattle.usb_recorded_runs.proofs.SizeLemmas.{IfOver, Told, told_says, unended_says}
+use Rattle.usb_recorded_runs.proofs.SizeLemmas.{IfOver, Told, told_over, unseen_over}
 
 abbrev pub Goes : Direction → Going → Type 0
 Goes direction going = data_direction going.transfer.setup ≡ direction
@@ -83,6 +82,16 @@ bytes_cases bytes transfer = of (nat_le (length transfer.data + length bytes) 65
     of : (c : Bool) → Cut (if c then record counted { «data» = transfer.data ++ bytes } else record counted { is_cut = true })
     of true = inr refl
     of false = inl refl
+
+pub bytes_count : (bytes : List ℕ) (transfer : ControlTransfer) → (with_bytes bytes transfer).length ≤ transfer.length + length bytes
+bytes_count bytes transfer = of (nat_le (length transfer.data + length bytes) 65535)
+  where
+    counted : ControlTransfer
+    counted = record transfer { length = min (transfer.length + length bytes) 4294967295 }
+
+    of : (c : Bool) → (if c then record counted { «data» = transfer.data ++ bytes } else record counted { is_cut = true }).length ≤ transfer.length + length bytes
+    of true = omega arith
+    of false = omega arith
 
 pub bytes_cut : (bytes : List ℕ) (transfer : ControlTransfer) → transfer.is_cut ≡ true → (with_bytes bytes transfer).is_cut ≡ true
 bytes_cut bytes transfer cut = of (nat_le (length transfer.data + length bytes) 65535)
@@ -160,13 +169,13 @@ module _ (size number : ℕ) (time : Option ℕ) (address : ℕ) (small : addres
   heard_here token lost came = heard_in number time address token lost came
 
   -- an IN without data
-  pub quiet_in : (P Q : Going → Type 0) (lost : Bool) (came : Reply) → IsNoData came → OpenAt address P pipes → ((going : Going) → P going → Q going)
-      → Right size (heard_here InToken lost came) Q pipes
-  quiet_in P Q lost AckReply none opens keeps = right_at size (heard_here InToken lost AckReply) P Q pipes sound refl opens (λ going unended holds. (refl, tt, again address going Q pipes small sound unended (keeps going holds)))
-  quiet_in P Q lost NakReply none opens keeps = right_at size (heard_here InToken lost NakReply) P Q pipes sound refl opens (λ going unended holds. (refl, tt, again address going Q pipes small sound unended (keeps going holds)))
-  quiet_in P Q lost StallReply none opens keeps = right_at size (heard_here InToken lost StallReply) P Q pipes sound refl opens (λ going unended holds. (refl, unended_says size (ended_so (heard_here InToken lost StallReply) endings.Stall going.transfer) refl, ended_at address going Q pipes sound))
-  quiet_in P Q lost NoReply none opens keeps = right_at size (heard_here InToken lost NoReply) P Q pipes sound refl opens (λ going unended holds. (refl, tt, again address going Q pipes small sound unended (keeps going holds)))
-  quiet_in P Q lost (DataReply toggle bytes) none opens keeps = absurd none
+  pub quiet_in : (P Q : Going → Type 0) (lost : Bool) (came : Reply) → IsNoData came → OpenAt address P pipes → ((going : Going) → P going → Told size going.transfer)
+      → ((going : Going) → P going → Q going) → Right size (heard_here InToken lost came) Q pipes
+  quiet_in P Q lost AckReply none opens told keeps = right_at size (heard_here InToken lost AckReply) P Q pipes sound refl opens (λ going unended holds. (refl, tt, again address going Q pipes small sound unended (keeps going holds)))
+  quiet_in P Q lost NakReply none opens told keeps = right_at size (heard_here InToken lost NakReply) P Q pipes sound refl opens (λ going unended holds. (refl, tt, again address going Q pipes small sound unended (keeps going holds)))
+  quiet_in P Q lost StallReply none opens told keeps = right_at size (heard_here InToken lost StallReply) P Q pipes sound refl opens (λ going unended holds. (refl, told_over size (heard_here InToken lost StallReply) endings.Stall going.transfer (told going holds), ended_at address going Q pipes sound))
+  quiet_in P Q lost NoReply none opens told keeps = right_at size (heard_here InToken lost NoReply) P Q pipes sound refl opens (λ going unended holds. (refl, tt, again address going Q pipes small sound unended (keeps going holds)))
+  quiet_in P Q lost (DataReply toggle bytes) none opens told keeps = absurd none
 
   -- an IN with a packet of the data stage, which is the next one or came again
   module _ (toggle : Toggle) (bytes : List ℕ) (P Q : Going → Type 0) (opens : OpenAt address P pipes) (ways : (going : Going) → P going → Goes directions.In going)
@@ -217,10 +226,10 @@ module _ (size number : ℕ) (time : Option ℕ) (address : ℕ) (small : addres
       → ((going : Going) → P going → Told size going.transfer) → Right size (heard_here InToken lost (DataReply Data1 bytes)) Q pipes
   status_in P Q true bytes opens ways told =
       right_way size (heard_here InToken true (DataReply Data1 bytes)) P Q pipes directions.Out sound refl opens ways
-      (λ going unended holds. (refl, told_says size (heard_here InToken true (DataReply Data1 bytes)) going.transfer (told going holds), ended_at address (with_again true going) Q pipes sound))
+      (λ going unended holds. (refl, told_over size (heard_here InToken true (DataReply Data1 bytes)) endings.Done going.transfer (told going holds), ended_at address (with_again true going) Q pipes sound))
   status_in P Q false bytes opens ways told =
       right_way size (heard_here InToken false (DataReply Data1 bytes)) P Q pipes directions.Out sound refl opens ways
-      (λ going unended holds. (refl, told_says size (heard_here InToken false (DataReply Data1 bytes)) going.transfer (told going holds), ended_at address (with_again false going) Q pipes sound))
+      (λ going unended holds. (refl, told_over size (heard_here InToken false (DataReply Data1 bytes)) endings.Done going.transfer (told going holds), ended_at address (with_again false going) Q pipes sound))
 
   -- the empty OUT of the status stage, which ends the transfer where it is accepted
   module _ (P Q : Going → Type 0) (opens : OpenAt address P pipes) (ways : (going : Going) → P going → Goes directions.In going)
@@ -228,13 +237,13 @@ module _ (size number : ℕ) (time : Option ℕ) (address : ℕ) (small : addres
     pub status_out : (lost : Bool) (came : Reply) → Right size (heard_here (OutToken Data1 []) lost came) Q pipes
     status_out lost AckReply =
         right_way size (heard_here (OutToken Data1 []) lost AckReply) P Q pipes directions.In sound refl opens ways
-        (λ going unended holds. (refl, told_says size (heard_here (OutToken Data1 []) lost AckReply) going.transfer (told going holds), ended_at address (with_again false going) Q pipes sound))
+        (λ going unended holds. (refl, told_over size (heard_here (OutToken Data1 []) lost AckReply) endings.Done going.transfer (told going holds), ended_at address (with_again false going) Q pipes sound))
     status_out lost NakReply =
         right_way size (heard_here (OutToken Data1 []) lost NakReply) P Q pipes directions.In sound refl opens ways
         (λ going unended holds. (refl, tt, again address (with_again true going) Q pipes small sound unended (stays going holds)))
     status_out lost StallReply =
         right_way size (heard_here (OutToken Data1 []) lost StallReply) P Q pipes directions.In sound refl opens ways
-        (λ going unended holds. (refl, unended_says size (ended_so (heard_here (OutToken Data1 []) lost StallReply) endings.Stall going.transfer) refl, ended_at address (with_again true going) Q pipes sound))
+        (λ going unended holds. (refl, told_over size (heard_here (OutToken Data1 []) lost StallReply) endings.Stall going.transfer (told going holds), ended_at address (with_again true going) Q pipes sound))
     status_out lost NoReply =
         right_way size (heard_here (OutToken Data1 []) lost NoReply) P Q pipes directions.In sound refl opens ways
         (λ going unended holds. (refl, tt, again address (with_again true going) Q pipes small sound unended (stays going holds)))
@@ -243,7 +252,7 @@ module _ (size number : ℕ) (time : Option ℕ) (address : ℕ) (small : addres
         (λ going unended holds. (refl, tt, again address (with_again true going) Q pipes small sound unended (stays going holds)))
     status_out false (DataReply toggle bytes) =
         right_way size (heard_here (OutToken Data1 []) false (DataReply toggle bytes)) P Q pipes directions.In sound refl opens ways
-        (λ going unended holds. (refl, told_says size (heard_here (OutToken Data1 []) false (DataReply toggle bytes)) going.transfer (told going holds), ended_at address (with_again false going) Q pipes sound))
+        (λ going unended holds. (refl, told_over size (heard_here (OutToken Data1 []) false (DataReply toggle bytes)) endings.Done going.transfer (told going holds), ended_at address (with_again false going) Q pipes sound))
 
   -- a SETUP with its request
   pub setup_right : (q : Setup) (lost : Bool) (came : Reply) (Q : Going → Type 0)
@@ -257,4 +266,4 @@ module _ (size number : ℕ) (time : Option ℕ) (address : ℕ) (small : addres
     where
       over : (o : Option ControlTransfer) → open_with address pipes.held ≡ o → IfOver size o
       over None e = tt
-      over (Some transfer) e = unended_says size transfer (ap is_done (found_unseen address pipes.held transfer sound.unseen e))
+      over (Some transfer) e = unseen_over size transfer (found_unseen address pipes.held transfer sound.unseen e)

@@ -3,8 +3,10 @@ use Rattle.std.proofs.Common.{◌≡◌, ◌⊎◌, ◌&&◌, nat_lt, ℕ, Bool,
 use Rattle.std.specs.Prelude.{Option, Some, None}
 use Rattle.usb_fields.specs.declared.setup.Direction.TheVariants.{In}
 use Rattle.usb_fields.specs.declared.setup.Setup.{Setup}
-use Rattle.usb_fields.specs.Setup.{direction_of}
+use Rattle.usb_fields.specs.Setup.{direction_of, setup_bytes}
 use Rattle.usb_fields.specs.Packets.{Reply, Sent}
+use Rattle.usb_capture.specs.Events.{setup_at}
+use Rattle.usb_capture.specs.Findings.{reads_status}
 use Rattle.usb_host.specs.Keeping.{Kept}
 use Rattle.usb_host.specs.Limits.{LimitView}
 use Rattle.usb_host.specs.declared.choice.Terms.{Terms}
@@ -18,43 +20,44 @@ use Rattle.usb_host.specs.declared.transfer.TransferStage.{TransferStage}
 use Rattle.usb_host.specs.declared.transfer.TransferStage.TheVariants as stages
 use Rattle.usb_host.specs.declared.why.Why.TheVariants as whys
 
--- A request asks for data, or for none: a host that enumerates sends none.
-abbrev pub BringsOrNone : Setup → Type 0
-BringsOrNone q = (direction_of q.request_type ≡ In) ⊎ (q.length ≡ 0)
+-- A host that enumerates asks for data, or for none, and never for a status.
+pub record IsAsked (q : Setup) : Type 0 where
+  pub brings : (direction_of q.request_type ≡ In) ⊎ (q.length ≡ 0)
+  pub other : reads_status (setup_at (setup_bytes q) 0) ≡ false
 
-abbrev PlanBrings : Plan → Type 0
-PlanBrings (Begin address packet q) = BringsOrNone q
-PlanBrings Success = Unit {0}
-PlanBrings (GivesUp why) = Unit {0}
+abbrev AllAsked : Plan → Type 0
+AllAsked (Begin address packet q) = IsAsked q
+AllAsked Success = Unit {0}
+AllAsked (GivesUp why) = Unit {0}
 
-asks_brings : (address : ℕ) (place : Place) → PlanBrings (asks address place)
-asks_brings address First = inl refl
-asks_brings address (Address first) = inr refl
-asks_brings address (Device first) = inl refl
-asks_brings address (Header kind f) = inl refl
-asks_brings address (Set kind f total) = inl refl
-asks_brings address (Qualifier f) = inl refl
-asks_brings address (Languages f named) = inl refl
-asks_brings address (Text f s named) = inl refl
-asks_brings address (Configure f) = inr refl
-asks_brings address (Reported f) = tt
-asks_brings address (Stopped trouble) = tt
+asks_so : (address : ℕ) (place : Place) → AllAsked (asks address place)
+asks_so address First = record { brings = inl refl; other = refl }
+asks_so address (Address first) = record { brings = inr refl; other = refl }
+asks_so address (Device first) = record { brings = inl refl; other = refl }
+asks_so address (Header kind f) = record { brings = inl refl; other = refl }
+asks_so address (Set kind f total) = record { brings = inl refl; other = refl }
+asks_so address (Qualifier f) = record { brings = inl refl; other = refl }
+asks_so address (Languages f named) = record { brings = inl refl; other = refl }
+asks_so address (Text f s named) = record { brings = inl refl; other = refl }
+asks_so address (Configure f) = record { brings = inr refl; other = refl }
+asks_so address (Reported f) = tt
+asks_so address (Stopped trouble) = tt
 
 -- for what holds of each new transfer
-module _ (P : TransferView → Type 0) (fresh : (address packet naks : ℕ) (request : Setup) → BringsOrNone request → P (begun address packet naks request)) where
+module _ (P : TransferView → Type 0) (fresh : (address packet naks : ℕ) (request : Setup) → IsAsked request → P (begun address packet naks request)) where
   -- This holds of the transfer in work, if one is.
   abbrev pub InWork : HostPhase → Type 0
   InWork ResetDue = Unit {0}
   InWork (Reading place transfer kept) = P transfer
   InWork (Ended place) = Unit {0}
 
-  entered_works : (naks : ℕ) (place : Place) (plan : Plan) → PlanBrings plan → InWork (entered naks place plan)
+  entered_works : (naks : ℕ) (place : Place) (plan : Plan) → AllAsked plan → InWork (entered naks place plan)
   entered_works naks place (Begin address packet q) brings = fresh address packet naks q brings
   entered_works naks place Success brings = tt
   entered_works naks place (GivesUp why) brings = tt
 
   enter_works : (limits : LimitView) (place : Place) → InWork (enter limits place)
-  enter_works limits place = entered_works limits.naks place (asks limits.address place) (asks_brings limits.address place)
+  enter_works limits place = entered_works limits.naks place (asks limits.address place) (asks_so limits.address place)
 
   goes_works : (limits : LimitView) (terms : Terms) (place : Place) (t : TransferView) (k : Kept) (stage : TransferStage) → P t → InWork (goes_on limits terms place t k stage)
   goes_works limits terms place t k stages.Completed holds = enter_works limits (spared terms.choice.strings place (completed_leads terms place t k))

@@ -1,5 +1,5 @@
 -- In a run of both ends from a new pair on, no toggle is wrong, and no transfer says another packet size than the device's own.
-use Rattle.std.proofs.Common.{◌≡◌, ◌<◌, ◌+◌, ◌-◌, ℕ, Bool, true, false, List, [], ◌∷◌, ◌++◌, append_assoc, length, take, inl, inr, refl, sym, ◌∙◌, ap, subst, arith, length-append}
+use Rattle.std.proofs.Common.{◌≡◌, ◌<◌, ◌≤◌, ◌+◌, ◌-◌, ℕ, Bool, true, false, List, [], ◌∷◌, ◌++◌, append_assoc, length, take, inl, inr, refl, sym, ◌∙◌, ap, subst, arith, length-append}
 use Rattle.std.specs.Prelude.{Option, Some, None}
 use Rattle.std.specs.List.{AllByRecursion}
 use Rattle.std.specs.Option.{option_to_list}
@@ -17,6 +17,7 @@ use Rattle.usb_device.specs.Requests.{Bytes, Outcome, answer}
 use Rattle.usb_device.specs.Step.{DeviceStage, DeviceView, Served, served}
 use Rattle.usb_bus.specs.declared.fate.Fate.{Fate}
 use Rattle.usb_bus.specs.declared.fate.Fate.TheVariants as fates
+use Rattle.usb_bus.specs.Beside.{IsTable}
 use Rattle.usb_bus.specs.Bus.{brought, carried}
 use Rattle.usb_bus.specs.Damaged.{is_ready}
 use Rattle.usb_bus.specs.Enumerate.{IsTransactionAt, Pair, RunsAt, answered}
@@ -37,10 +38,10 @@ use Rattle.usb_recorded_runs.specs.Findings.{IsFreeAfter}
 use Rattle.usb_recorded_runs.proofs.HostLemmas.{InWork, reset_works, takes_works}
 use Rattle.usb_recorded_runs.proofs.PipeLemmas.{Sound, sound_first}
 use Rattle.usb_recorded_runs.proofs.RecordedLemmas.{IsRegular}
-use Rattle.usb_recorded_runs.proofs.AnswerLemmas.{fronts_tell}
+use Rattle.usb_recorded_runs.proofs.AnswerLemmas.{fronts_few, fronts_tell}
 use Rattle.usb_recorded_runs.proofs.HeardLemmas.{heard_in}
 use Rattle.usb_recorded_runs.proofs.LengthLemmas.{IsShortIn, one_not_long}
-use Rattle.usb_recorded_runs.proofs.SizeLemmas.{IfOver, Says, TellsSize, own_size}
+use Rattle.usb_recorded_runs.proofs.SizeLemmas.{IfOver, IsSound, TellsSize, all_says, own_size}
 use Rattle.usb_recorded_runs.proofs.StepLemmas.{Agree, after_answer, fresh_agrees, step, taken_agrees}
 
 -- ---- lists
@@ -93,15 +94,16 @@ all_last P (y ∷ xs) x each = all_last P xs x each.1
 
 -- ---- a run
 
-module _ (f : DescriptorFile) (list : List Fate) (times : ℕ → Option ℕ) where
+module _ (f : DescriptorFile) (kept_table : IsTable (answer f)) (list : List Fate) (times : ℕ → Option ℕ) where
   abbrev table : State → Setup → Outcome
   table = answer f
 
   abbrev cut : ℕ
   cut = f.device.packet
 
-  pub tells : (s : State) (q : Setup) (bytes : List ℕ) → answer f s q ≡ Bytes bytes → (m : ℕ) → TellsSize f.device.packet q (joined (take m (packets bytes f.device.packet q.length)))
-  tells = fronts_tell f
+  pub tells : (s : State) (q : Setup) (bytes : List ℕ) → answer f s q ≡ Bytes bytes → (m : ℕ)
+      → TellsSize f.device.packet q (joined (take m (packets bytes f.device.packet q.length))) × (length (joined (take m (packets bytes f.device.packet q.length))) ≤ q.length)
+  tells s q bytes e m = (fronts_tell f s q bytes e m, fronts_few f.device.packet q.length bytes m (kept_table.fits s q bytes e))
 
   abbrev made_of : DeviceView → Sent → Fate → Exchange
   made_of d sent fate = record { fate = fate; sent = sent; address = d.state.address; answered = answered f d sent fate }
@@ -128,14 +130,14 @@ module _ (f : DescriptorFile) (list : List Fate) (times : ℕ → Option ℕ) wh
   pub record IsRight (ts : List Transaction) (last : Pair) : Type 0 where
     pub toggles : IsFreeAfter Toggle [] ts
     pub lengths : IsFreeAfter Long [] ts
-    pub says : AllByRecursion (Says cut) (transfers_in ts)
+    pub transfers : AllByRecursion (IsSound cut) (transfers_in ts)
     pub sound : Sound (pipes_in ts)
     pub known : Known last.device.stage (pipes_in ts) last.host.phase
 
   low_small : (address : ℕ) → address < 128 → address < 256
   low_small address low = omega (arith, low)
 
-  all_over : (ts : List ControlTransfer) (o : Option ControlTransfer) → AllByRecursion (Says cut) ts → IfOver cut o → AllByRecursion (Says cut) (ts ++ option_to_list o)
+  all_over : (ts : List ControlTransfer) (o : Option ControlTransfer) → AllByRecursion (IsSound cut) ts → IfOver cut o → AllByRecursion (IsSound cut) (ts ++ option_to_list o)
   all_over [] None says over = tt
   all_over [] (Some t) says over = (over, tt)
   all_over (first ∷ ts) o says over = (says.0, all_over ts o says.1 over)
@@ -175,7 +177,7 @@ module _ (f : DescriptorFile) (list : List Fate) (times : ℕ → Option ℕ) wh
       of (Ended place) due takes known = absurd (let w : ⊥ = cc in w)
       of (Reading place t k) due takes known =
           let below : t.address < 256 = due_small t t.stage made.sent due (small kept) in
-          let own = own_size cut (transfers_in ts) made.sent.address right.says (low_small made.sent.address (small kept)) in
+          let own = own_size cut (transfers_in ts) made.sent.address (all_says cut (transfers_in ts) right.transfers) (low_small made.sent.address (small kept)) in
           let stepped = step table cut tells d fate kept number (times number) (pipes_in ts) right.sound t below t.stage made.sent refl due known in
           let token = stepped.0 in
           let sent_is : made.sent ≡ record { address = t.address; token = token } = stepped.1 in
@@ -191,8 +193,8 @@ module _ (f : DescriptorFile) (list : List Fate) (times : ℕ → Option ℕ) wh
           record {
             toggles = free_push Toggle [] ts T right.toggles (ap (λ u. has_wrong_toggle u (pipes_in ts)) heard_is ∙ stepped.2.right);
             lengths = free_push Long [] ts T right.lengths (one_not_long cut number (times number) (made_of d made.sent fate) short (sizes_in (transfers_in ts)) own);
-            says = subst (AllByRecursion (Says cut)) (sym (given_push pipes_after transfer_over none_open ts T))
-                (all_over (transfers_in ts) (transfer_over T (pipes_in ts)) right.says (subst (λ u. IfOver cut (transfer_over u (pipes_in ts))) (sym heard_is) stepped.2.over));
+            transfers = subst (AllByRecursion (IsSound cut)) (sym (given_push pipes_after transfer_over none_open ts T))
+                (all_over (transfers_in ts) (transfer_over T (pipes_in ts)) right.transfers (subst (λ u. IfOver cut (transfer_over u (pipes_in ts))) (sym heard_is) stepped.2.over));
             sound = subst Sound (sym pipes_is) stepped.2.sound_then;
             known =
                 subst (λ p. Known last.device.stage p last.host.phase) (sym pipes_is)
@@ -205,7 +207,7 @@ module _ (f : DescriptorFile) (list : List Fate) (times : ℕ → Option ℕ) wh
 
   -- and one whose token is lost
   lost_right : (x last : Pair) (made : IsTransactionAt table cut fates.LostDown x last) (ts : List Transaction) → IsRight ts x → IsRight (ts ++ []) last
-  lost_right x last made ts right = subst (λ us. IsRight us last) (sym (append-nil ts)) (record { toggles = right.toggles; lengths = right.lengths; says = right.says; sound = right.sound; known = of x.host.phase made.due made.host right.known })
+  lost_right x last made ts right = subst (λ us. IsRight us last) (sym (append-nil ts)) (record { toggles = right.toggles; lengths = right.lengths; transfers = right.transfers; sound = right.sound; known = of x.host.phase made.due made.host right.known })
     where
       of : (phase : HostPhase) → wanted phase ≡ WantsSent made.sent → TakesIn x.host phase NoReply last.host → Known x.device.stage (pipes_in ts) phase
           → Known last.device.stage (pipes_in ts) last.host.phase
@@ -229,7 +231,7 @@ module _ (f : DescriptorFile) (list : List Fate) (times : ℕ → Option ℕ) wh
   run_right new [] n last due (same, none) small short = record {
     toggles = tt;
     lengths = tt;
-    says = tt;
+    transfers = tt;
     sound = sound_first;
     known = subst (λ y. Known y.device.stage none_open y.host.phase) (sym same) (subst (λ p. Known new.device.stage none_open p) (sym due) tt);
   }
@@ -243,7 +245,7 @@ module _ (f : DescriptorFile) (list : List Fate) (times : ℕ → Option ℕ) wh
       (record {
         toggles = before.toggles;
         lengths = before.lengths;
-        says = before.says;
+        transfers = before.transfers;
         sound = before.sound;
         known = reset_works (Agree table cut tells last.device.stage (pipes_in ts)) (fresh_agrees table cut tells last.device.stage (pipes_in ts)) x.host last.host reset.due reset.host;
       }))

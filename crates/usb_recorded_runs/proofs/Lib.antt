@@ -14,3 +14,4 @@ pub mod StepLemmas
 pub mod KnownRuns
 pub mod SizeLemmas
 pub mod AnswerLemmas
+pub mod TransferLemmas

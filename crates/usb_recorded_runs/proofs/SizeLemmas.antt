@@ -1,5 +1,5 @@
 -- What recorded transfers say of a device's packet size.
-use Rattle.std.proofs.Common.{◌≡◌, ◌⊎◌, inl, inr, ◌≢◌, ◌<◌, ◌%◌, ◌/◌, ◌+◌, ◌==◌, ◌&&◌, ℕ, Bool, true, false, not, if◌then◌else◌, List, [], ◌∷◌, ◌++◌, length, refl, sym, ◌∙◌, ap, subst, arith}
+use Rattle.std.proofs.Common.{◌≡◌, ◌⊎◌, inl, inr, ◌≢◌, ◌<◌, ◌≤◌, ◌%◌, ◌/◌, ◌+◌, ◌==◌, ◌&&◌, ℕ, Bool, true, false, not, if◌then◌else◌, List, [], ◌∷◌, ◌++◌, length, refl, sym, ◌∙◌, ap, subst, arith}
 use Rattle.std.specs.Prelude.{Option, Some, None, nat_lt, slice_index, slice_index_or, slice_set}
 use Rattle.std.specs.List.{AllByRecursion}
 use Rattle.std.proofs.lemmas.Bool.Decides.{nat_tests}
@@ -10,6 +10,7 @@ use Rattle.usb_capture.specs.declared.ending.Ending.{Ending}
 use Rattle.usb_capture.specs.declared.ending.Ending.TheVariants as endings
 use Rattle.usb_capture.specs.declared.transaction.Transaction.{Transaction}
 use Rattle.usb_capture.specs.BusTransfers.{ended_so}
+use Rattle.usb_capture.specs.Findings.{is_answered, is_stall, reads_status}
 use Rattle.usb_capture.specs.PacketSizes.{gives_address, no_sizes, says_size, size_at, sizes_after, sizes_in, sizes_with}
 use Rattle.usb_capture.specs.Readings.{is_done, is_reading, is_whole, reads_descriptor}
 
@@ -17,17 +18,25 @@ use Rattle.usb_capture.specs.Readings.{is_done, is_reading, is_whole, reads_desc
 abbrev pub Says : ℕ → ControlTransfer → Type 0
 Says size transfer = says_size transfer ≡ true → slice_index transfer.data 7 ≡ size
 
-abbrev pub IfOver : ℕ → Option ControlTransfer → Type 0
-IfOver size None = Unit {0}
-IfOver size (Some transfer) = Says size transfer
-
 -- So it is in these bytes, if they are all of the device descriptor that was asked for so.
 abbrev pub TellsSize : ℕ → Setup → List ℕ → Type 0
 TellsSize size q bytes = reads_descriptor q ≡ true → (q.value / 256 == 1) ≡ true → is_whole (q.value / 256) bytes ≡ true → slice_index bytes 7 ≡ size
 
--- what is known of the bytes of a transfer, unless some are cut off
-abbrev pub Told : ℕ → ControlTransfer → Type 0
-Told size transfer = (transfer.is_cut ≡ true) ⊎ TellsSize size transfer.setup transfer.data
+-- what is known of a transfer that is open: of its bytes, unless some are cut off, and of its request
+pub record Told (size : ℕ) (transfer : ControlTransfer) : Type 0 where
+  pub tells : (transfer.is_cut ≡ true) ⊎ TellsSize size transfer.setup transfer.data
+  pub few : transfer.length ≤ transfer.setup.length
+  pub asked : reads_status transfer.setup ≡ false
+
+-- and of one that is over
+pub record IsSound (size : ℕ) (transfer : ControlTransfer) : Type 0 where
+  pub says : Says size transfer
+  pub few : is_answered transfer.ending ≡ true → transfer.length ≤ transfer.setup.length
+  pub asked : is_stall transfer.ending ≡ true → reads_status transfer.setup ≡ false
+
+abbrev pub IfOver : ℕ → Option ControlTransfer → Type 0
+IfOver size None = Unit {0}
+IfOver size (Some transfer) = IsSound size transfer
 
 record SaysParts (reads done kept whole device : Bool) : Type 0 where
   is_read : reads ≡ true
@@ -47,15 +56,25 @@ parts_of t e = says_parts (reads_descriptor t.setup) (is_done t.ending) (not t.i
 false_true : {A : Type 0} → false ≡ true → A
 false_true e = absurd (let w : ⊥ = cc in w)
 
--- one that isn't done says none
-pub unended_says : (size : ℕ) (t : ControlTransfer) → is_done t.ending ≡ false → Says size t
-unended_says size t none e = false_true (sym none ∙ (parts_of t e).is_ended)
+-- one whose end wasn't seen
+pub unseen_over : (size : ℕ) (t : ControlTransfer) → t.ending ≡ endings.Unseen → IsSound size t
+unseen_over size t unseen = record {
+  says = λ e. false_true (sym (ap is_done unseen) ∙ (parts_of t e).is_ended);
+  few = λ e. false_true (sym (ap is_answered unseen) ∙ e);
+  asked = λ e. false_true (sym (ap is_stall unseen) ∙ e);
+}
 
--- and one that is over with what was told
-pub told_says : (size : ℕ) (transaction : Transaction) (t : ControlTransfer) → Told size t → Says size (ended_so transaction endings.Done t)
-told_says size transaction t (inl cut) e = false_true (ap not (sym cut) ∙ (parts_of (ended_so transaction endings.Done t) e).is_kept)
-told_says size transaction t (inr tells) e =
-    let parts = parts_of (ended_so transaction endings.Done t) e in tells parts.is_read parts.of_device parts.has_all
+-- and one that was open
+pub told_over : (size : ℕ) (transaction : Transaction) (ending : Ending) (t : ControlTransfer) → Told size t → IsSound size (ended_so transaction ending t)
+told_over size transaction ending t told = record { says = says told.tells; few = λ e. told.few; asked = λ e. told.asked }
+  where
+    says : (t.is_cut ≡ true) ⊎ TellsSize size t.setup t.data → Says size (ended_so transaction ending t)
+    says (inl cut) e = false_true (ap not (sym cut) ∙ (parts_of (ended_so transaction ending t) e).is_kept)
+    says (inr tells) e = let parts = parts_of (ended_so transaction ending t) e in tells parts.is_read parts.of_device parts.has_all
+
+pub all_says : (size : ℕ) (ts : List ControlTransfer) → AllByRecursion (IsSound size) ts → AllByRecursion (Says size) ts
+all_says size [] each = tt
+all_says size (t ∷ ts) each = (each.0.says, all_says size ts each.1)
 
 none_whole : (kind : ℕ) → is_whole kind [] ≡ false
 none_whole kind = refl

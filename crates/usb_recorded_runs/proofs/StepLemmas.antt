@@ -1,5 +1,5 @@
 -- The step of a run that is a transaction: what is known of the transfer that is open, before it and after it.
-use Rattle.std.proofs.Common.{◌≡◌, ◌⊎◌, inl, inr, ◌==◌, ◌&&◌, ◌||◌, ◌<◌, ◌≤◌, ◌+◌, min, nat_le, nat_lt, ℕ, suc, Bool, true, false, not, if◌then◌else◌, List, [], ◌∷◌, ◌++◌, length, take, drop, refl, sym, ◌∙◌, ap, subst, arith}
+use Rattle.std.proofs.Common.{◌≡◌, ◌⊎◌, inl, inr, ◌==◌, ◌&&◌, ◌||◌, ◌<◌, ◌≤◌, ◌+◌, min, nat_le, nat_lt, ℕ, suc, Bool, true, false, not, if◌then◌else◌, List, [], ◌∷◌, ◌++◌, length, take, drop, refl, sym, ◌∙◌, ap, subst, arith, length-append}
 use Rattle.std.specs.Prelude.{Option, Some, None}
 use Rattle.std.proofs.lemmas.Bool.Decides.{nat_tests}
 use Rattle.std.proofs.lemmas.List.{append-nil}
@@ -34,15 +34,16 @@ use Rattle.usb_capture.specs.declared.ending.Ending.TheVariants as endings
 use Rattle.usb_capture.specs.declared.transaction.Transaction.{Transaction}
 use Rattle.usb_capture.specs.BusTransfers.{Going, Pipes, begun_by, closed, data_direction, ended_so, first_toggle, has_toggle, is_acknowledged, is_wrong_in, over_by, over_with_part, part_by, part_in, pipes_after, pipes_with, request_of, toggle_after, toggle_at, transfer_over, with_bytes}
 use Rattle.usb_capture.specs.Events.{setup_at}
+use Rattle.usb_capture.specs.Findings.{reads_status}
 use Rattle.usb_capture.specs.PacketFindings.{has_wrong_toggle, is_wrong_at}
 use Rattle.usb_capture.specs.Readings.{is_done}
 use Rattle.usb_capture.specs.Transfers.{open_with}
 use Rattle.usb_recorded_runs.specs.Exchanges.{data_heard, handshake_heard}
-use Rattle.usb_recorded_runs.proofs.HostLemmas.{BringsOrNone}
+use Rattle.usb_recorded_runs.proofs.HostLemmas.{IsAsked}
 use Rattle.usb_recorded_runs.proofs.PipeLemmas.{Holds, OpenAt, Sound, again, begins_at, ended_at, found_unseen, goes_at, goes_with}
 use Rattle.usb_recorded_runs.proofs.DeviceLemmas.{Follows, IsElsewhere, IsEmpty, IsNext, IsSent, acked_flips, acked_so, in_toggle, none_some, served_sends}
 use Rattle.usb_recorded_runs.proofs.FrontLemmas.{front_more}
-use Rattle.usb_recorded_runs.proofs.HeardLemmas.{Goes, IsNoData, Right, bytes_cases, bytes_cut, bytes_keep, heard_in, packet_in, quiet_in, right_at, setup_right, status_in, status_out, with_again, with_next}
+use Rattle.usb_recorded_runs.proofs.HeardLemmas.{Goes, IsNoData, Right, bytes_cases, bytes_count, bytes_cut, bytes_keep, heard_in, packet_in, quiet_in, right_at, setup_right, status_in, status_out, with_again, with_next}
 use Rattle.usb_recorded_runs.proofs.SizeLemmas.{IfOver, TellsSize, Told, nothing_tells}
 
 -- which way data go by the request that was recorded
@@ -59,7 +60,7 @@ some_way q some way =
 
 -- at this stage a transfer with this request may be
 abbrev pub MayBe : TransferStage → Setup → Type 0
-MayBe stages.Setup q = BringsOrNone q
+MayBe stages.Setup q = IsAsked q
 MayBe stages.DataOut q = ⊥
 MayBe stage q = Unit {0}
 
@@ -90,15 +91,18 @@ flips_again Data0 Data0 is = absurd (let w : ⊥ = cc in w)
 flips_again Data1 Data1 is = absurd (let w : ⊥ = cc in w)
 
 module _ (table : State → Setup → Outcome) (cut : ℕ)
-    (fronts : (s : State) (q : Setup) (bytes : List ℕ) → table s q ≡ Bytes bytes → (m : ℕ) → TellsSize cut q (joined (take m (packets bytes cut q.length)))) where
+    (fronts : (s : State) (q : Setup) (bytes : List ℕ) → table s q ≡ Bytes bytes → (m : ℕ) →
+    TellsSize cut q (joined (take m (packets bytes cut q.length))) × (length (joined (take m (packets bytes cut q.length))) ≤ q.length)) where
   -- ---- what a recorder has of the bytes
 
   -- so many packets of the answer to this request
   pub record HasCome (q : Setup) (all : List ℕ) (count : ℕ) (going : Going) : Type 0 where
     pub setup_is : going.transfer.setup ≡ q
+    pub other : reads_status going.transfer.setup ≡ false
     pub state : State
     pub answers : table state q ≡ Bytes all
-    pub data_is : going.transfer.data ≡ joined (take count (packets all cut q.length))
+    pub data_is : (going.transfer.is_cut ≡ true) ⊎ (going.transfer.data ≡ joined (take count (packets all cut q.length)))
+    pub few : going.transfer.length ≤ length (joined (take count (packets all cut q.length)))
     pub next_is : going.toggle.next ≡ toggle_of count
 
   -- as many as the device has heard an ACK of, or one more
@@ -108,17 +112,25 @@ module _ (table : State → Setup → Outcome) (cut : ℕ)
     pub came : HasCome q all count going
 
   abbrev pub Content : DeviceStage → Going → Type 0
-  Content (Sending q all acked_ones) going = (going.transfer.is_cut ≡ true) ⊎ Reads q all acked_ones going
+  Content (Sending q all acked_ones) going = Reads q all acked_ones going
   Content stage going = Told cut going.transfer
 
   come_told : (q : Setup) (all : List ℕ) (count : ℕ) (going : Going) → HasCome q all count going → Told cut going.transfer
-  come_told q all count going came =
-      inr (subst (λ s. TellsSize cut s going.transfer.data) (sym came.setup_is)
-      (subst (TellsSize cut q) (sym came.data_is) (fronts came.state q all came.answers count)))
+  come_told q all count going came = record {
+    tells = tells came.data_is;
+    few = subst (λ s. going.transfer.length ≤ s.length) (sym came.setup_is) (omega (arith, came.few, (fronts came.state q all came.answers count).1));
+    asked = came.other;
+  }
+    where
+      tells : (going.transfer.is_cut ≡ true) ⊎ (going.transfer.data ≡ joined (take count (packets all cut q.length)))
+          → (going.transfer.is_cut ≡ true) ⊎ TellsSize cut going.transfer.setup going.transfer.data
+      tells (inl is) = inl is
+      tells (inr data_is) =
+          inr (subst (λ s. TellsSize cut s going.transfer.data) (sym came.setup_is)
+          (subst (TellsSize cut q) (sym data_is) (fronts came.state q all came.answers count).0))
 
   content_told : (stage : DeviceStage) (going : Going) → Content stage going → Told cut going.transfer
-  content_told (Sending q all acked_ones) going (inl is) = inl is
-  content_told (Sending q all acked_ones) going (inr reads) = come_told q all reads.count going reads.came
+  content_told (Sending q all acked_ones) going reads = come_told q all reads.count going reads.came
   content_told device.Idle going told = told
   content_told (device.Halted refused) going told = told
   content_told (device.StatusOut q) going told = told
@@ -146,12 +158,7 @@ module _ (table : State → Setup → Outcome) (cut : ℕ)
   content_acked : (q : Setup) (all : List ℕ) (acked_ones : ℕ) (left : List (List ℕ)) (going : Going) → HasCome q all (suc acked_ones) going
       → Content (next_stage q all acked_ones left) going
   content_acked q all acked_ones [] going came = come_told q all (suc acked_ones) going came
-  content_acked q all acked_ones (p ∷ rest) going came = inr (record { count = suc acked_ones; counted = inl refl; came = came })
-
-  cut_acked : (q : Setup) (all : List ℕ) (acked_ones : ℕ) (left : List (List ℕ)) (going : Going) → going.transfer.is_cut ≡ true
-      → Content (next_stage q all acked_ones left) going
-  cut_acked q all acked_ones [] going is = inl is
-  cut_acked q all acked_ones (p ∷ rest) going is = inl is
+  content_acked q all acked_ones (p ∷ rest) going came = record { count = suc acked_ones; counted = inl refl; came = came }
 
   -- of a packet that was heard, where the ACK of it is lost or not
   abbrev After : Bool → DeviceStage → Going → Type 0
@@ -159,12 +166,8 @@ module _ (table : State → Setup → Outcome) (cut : ℕ)
   After false stage going = Content (acked_stage table cut stage) going
 
   come_after : (lost : Bool) (q : Setup) (all : List ℕ) (acked_ones : ℕ) (going : Going) → HasCome q all (suc acked_ones) going → After lost (Sending q all acked_ones) going
-  come_after true q all acked_ones going came = inr (record { count = suc acked_ones; counted = inr refl; came = came })
+  come_after true q all acked_ones going came = record { count = suc acked_ones; counted = inr refl; came = came }
   come_after false q all acked_ones going came = content_acked q all acked_ones (drop (suc acked_ones) (packets all cut q.length)) going came
-
-  cut_after : (lost : Bool) (q : Setup) (all : List ℕ) (acked_ones : ℕ) (going : Going) → going.transfer.is_cut ≡ true → After lost (Sending q all acked_ones) going
-  cut_after true q all acked_ones going is = inl is
-  cut_after false q all acked_ones going is = cut_acked q all acked_ones (drop (suc acked_ones) (packets all cut q.length)) going is
 
   own_toggle : (toggle : Toggle) → has_toggle (data_kind toggle) toggle ≡ true
   own_toggle Data0 = refl
@@ -176,42 +179,41 @@ module _ (table : State → Setup → Outcome) (cut : ℕ)
 
   -- the next packet
   next_come : (lost : Bool) (q : Setup) (all : List ℕ) (k : ℕ) (bytes : List ℕ) (rest : List (List ℕ)) (going : Going)
-      → drop k (packets all cut q.length) ≡ bytes ∷ rest → HasCome q all k going
-      → ((with_next bytes lost going).transfer.is_cut ≡ true) ⊎ HasCome q all (suc k) (with_next bytes lost going)
-  next_come lost q all k bytes rest going due came = of (bytes_cases bytes going.transfer)
+      → drop k (packets all cut q.length) ≡ bytes ∷ rest → HasCome q all k going → HasCome q all (suc k) (with_next bytes lost going)
+  next_come lost q all k bytes rest going due came = record {
+    setup_is = bytes_keep bytes going.transfer ∙ came.setup_is;
+    other = ap reads_status (bytes_keep bytes going.transfer) ∙ came.other;
+    state = came.state;
+    answers = came.answers;
+    data_is = grown came.data_is (bytes_cases bytes going.transfer);
+    few = omega (arith, bytes_count bytes going.transfer, came.few, ap length more, length-append (joined (take k (packets all cut q.length))) bytes);
+    next_is = ap flipped came.next_is;
+  }
     where
-      of : ((with_bytes bytes going.transfer).is_cut ≡ true) ⊎ ((with_bytes bytes going.transfer).data ≡ going.transfer.data ++ bytes)
-          → ((with_next bytes lost going).transfer.is_cut ≡ true) ⊎ HasCome q all (suc k) (with_next bytes lost going)
-      of (inl is) = inl is
-      of (inr grows) = inr (record {
-        setup_is = bytes_keep bytes going.transfer ∙ came.setup_is;
-        state = came.state;
-        answers = came.answers;
-        data_is = grows ∙ ap (λ d. d ++ bytes) came.data_is ∙ sym (front_more k (packets all cut q.length) bytes rest due);
-        next_is = ap flipped came.next_is;
-      })
+      more : joined (take (suc k) (packets all cut q.length)) ≡ joined (take k (packets all cut q.length)) ++ bytes
+      more = front_more k (packets all cut q.length) bytes rest due
 
-  either_after : (lost : Bool) (q : Setup) (all : List ℕ) (k : ℕ) (going : Going) → (going.transfer.is_cut ≡ true) ⊎ HasCome q all (suc k) going
-      → After lost (Sending q all k) going
-  either_after lost q all k going (inl is) = cut_after lost q all k going is
-  either_after lost q all k going (inr came) = come_after lost q all k going came
+      grown : (going.transfer.is_cut ≡ true) ⊎ (going.transfer.data ≡ joined (take k (packets all cut q.length)))
+          → ((with_bytes bytes going.transfer).is_cut ≡ true) ⊎ ((with_bytes bytes going.transfer).data ≡ going.transfer.data ++ bytes)
+          → ((with_bytes bytes going.transfer).is_cut ≡ true) ⊎ ((with_bytes bytes going.transfer).data ≡ joined (take (suc k) (packets all cut q.length)))
+      grown (inl is) either = inl (bytes_cut bytes going.transfer is)
+      grown (inr data_is) (inl is) = inl is
+      grown (inr data_is) (inr grows) = inr (grows ∙ ap (λ d. d ++ bytes) data_is ∙ sym more)
 
   packet_next : (lost : Bool) (q : Setup) (all : List ℕ) (k : ℕ) (bytes : List ℕ) (rest : List (List ℕ)) (going : Going)
       → drop k (packets all cut q.length) ≡ bytes ∷ rest → has_toggle (data_kind (toggle_of k)) going.toggle.next ≡ true → Content (Sending q all k) going
       → After lost (Sending q all k) (with_next bytes lost going)
-  packet_next lost q all k bytes rest going due is (inl is_cut) = cut_after lost q all k (with_next bytes lost going) (bytes_cut bytes going.transfer is_cut)
-  packet_next lost q all k bytes rest going due is (inr reads) = of reads.counted
+  packet_next lost q all k bytes rest going due is reads = of reads.counted
     where
       of : (reads.count ≡ k) ⊎ (reads.count ≡ suc k) → After lost (Sending q all k) (with_next bytes lost going)
-      of (inl same) = either_after lost q all k (with_next bytes lost going) (next_come lost q all k bytes rest going due (subst (λ n. HasCome q all n going) same reads.came))
+      of (inl same) = come_after lost q all k (with_next bytes lost going) (next_come lost q all k bytes rest going due (subst (λ n. HasCome q all n going) same reads.came))
       of (inr ahead) =
           let next : going.toggle.next ≡ flipped (toggle_of k) = reads.came.next_is ∙ ap toggle_of ahead in
           absurd (let e : true ≡ false = sym is ∙ ap (has_toggle (data_kind (toggle_of k))) next ∙ other_toggle (toggle_of k) in let w : ⊥ = cc in w)
 
   packet_again : (lost : Bool) (q : Setup) (all : List ℕ) (k : ℕ) (going : Going)
       → has_toggle (data_kind (toggle_of k)) going.toggle.next ≡ false → Content (Sending q all k) going → After lost (Sending q all k) (with_again lost going)
-  packet_again lost q all k going is (inl is_cut) = cut_after lost q all k (with_again lost going) is_cut
-  packet_again lost q all k going is (inr reads) = of reads.counted
+  packet_again lost q all k going is reads = of reads.counted
     where
       of : (reads.count ≡ k) ⊎ (reads.count ≡ suc k) → After lost (Sending q all k) (with_again lost going)
       of (inl same) =
@@ -219,15 +221,30 @@ module _ (table : State → Setup → Outcome) (cut : ℕ)
           absurd (let e : true ≡ false = sym (own_toggle (toggle_of k)) ∙ ap (has_toggle (data_kind (toggle_of k))) (sym next) ∙ is in let w : ⊥ = cc in w)
       of (inr ahead) =
           let came : HasCome q all (suc k) going = subst (λ n. HasCome q all n going) ahead reads.came in
-          come_after lost q all k (with_again lost going) (record { setup_is = came.setup_is; state = came.state; answers = came.answers; data_is = came.data_is; next_is = came.next_is })
+          come_after lost q all k (with_again lost going) (record {
+            setup_is = came.setup_is;
+            other = came.other;
+            state = came.state;
+            answers = came.answers;
+            data_is = came.data_is;
+            few = came.few;
+            next_is = came.next_is;
+          })
 
   told_bytes : (bytes : List ℕ) (transfer : ControlTransfer) → bytes ≡ [] → Told cut transfer → Told cut (with_bytes bytes transfer)
-  told_bytes bytes transfer none (inl is) = inl (bytes_cut bytes transfer is)
-  told_bytes bytes transfer none (inr tells) = of (bytes_cases bytes transfer)
+  told_bytes bytes transfer none told = record {
+    tells = of told.tells (bytes_cases bytes transfer);
+    few = subst (λ s. (with_bytes bytes transfer).length ≤ s.length) (sym (bytes_keep bytes transfer))
+        (omega (arith, bytes_count bytes transfer, told.few, ap length none));
+    asked = ap reads_status (bytes_keep bytes transfer) ∙ told.asked;
+  }
     where
-      of : ((with_bytes bytes transfer).is_cut ≡ true) ⊎ ((with_bytes bytes transfer).data ≡ transfer.data ++ bytes) → Told cut (with_bytes bytes transfer)
-      of (inl is) = inl is
-      of (inr grows) =
+      of : (transfer.is_cut ≡ true) ⊎ TellsSize cut transfer.setup transfer.data
+          → ((with_bytes bytes transfer).is_cut ≡ true) ⊎ ((with_bytes bytes transfer).data ≡ transfer.data ++ bytes)
+          → ((with_bytes bytes transfer).is_cut ≡ true) ⊎ TellsSize cut (with_bytes bytes transfer).setup (with_bytes bytes transfer).data
+      of (inl is) either = inl (bytes_cut bytes transfer is)
+      of (inr tells) (inl is) = inl is
+      of (inr tells) (inr grows) =
           let same : (with_bytes bytes transfer).data ≡ transfer.data = grows ∙ ap (λ b. transfer.data ++ b) none ∙ append-nil transfer.data in
           inr (subst (λ s. TellsSize cut s (with_bytes bytes transfer).data) (sym (bytes_keep bytes transfer)) (subst (TellsSize cut transfer.setup) (sym same) tells))
 
@@ -275,7 +292,7 @@ module _ (table : State → Setup → Outcome) (cut : ℕ)
   pub record InStatusIn (stage : DeviceStage) (going : Going) : Type 0 where
     pub way : Goes directions.Out going
     pub first : (toggle : Toggle) → in_toggle stage ≡ Some toggle → toggle ≡ Data1
-    pub none : going.transfer.data ≡ []
+    pub told : Told cut going.transfer
 
   abbrev pub Fits : TransferStage → DeviceStage → Going → Type 0
   Fits stages.Setup stage going = Unit {0}
@@ -294,7 +311,7 @@ module _ (table : State → Setup → Outcome) (cut : ℕ)
   abbrev pub Agree : DeviceStage → Pipes → TransferView → Type 0
   Agree d pipes t = Agrees t.stage t d pipes
 
-  pub fresh_agrees : (d : DeviceStage) (pipes : Pipes) (address packet naks : ℕ) (q : Setup) → BringsOrNone q → Agree d pipes (begun address packet naks q)
+  pub fresh_agrees : (d : DeviceStage) (pipes : Pipes) (address packet naks : ℕ) (q : Setup) → IsAsked q → Agree d pipes (begun address packet naks q)
   fresh_agrees d pipes address packet naks q brings = record { may_be = brings; fits = λ transfer is. tt }
 
   module _ (d : DeviceStage) (pipes : Pipes) (t : TransferView) where
@@ -395,7 +412,7 @@ module _ (table : State → Setup → Outcome) (cut : ℕ)
         same_way bytes going h = ap data_direction (bytes_keep bytes going.transfer) ∙ h.way
 
         quiet : (lost : Bool) (came : Reply) → IsNoData came → Right cut (heard_in number time address InToken lost came) (Fits stages.DataIn new.stage) pipes
-        quiet lost came none = quiet_in cut number time address small pipes sound P (Fits stages.DataIn new.stage) lost came none opens stays
+        quiet lost came none = quiet_in cut number time address small pipes sound P (Fits stages.DataIn new.stage) lost came none opens (λ going h. content_told old going h.content) stays
 
         unheard : (toggle : Toggle) (bytes : List ℕ) → IsSent table cut old new (DataReply toggle bytes)
             → Right cut (heard_in number time address InToken true (DataReply toggle bytes)) (Fits stages.DataIn new.stage) pipes
@@ -454,13 +471,13 @@ module _ (table : State → Setup → Outcome) (cut : ℕ)
         P = Fits stages.StatusIn old
 
         quiet : (lost : Bool) (came : Reply) → IsNoData came → Right cut (heard_in number time address InToken lost came) (Fits stages.StatusIn new.stage) pipes
-        quiet lost came none = quiet_in cut number time address small pipes sound P (Fits stages.StatusIn new.stage) lost came none opens (λ going h. record { way = h.way; first = λ toggle is. h.first toggle (follows toggle is); none = h.none })
+        quiet lost came none = quiet_in cut number time address small pipes sound P (Fits stages.StatusIn new.stage) lost came none opens (λ going h. h.told) (λ going h. record { way = h.way; first = λ toggle is. h.first toggle (follows toggle is); told = h.told })
 
         zero_one : Data0 ≡ Data1 → ⊥
         zero_one e = let w : ⊥ = cc in w
 
         packet : (lost : Bool) (toggle : Toggle) (bytes : List ℕ) (Q : Going → Type 0) → IsSent table cut old new (DataReply toggle bytes) → Right cut (heard_in number time address InToken lost (DataReply toggle bytes)) Q pipes
-        packet lost Data1 bytes Q sent = status_in cut number time address small pipes sound P Q lost bytes opens (λ going h. h.way) (λ going h. inr (nothing_tells cut going.transfer.setup going.transfer.data h.none))
+        packet lost Data1 bytes Q sent = status_in cut number time address small pipes sound P Q lost bytes opens (λ going h. h.way) (λ going h. h.told)
         packet lost Data0 bytes Q sent = right_at cut (heard_in number time address InToken lost (DataReply Data0 bytes)) P Q pipes sound refl opens (λ going unended h. absurd (zero_one (h.first Data0 sent.was)))
 
         of : (fate : Fate) (reply : Reply) → is_lost_down fate ≡ false → IsSent table cut old new reply
@@ -501,12 +518,19 @@ module _ (table : State → Setup → Outcome) (cut : ℕ)
       of fates.Busy false kept acks = absurd (let w : ⊥ = cc in w)
       of fates.LostAck false kept acks = absurd (let w : ⊥ = cc in w)
 
-  begun_content : (s : State) (q : Setup) (o : Outcome) (t : Transaction) → table s q ≡ o → Content (device.begun q o) (record { transfer = begun_by t q; toggle = first_toggle })
-  begun_content s q (Bytes bytes) t e =
-      inr (record { count = 0; counted = inl refl; came = record { setup_is = refl; state = s; answers = e; data_is = refl; next_is = refl } })
-  begun_content s q (Done next) t e = inr (nothing_tells cut q [] refl)
-  begun_content s q Refused t e = inr (nothing_tells cut q [] refl)
-  begun_content s q (Takes judge) t e = inr (nothing_tells cut q [] refl)
+  begun_told : (q : Setup) (t : Transaction) → reads_status q ≡ false → Told cut (begun_by t q)
+  begun_told q t other = record { tells = inr (nothing_tells cut q [] refl); few = omega arith; asked = other }
+
+  begun_content : (s : State) (q : Setup) (o : Outcome) (t : Transaction) → reads_status q ≡ false → table s q ≡ o
+      → Content (device.begun q o) (record { transfer = begun_by t q; toggle = first_toggle })
+  begun_content s q (Bytes bytes) t other e = record {
+    count = 0;
+    counted = inl refl;
+    came = record { setup_is = refl; other = other; state = s; answers = e; data_is = inr refl; few = omega arith; next_is = refl };
+  }
+  begun_content s q (Done next) t other e = begun_told q t other
+  begun_content s q Refused t other e = begun_told q t other
+  begun_content s q (Takes judge) t other e = begun_told q t other
 
   same_count : (q : Setup) → (q.length == 0) ≡ true → q.length ≡ 0
   same_count q e = grind (arith, nat_tests)
@@ -515,9 +539,9 @@ module _ (table : State → Setup → Outcome) (cut : ℕ)
   some_count q e none = grind (arith, nat_tests)
 
   -- what is open then, and at which stage the host's transfer is
-  after_setup : (q : Setup) (s : State) (stage : DeviceStage) (t : Transaction) → BringsOrNone q → stage ≡ device.begun (setup_of (setup_bytes q)) (table s (setup_of (setup_bytes q)))
+  after_setup : (q : Setup) (s : State) (stage : DeviceStage) (t : Transaction) → IsAsked q → stage ≡ device.begun (setup_of (setup_bytes q)) (table s (setup_of (setup_bytes q)))
       → MayBe (stage_after_setup q) q × Fits (stage_after_setup q) stage (record { transfer = begun_by t (setup_at (setup_bytes q) 0); toggle = first_toggle })
-  after_setup q s stage t brings is_begun = of (q.length == 0) refl brings
+  after_setup q s stage t asked is_begun = of (q.length == 0) refl asked.brings
     where
       begun_so : Going
       begun_so = record { transfer = begun_by t (setup_at (setup_bytes q) 0); toggle = first_toggle }
@@ -527,13 +551,13 @@ module _ (table : State → Setup → Outcome) (cut : ℕ)
           begun_first (setup_of (setup_bytes q)) (table s (setup_of (setup_bytes q))) toggle (subst (λ g. in_toggle g ≡ Some toggle) is_begun is)
 
       content : Content stage begun_so
-      content = subst (λ g. Content g begun_so) (sym is_begun) (begun_content s (setup_of (setup_bytes q)) (table s (setup_of (setup_bytes q))) t refl)
+      content = subst (λ g. Content g begun_so) (sym is_begun) (begun_content s (setup_of (setup_bytes q)) (table s (setup_of (setup_bytes q))) t asked.other refl)
 
       Stage : TransferStage → Type 0
       Stage g = MayBe g q × Fits g stage begun_so
 
-      of : (none : Bool) → (q.length == 0) ≡ none → BringsOrNone q → Stage (if none then stages.StatusIn else data_stage (direction_of q.request_type))
-      of true e brings = (tt, record { way = none_way q (same_count q e); first = first; none = refl })
+      of : (none : Bool) → (q.length == 0) ≡ none → (direction_of q.request_type ≡ directions.In) ⊎ (q.length ≡ 0) → Stage (if none then stages.StatusIn else data_stage (direction_of q.request_type))
+      of true e brings = (tt, record { way = none_way q (same_count q e); first = first; told = begun_told (setup_at (setup_bytes q) 0) t asked.other })
       of false e (inl way) = subst (λ w. Stage (data_stage w)) (sym way) (tt, record { way = some_way q e way; in_time = λ toggle is. inl (first toggle is); content = content })
       of false e (inr none) = absurd (some_count q e none)
 

@@ -10,18 +10,20 @@ use Rattle.usb_bus.specs.declared.fate.Fate.{Fate}
 use Rattle.usb_bus.specs.DamagedRuns.{DamagedRunsAt}
 use Rattle.usb_bus.specs.Enumerate.{Pair, chosen_pair}
 use Rattle.usb_bus.specs.Exchanges.{is_lost_down}
+use Rattle.usb_capture.specs.declared.finding.Finding.TheVariants.{MoreThanAsked, RefusesStatus}
 use Rattle.usb_capture.specs.declared.frame.Frame.{Frame}
 use Rattle.usb_capture.specs.declared.packet_finding.PacketFinding.TheVariants.{Long, NoHandshake, NoRequest, SetupRefused, Toggle}
 use Rattle.usb_capture.specs.declared.reader.CaptureReader.{CaptureReader}
 use Rattle.usb_capture.specs.declared.recorded_packet.RecordedPacket.{RecordedPacket}
 use Rattle.usb_capture.specs.declared.transaction.Transaction.{Transaction}
+use Rattle.usb_capture.specs.BusTransfers.{transfers_in}
 use Rattle.usb_capture.specs.PacketFindings.{damage_in, is_found}
 use Rattle.usb_capture.specs.PacketSizes.{is_long, size_at}
 use Rattle.usb_capture.specs.Reading.{IsRead}
 use Rattle.usb_capture.specs.Recordings.{transactions_in}
 use Rattle.usb_recorded_runs.specs.Captures.{AreOfFrames, Moment, capture_of, frames, times}
 use Rattle.usb_recorded_runs.specs.Exchanges.{exchanges, heard, packets_in, transaction_of}
-use Rattle.usb_recorded_runs.specs.Findings.{IsFreeAfter, LosesHandshake}
+use Rattle.usb_recorded_runs.specs.Findings.{IsFreeAfter, IsTransferFreeAfter, LosesHandshake}
 
 -- A run from a new pair on, of n transactions over a bus of bytes that changes no bit of a packet: these are the pairs on the
 -- way, the newest first. A bus of bytes carries packets that are legal.
@@ -85,6 +87,14 @@ NoLongPacketIsFound =
     (f : DescriptorFile) (fates : List Fate) (limits : LimitView) (speed : Speed) (choice : Choice) (earlier : List Pair) (n : ℕ) (last : Pair)
     (times : ℕ → Option ℕ) → IsRun f fates (chosen_pair limits speed choice) earlier n last →
     IsFreeAfter Long [] (heard times 1 (exchanges f fates earlier n))
+
+-- Of the control transfers of an enumeration none has more bytes than wLength (9.3.5), and none is a GET_STATUS that a device refuses (9.4.5).
+abbrev pub NoTransferHasMore : Type 0
+NoTransferHasMore =
+    (f : DescriptorFile) (fates : List Fate) (limits : LimitView) (speed : Speed) (choice : Choice) (earlier : List Pair) (n : ℕ) (last : Pair)
+    (times : ℕ → Option ℕ) → IsRun f fates (chosen_pair limits speed choice) earlier n last →
+    (let transfers = transfers_in (heard times 1 (exchanges f fates earlier n)) in
+    IsTransferFreeAfter MoreThanAsked [] transfers × IsTransferFreeAfter RefusesStatus [] transfers)
 
 -- A handshake lacks in a transaction whose token arrives only where it was lost, or where the device has another address (8.5).
 abbrev pub HandshakesAreLost : Type 0

@@ -1,5 +1,7 @@
 //! The functions of these laws do nothing: their contracts are the laws.
-ghost use Rattle.usb_recorded_runs.specs.Laws.{CapturedRunsAreRead, HandshakesAreLost, NoLongPacketIsFound, NoPacketIsDamaged, NoPacketIsLong, NoToggleIsWrong, RecordedRunsAreRead, SetupsAreTaken};
+ghost use Rattle.usb_recorded_runs.specs.Laws.{CapturedRunsAreRead, HandshakesAreLost, NoLongPacketIsFound, NoPacketIsDamaged, NoPacketIsLong, NoToggleIsWrong, NoTransferHasMore, RecordedRunsAreRead, SetupsAreTaken};
+
+use usb_bus::laws::a_device_keeps_its_table;
 
 /// The packets of a run that arrive are read back to the transactions of the run: of one whose token is lost there is nothing,
 /// and of another its token, its data and its handshake, as far as each arrives.
@@ -25,7 +27,9 @@ pub fn each_setup_is_taken()
 /// `Toggle` is never found: a packet that comes again after a loss has the toggle that it had.
 pub fn no_toggle_is_wrong()
     ensures { NoToggleIsWrong }
-{}
+{
+    a_device_keeps_its_table();
+}
 
 /// `Long` is found nowhere where nothing else is known of a packet size than the device's own.
 pub fn no_packet_is_long()
@@ -35,7 +39,16 @@ pub fn no_packet_is_long()
 /// Nor is it found anywhere in an enumeration of a new device, which says no other packet size of itself.
 pub fn no_long_packet_is_found()
     ensures { NoLongPacketIsFound }
-{}
+{
+    a_device_keeps_its_table();
+}
+
+/// Of the findings in control transfers neither `MoreThanAsked` nor `RefusesStatus` is ever there.
+pub fn no_transfer_has_more()
+    ensures { NoTransferHasMore }
+{
+    a_device_keeps_its_table();
+}
 
 /// `NoHandshake` is found only where an answer or an ACK was lost, or where the device has another address, as one that has not
 /// heard the ACK of its SET_ADDRESS.

@@ -11,5 +11,5 @@ use Rattle.usb_recorded_runs.proofs.laws.no_long_packet_is_found.Goals as goal
 pub returns : goal.returns
 returns c = λ f fates limits speed choice earlier n last times run.
     let new = chosen_pair limits speed choice in
-    (run_right f fates times new earlier n last refl (plain_run (answer f) f.device.packet fates new earlier n last run)
+    (run_right f (c.a_device_keeps_its_table.ensures f) fates times new earlier n last refl (plain_run (answer f) f.device.packet fates new earlier n last run)
     (all_small (exchanges f fates earlier n) (regular_run f fates new earlier n last run)) (short_run f fates new earlier n last run)).lengths
