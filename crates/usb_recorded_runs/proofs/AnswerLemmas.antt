@@ -14,7 +14,7 @@ use Rattle.usb_device.specs.Descriptors.{descriptor}
 use Rattle.usb_device.specs.Requests.{Bytes, Done, answer, answer_of, gives}
 use Rattle.usb_recorded_runs.proofs.FrontLemmas.{front_joins}
 use Rattle.usb_capture.specs.Readings.{is_whole}
-use Rattle.usb_recorded_runs.proofs.SizeLemmas.{TellsSize}
+use Rattle.usb_recorded_runs.proofs.SizeLemmas.{Fronts, TellsLong, TellsSize}
 
 -- ---- what the table answers
 
@@ -93,6 +93,12 @@ more_than_one n e = grind (arith, nat_tests)
 same_number : (m n : ℕ) → (m == n) ≡ true → m ≡ n
 same_number m n e = grind (arith, nat_tests)
 
+-- a front of the device descriptor that has more than seven bytes
+long_tells : (d : DeviceDescriptor) (limit : ℕ) (front rest : List ℕ) → front ++ rest ≡ take limit (device_bytes d) → 7 < length front → slice_index front 7 ≡ d.packet
+long_tells d limit front rest joins long =
+    let within : length front ≤ limit = omega (arith, length-append front rest, ap length joins, short_cut limit (device_bytes d)) in
+    sym (get_or_append_left front rest 0 7 long) ∙ ap (λ b. slice_index b 7) joins ∙ get_or-take limit (device_bytes d) 7 0 (omega (arith, long, within))
+
 -- a front of the device descriptor that has all its bytes
 whole_tells : (d : DeviceDescriptor) (limit : ℕ) (front rest : List ℕ) → front ++ rest ≡ take limit (device_bytes d) → is_whole 1 front ≡ true → slice_index front 7 ≡ d.packet
 whole_tells d limit front rest joins whole =
@@ -113,8 +119,26 @@ read_parts : (type request : Bool) → (type && request) ≡ true → (type ≡ 
 read_parts true true e = (refl, refl)
 read_parts type request e = absurd (let w : ⊥ = cc in w)
 
+-- So it is in the first packets of the answer to a request for the device descriptor.
+long_fronts : (f : DescriptorFile) (s : State) (q : Setup) (bytes : List ℕ) → answer f s q ≡ Bytes bytes → length bytes ≤ q.length → (m : ℕ)
+    → TellsLong f.device.packet q (joined (take m (packets bytes f.device.packet q.length)))
+long_fronts f s q bytes e within m read kind long =
+    let parts = read_parts (q.request_type == 128) (q.request == 6) read in
+    let of_device : q.value / 256 ≡ 1 = same_number (q.value / 256) 1 kind in
+    let is : bytes ≡ take q.length (device_bytes f.device) =
+    device_told f s q bytes (same_number q.request_type 128 parts.0) (same_number q.request 6 parts.1) of_device e in
+    let before = front_of f.device.packet q.length bytes m within in
+    of before.0 before.1 is
+  where
+    front : List ℕ
+    front = joined (take m (packets bytes f.device.packet q.length))
+
+    of : (rest : List ℕ) → (front ++ rest ≡ bytes) ⊎ (front ++ rest ≡ []) → bytes ≡ take q.length (device_bytes f.device) → slice_index front 7 ≡ f.device.packet
+    of rest (inl joins) is = long_tells f.device q.length front rest (joins ∙ is) long
+    of rest (inr none) is = absurd (let w : ⊥ = omega (arith, long, ap length (nothing_front front rest none)) in w)
+
 -- The first packets of an answer tell no other size.
-pub fronts_tell : (f : DescriptorFile) (s : State) (q : Setup) (bytes : List ℕ) → answer f s q ≡ Bytes bytes
+fronts_tell : (f : DescriptorFile) (s : State) (q : Setup) (bytes : List ℕ) → answer f s q ≡ Bytes bytes
     → (m : ℕ) → TellsSize f.device.packet q (joined (take m (packets bytes f.device.packet q.length)))
 fronts_tell f s q bytes e m read kind whole =
     let parts = read_parts (q.request_type == 128) (q.request == 6) read in
@@ -135,7 +159,7 @@ fronts_tell f s q bytes e m read kind whole =
         absurd (let e : false ≡ true = sym (ap (is_whole 1) (nothing_front (joined (take m (packets bytes f.device.packet q.length))) rest none)) ∙ has in let w : ⊥ = cc in w)
 
 -- nor are they more bytes than were asked for
-pub fronts_few : (size limit : ℕ) (bytes : List ℕ) (m : ℕ) → length bytes ≤ limit → length (joined (take m (packets bytes size limit))) ≤ limit
+fronts_few : (size limit : ℕ) (bytes : List ℕ) (m : ℕ) → length bytes ≤ limit → length (joined (take m (packets bytes size limit))) ≤ limit
 fronts_few size limit bytes m within = let before = front_of size limit bytes m within in of before.0 before.1
   where
     front : List ℕ
@@ -144,3 +168,8 @@ fronts_few size limit bytes m within = let before = front_of size limit bytes m 
     of : (rest : List ℕ) → (front ++ rest ≡ bytes) ⊎ (front ++ rest ≡ []) → length front ≤ limit
     of rest (inl joins) = omega (arith, length-append front rest, ap length joins)
     of rest (inr none) = omega (arith, ap length (nothing_front front rest none))
+
+pub all_fronts : (f : DescriptorFile) (s : State) (q : Setup) (bytes : List ℕ) → answer f s q ≡ Bytes bytes → length bytes ≤ q.length → (m : ℕ)
+    → Fronts f.device.packet q (joined (take m (packets bytes f.device.packet q.length)))
+all_fronts f s q bytes e within m =
+    record { whole = fronts_tell f s q bytes e m; few = fronts_few f.device.packet q.length bytes m within; long = long_fronts f s q bytes e within m }

@@ -1,12 +1,13 @@
 -- In a run of both ends from a new pair on, no toggle is wrong, and no transfer says another packet size than the device's own.
-use Rattle.std.proofs.Common.{◌≡◌, ◌<◌, ◌≤◌, ◌+◌, ◌-◌, ℕ, Bool, true, false, List, [], ◌∷◌, ◌++◌, append_assoc, length, take, inl, inr, refl, sym, ◌∙◌, ap, subst, arith, length-append}
+use Rattle.std.proofs.Common.{◌≡◌, ◌<◌, ◌≤◌, ◌+◌, ◌-◌, ◌/◌, ℕ, Bool, true, false, List, [], ◌∷◌, ◌++◌, append_assoc, length, take, inl, inr, refl, sym, ◌∙◌, ap, subst, arith, length-append}
 use Rattle.std.specs.Prelude.{Option, Some, None}
 use Rattle.std.specs.List.{AllByRecursion}
 use Rattle.std.specs.Option.{option_to_list}
 use Rattle.std.proofs.lemmas.List.{append-nil}
-use Rattle.usb_wire.specs.Packets.{IsLegal}
+use Rattle.usb_wire.specs.Packets.{AreBytes, IsLegal, PacketView}
 use Rattle.usb_fields.specs.declared.setup.Setup.{Setup}
-use Rattle.usb_fields.specs.Packets.{NoReply, Sent, joined, packets}
+use Rattle.usb_fields.specs.Setup.{setup_bytes}
+use Rattle.usb_fields.specs.Packets.{InToken, NoReply, OutToken, Sent, SetupToken, Token, joined, packets}
 use Rattle.usb_file_data.specs.declared.file.DescriptorFile.{DescriptorFile}
 use Rattle.usb_host.specs.declared.transfer.TransferStage.{TransferStage}
 use Rattle.usb_host.specs.declared.transfer.TransferStage.TheVariants as stages
@@ -27,22 +28,22 @@ use Rattle.usb_bus.specs.Run.{fate_at}
 use Rattle.usb_bus.specs.Wire.{ack_packet, data_packet, reply_packet, token_packet}
 use Rattle.usb_capture.specs.declared.control_transfer.ControlTransfer.{ControlTransfer}
 use Rattle.usb_capture.specs.declared.packet_finding.PacketFinding.{PacketFinding}
-use Rattle.usb_capture.specs.declared.packet_finding.PacketFinding.TheVariants.{Long, Toggle}
+use Rattle.usb_capture.specs.declared.packet_finding.PacketFinding.TheVariants.{Long, NoShortPacket, Toggle}
 use Rattle.usb_capture.specs.declared.transaction.Transaction.{Transaction}
-use Rattle.usb_capture.specs.BusTransfers.{Pipes, none_open, pipes_after, pipes_in, transfer_over, transfers_in}
-use Rattle.usb_capture.specs.PacketFindings.{has_wrong_toggle, is_found}
-use Rattle.usb_capture.specs.PacketSizes.{sizes_in}
+use Rattle.usb_capture.specs.BusTransfers.{Pipes, none_open, pipes_after, pipes_in, toggle_at, transfer_over, transfers_in}
+use Rattle.usb_capture.specs.PacketFindings.{has_wrong_toggle, is_early, is_found}
+use Rattle.usb_capture.specs.PacketSizes.{size_at, sizes_in}
 use Rattle.usb_capture.proofs.Folds.{after_push, given_push}
 use Rattle.usb_recorded_runs.specs.Exchanges.{Exchange, arriving, exchange_in, exchanges, heard, packets_in, packets_of, transaction_of, unless_lost}
 use Rattle.usb_recorded_runs.specs.Findings.{IsFreeAfter}
 use Rattle.usb_recorded_runs.proofs.HostLemmas.{InWork, reset_works, takes_works}
 use Rattle.usb_recorded_runs.proofs.PipeLemmas.{Sound, sound_first}
 use Rattle.usb_recorded_runs.proofs.RecordedLemmas.{IsRegular}
-use Rattle.usb_recorded_runs.proofs.AnswerLemmas.{fronts_few, fronts_tell}
+use Rattle.usb_recorded_runs.proofs.AnswerLemmas.{all_fronts}
 use Rattle.usb_recorded_runs.proofs.HeardLemmas.{heard_in}
 use Rattle.usb_recorded_runs.proofs.LengthLemmas.{IsShortIn, one_not_long}
-use Rattle.usb_recorded_runs.proofs.SizeLemmas.{IfOver, IsSound, TellsSize, all_says, own_size}
-use Rattle.usb_recorded_runs.proofs.StepLemmas.{Agree, after_answer, fresh_agrees, step, taken_agrees}
+use Rattle.usb_recorded_runs.proofs.SizeLemmas.{Fronts, IfOver, IsSound, all_says, own_size}
+use Rattle.usb_recorded_runs.proofs.StepLemmas.{Agree, after_answer, after_none, fresh_agrees, step, taken_agrees}
 
 -- ---- lists
 
@@ -71,18 +72,34 @@ module _ (times : ℕ → Option ℕ) where
 
 -- ---- addresses
 
--- A token that arrives has an address of 7 bits.
+-- A token that arrives has an address of 7 bits, and a SETUP has bytes.
+abbrev HasBytes : Token → Type 0
+HasBytes (SetupToken bytes) = AreBytes bytes
+HasBytes InToken = Unit {0}
+HasBytes (OutToken toggle bytes) = Unit {0}
+
+pub record IsLegalSent (sent : Sent) : Type 0 where
+  pub address : sent.address < 128
+  pub bytes : HasBytes sent.token
+
 abbrev pub IsSmall : Exchange → Type 0
-IsSmall x = is_lost_down x.fate ≡ false → x.sent.address < 128
+IsSmall x = is_lost_down x.fate ≡ false → IsLegalSent x.sent
 
 pub all_small : (xs : List Exchange) → AllByRecursion IsRegular xs → AllByRecursion IsSmall xs
 all_small [] regular = tt
 all_small (x ∷ xs) regular = (λ kept. small x kept regular.0.legal, all_small xs regular.1)
   where
-    small : (x : Exchange) → is_lost_down x.fate ≡ false → AllByRecursion IsLegal (packets_of x) → x.sent.address < 128
+    bytes : (address : ℕ) (token : Token) (rest : List PacketView) → AllByRecursion IsLegal (token_packet (record { address = address; token = token }) ∷ (arriving false (data_packet token) ++ rest))
+        → IsLegalSent (record { address = address; token = token })
+    bytes address (SetupToken data_bytes) rest legal = record { address = legal.0.0; bytes = legal.1.0.0 }
+    bytes address InToken rest legal = record { address = legal.0.0; bytes = tt }
+    bytes address (OutToken toggle data_bytes) rest legal = record { address = legal.0.0; bytes = tt }
+
+    small : (x : Exchange) → is_lost_down x.fate ≡ false → AllByRecursion IsLegal (packets_of x) → IsLegalSent x.sent
     small x kept legal =
-        (subst (λ lost. AllByRecursion IsLegal (arriving lost (Some (token_packet x.sent)) ++ (arriving (is_lost_down x.fate) (data_packet x.sent.token)
-        ++ (arriving (is_lost_up x.fate) (reply_packet x.answered) ++ arriving (is_lost_ack x.fate) (ack_packet (brought x.fate x.answered)))))) kept legal).0.0
+        let rest = arriving (is_lost_up x.fate) (reply_packet x.answered) ++ arriving (is_lost_ack x.fate) (ack_packet (brought x.fate x.answered)) in
+        bytes x.sent.address x.sent.token rest
+        (subst (λ lost. AllByRecursion IsLegal (arriving lost (Some (token_packet x.sent)) ++ (arriving lost (data_packet x.sent.token) ++ rest))) kept legal)
 
 all_front : {A : Type 0} (P : A → Type 0) (xs ys : List A) → AllByRecursion P (xs ++ ys) → AllByRecursion P xs
 all_front P [] ys each = tt
@@ -101,9 +118,8 @@ module _ (f : DescriptorFile) (kept_table : IsTable (answer f)) (list : List Fat
   abbrev cut : ℕ
   cut = f.device.packet
 
-  pub tells : (s : State) (q : Setup) (bytes : List ℕ) → answer f s q ≡ Bytes bytes → (m : ℕ)
-      → TellsSize f.device.packet q (joined (take m (packets bytes f.device.packet q.length))) × (length (joined (take m (packets bytes f.device.packet q.length))) ≤ q.length)
-  tells s q bytes e m = (fronts_tell f s q bytes e m, fronts_few f.device.packet q.length bytes m (kept_table.fits s q bytes e))
+  pub tells : (s : State) (q : Setup) (bytes : List ℕ) → answer f s q ≡ Bytes bytes → (m : ℕ) → Fronts f.device.packet q (joined (take m (packets bytes f.device.packet q.length)))
+  tells s q bytes e m = all_fronts f s q bytes e (kept_table.fits s q bytes e) m
 
   abbrev made_of : DeviceView → Sent → Fate → Exchange
   made_of d sent fate = record { fate = fate; sent = sent; address = d.state.address; answered = answered f d sent fate }
@@ -124,12 +140,13 @@ module _ (f : DescriptorFile) (kept_table : IsTable (answer f)) (list : List Fat
   answered_kept d sent fates.LostDown kept = absurd (let w : ⊥ = cc in w)
 
   abbrev Known : DeviceStage → Pipes → HostPhase → Type 0
-  Known d pipes phase = InWork (Agree table cut tells d pipes) (fresh_agrees table cut tells d pipes) phase
+  Known d pipes phase = InWork cut (Agree table cut tells d pipes) (fresh_agrees table cut tells d pipes) phase
 
   -- after these transactions
   pub record IsRight (ts : List Transaction) (last : Pair) : Type 0 where
     pub toggles : IsFreeAfter Toggle [] ts
     pub lengths : IsFreeAfter Long [] ts
+    pub endings : IsFreeAfter NoShortPacket [] ts
     pub transfers : AllByRecursion (IsSound cut) (transfers_in ts)
     pub sound : Sound (pipes_in ts)
     pub known : Known last.device.stage (pipes_in ts) last.host.phase
@@ -141,6 +158,25 @@ module _ (f : DescriptorFile) (kept_table : IsTable (answer f)) (list : List Fat
   all_over [] None says over = tt
   all_over [] (Some t) says over = (over, tt)
   all_over (first ∷ ts) o says over = (says.0, all_over ts o says.1 over)
+
+  size_zero : (address : ℕ) (sizes : List ℕ) → address ≡ 0 → size_at address sizes ≡ 0
+  size_zero address sizes zero = ap (λ a. size_at a sizes) zero
+
+  setup_low : (q : Setup) (sent : Sent) → sent.token ≡ SetupToken (setup_bytes q) → HasBytes sent.token → q.length < 65536
+  setup_low q sent is bytes =
+      let each : AreBytes (setup_bytes q) = subst HasBytes is bytes in
+      let high : q.length / 256 < 256 = each.1.1.1.1.1.1.1.0 in omega (arith, high)
+
+  due_low : (t : TransferView) (stage : TransferStage) (sent : Sent) → sends (addressed t.address (token_due t [] stage)) ≡ WantsSent sent → HasBytes sent.token
+      → stage ≡ stages.Setup → t.request.length < 65536
+  due_low t stages.Setup sent e bytes at =
+      setup_low t.request sent (let same : record { address = t.address; token = SetupToken (setup_bytes t.request) } ≡ sent = cc in ap (λ z. z.token) (sym same)) bytes
+  due_low t stages.DataIn sent e bytes at = absurd (let w : ⊥ = cc in w)
+  due_low t stages.DataOut sent e bytes at = absurd (let w : ⊥ = cc in w)
+  due_low t stages.StatusOut sent e bytes at = absurd (let w : ⊥ = cc in w)
+  due_low t stages.StatusIn sent e bytes at = absurd (let w : ⊥ = cc in w)
+  due_low t stages.Completed sent e bytes at = absurd (let w : ⊥ = cc in w)
+  due_low t (stages.Failed why) sent e bytes at = absurd (let w : ⊥ = cc in w)
 
   below : (address : ℕ) (s sent : Sent) → WantsSent s ≡ WantsSent sent → s.address ≡ address → sent.address < 128 → address < 256
   below address s sent e is low = let same : s ≡ sent = cc in let there : sent.address ≡ address = ap (λ z. z.address) (sym same) ∙ is in omega (arith, low, there)
@@ -176,9 +212,11 @@ module _ (f : DescriptorFile) (kept_table : IsTable (answer f)) (list : List Fat
       of ResetDue due takes known = absurd (let w : ⊥ = cc in w)
       of (Ended place) due takes known = absurd (let w : ⊥ = cc in w)
       of (Reading place t k) due takes known =
-          let below : t.address < 256 = due_small t t.stage made.sent due (small kept) in
-          let own = own_size cut (transfers_in ts) made.sent.address (all_says cut (transfers_in ts) right.transfers) (low_small made.sent.address (small kept)) in
-          let stepped = step table cut tells d fate kept number (times number) (pipes_in ts) right.sound t below t.stage made.sent refl due known in
+          let legal = small kept in
+          let agrees = known.holds in
+          let below : t.address < 256 = due_small t t.stage made.sent due legal.address in
+          let own = own_size cut (transfers_in ts) made.sent.address (all_says cut (transfers_in ts) right.transfers) (low_small made.sent.address legal.address) in
+          let stepped = step table cut tells d fate kept number (times number) (pipes_in ts) right.sound t below (due_low t t.stage made.sent due legal.bytes) t.stage made.sent refl due agrees in
           let token = stepped.0 in
           let sent_is : made.sent ≡ record { address = t.address; token = token } = stepped.1 in
           let r : Served = served table cut d (record { address = t.address; token = token }) (is_ready fate) in
@@ -193,21 +231,26 @@ module _ (f : DescriptorFile) (kept_table : IsTable (answer f)) (list : List Fat
           record {
             toggles = free_push Toggle [] ts T right.toggles (ap (λ u. has_wrong_toggle u (pipes_in ts)) heard_is ∙ stepped.2.right);
             lengths = free_push Long [] ts T right.lengths (one_not_long cut number (times number) (made_of d made.sent fate) short (sizes_in (transfers_in ts)) own);
+            endings = free_push NoShortPacket [] ts T right.endings
+                (ap (λ u. is_early (size_at made.sent.address (sizes_in (transfers_in ts))) u (pipes_in ts)) heard_is
+                ∙ stepped.2.not_early (size_at made.sent.address (sizes_in (transfers_in ts))) own
+                (λ zero. size_zero made.sent.address (sizes_in (transfers_in ts)) (ap (λ s. s.address) sent_is ∙ zero)));
             transfers = subst (AllByRecursion (IsSound cut)) (sym (given_push pipes_after transfer_over none_open ts T))
                 (all_over (transfers_in ts) (transfer_over T (pipes_in ts)) right.transfers (subst (λ u. IfOver cut (transfer_over u (pipes_in ts))) (sym heard_is) stepped.2.over));
             sound = subst Sound (sym pipes_is) stepped.2.sound_then;
             known =
                 subst (λ p. Known last.device.stage p last.host.phase) (sym pipes_is)
                 (subst (λ v. Known v.stage (pipes_after (heard_in number (times number) t.address token (is_lost_ack fate) (brought fate r.reply)) (pipes_in ts)) last.host.phase) (sym device_is)
-                (takes_works (Agree table cut tells (after_answer table cut tells fate r).stage (pipes_after (heard_in number (times number) t.address token (is_lost_ack fate) (brought fate r.reply)) (pipes_in ts)))
+                (takes_works cut (Agree table cut tells (after_answer table cut tells fate r).stage (pipes_after (heard_in number (times number) t.address token (is_lost_ack fate) (brought fate r.reply)) (pipes_in ts)))
                 (fresh_agrees table cut tells (after_answer table cut tells fate r).stage (pipes_after (heard_in number (times number) t.address token (is_lost_ack fate) (brought fate r.reply)) (pipes_in ts)))
-                x.host last.host place t k (brought fate r.reply) stepped.2.agrees
+                x.host last.host place t k (brought fate r.reply) stepped.2.agrees known.knows known.first
+                (λ first at. stepped.2.may_come at (known.first first).request_is)
                 (subst (λ c. TakesIn x.host (Reading place t k) c.reply last.host) served_is takes)));
           }
 
   -- and one whose token is lost
   lost_right : (x last : Pair) (made : IsTransactionAt table cut fates.LostDown x last) (ts : List Transaction) → IsRight ts x → IsRight (ts ++ []) last
-  lost_right x last made ts right = subst (λ us. IsRight us last) (sym (append-nil ts)) (record { toggles = right.toggles; lengths = right.lengths; transfers = right.transfers; sound = right.sound; known = of x.host.phase made.due made.host right.known })
+  lost_right x last made ts right = subst (λ us. IsRight us last) (sym (append-nil ts)) (record { toggles = right.toggles; lengths = right.lengths; endings = right.endings; transfers = right.transfers; sound = right.sound; known = of x.host.phase made.due made.host right.known })
     where
       of : (phase : HostPhase) → wanted phase ≡ WantsSent made.sent → TakesIn x.host phase NoReply last.host → Known x.device.stage (pipes_in ts) phase
           → Known last.device.stage (pipes_in ts) last.host.phase
@@ -215,8 +258,11 @@ module _ (f : DescriptorFile) (kept_table : IsTable (answer f)) (list : List Fat
       of (Ended place) due takes known = absurd (let w : ⊥ = cc in w)
       of (Reading place t k) due takes known =
           subst (λ v. Known v.stage (pipes_in ts) last.host.phase) (sym made.device)
-          (takes_works (Agree table cut tells x.device.stage (pipes_in ts)) (fresh_agrees table cut tells x.device.stage (pipes_in ts)) x.host last.host place t k NoReply
-          (taken_agrees table cut tells x.device.stage (pipes_in ts) t t.stage NoReply refl known (λ is none. absurd (let w : ⊥ = cc in w))) takes)
+          (takes_works cut (Agree table cut tells x.device.stage (pipes_in ts)) (fresh_agrees table cut tells x.device.stage (pipes_in ts)) x.host last.host place t k NoReply
+          (taken_agrees table cut tells x.device.stage (pipes_in ts) t known.holds.size_is t.stage NoReply refl known.holds.may_be known.holds.same
+          (λ transfer is. after_none table cut tells t.stage x.device.stage t (record { transfer = transfer; toggle = toggle_at t.address (pipes_in ts) }) (known.holds.fits transfer is))
+          (λ is none. absurd (let w : ⊥ = cc in w)))
+          known.knows known.first (λ first at. tt) takes)
 
   one_right : (x last : Pair) (fate : Fate) (made : IsTransactionAt table cut fate x last) (ts : List Transaction) (number : ℕ) → IsSmall (made_of x.device made.sent fate) → IsShortIn cut (made_of x.device made.sent fate)
       → IsRight ts x → IsRight (ts ++ one_heard times number (made_of x.device made.sent fate)) last
@@ -231,6 +277,7 @@ module _ (f : DescriptorFile) (kept_table : IsTable (answer f)) (list : List Fat
   run_right new [] n last due (same, none) small short = record {
     toggles = tt;
     lengths = tt;
+    endings = tt;
     transfers = tt;
     sound = sound_first;
     known = subst (λ y. Known y.device.stage none_open y.host.phase) (sym same) (subst (λ p. Known new.device.stage none_open p) (sym due) tt);
@@ -245,9 +292,10 @@ module _ (f : DescriptorFile) (kept_table : IsTable (answer f)) (list : List Fat
       (record {
         toggles = before.toggles;
         lengths = before.lengths;
+        endings = before.endings;
         transfers = before.transfers;
         sound = before.sound;
-        known = reset_works (Agree table cut tells last.device.stage (pipes_in ts)) (fresh_agrees table cut tells last.device.stage (pipes_in ts)) x.host last.host reset.due reset.host;
+        known = reset_works cut (Agree table cut tells last.device.stage (pipes_in ts)) (fresh_agrees table cut tells last.device.stage (pipes_in ts)) x.host last.host reset.due reset.host;
       }))
   run_right new (x ∷ earlier) n last due (inr (m, same, made, run)) small short =
       let back : n - 1 ≡ m = omega (arith, same) in

@@ -15,3 +15,4 @@ pub mod KnownRuns
 pub mod SizeLemmas
 pub mod AnswerLemmas
 pub mod TransferLemmas
+pub mod PlaceLemmas

@@ -22,6 +22,16 @@ Says size transfer = says_size transfer ≡ true → slice_index transfer.data 7
 abbrev pub TellsSize : ℕ → Setup → List ℕ → Type 0
 TellsSize size q bytes = reads_descriptor q ≡ true → (q.value / 256 == 1) ≡ true → is_whole (q.value / 256) bytes ≡ true → slice_index bytes 7 ≡ size
 
+-- and in more than seven of them
+abbrev pub TellsLong : ℕ → Setup → List ℕ → Type 0
+TellsLong size q bytes = reads_descriptor q ≡ true → (q.value / 256 == 1) ≡ true → 7 < length bytes → slice_index bytes 7 ≡ size
+
+-- the first bytes of an answer to this request
+pub record Fronts (size : ℕ) (q : Setup) (front : List ℕ) : Type 0 where
+  pub whole : TellsSize size q front
+  pub few : length front ≤ q.length
+  pub long : TellsLong size q front
+
 -- what is known of a transfer that is open: of its bytes, unless some are cut off, and of its request
 pub record Told (size : ℕ) (transfer : ControlTransfer) : Type 0 where
   pub tells : (transfer.is_cut ≡ true) ⊎ TellsSize size transfer.setup transfer.data

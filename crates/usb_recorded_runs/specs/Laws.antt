@@ -12,7 +12,7 @@ use Rattle.usb_bus.specs.Enumerate.{Pair, chosen_pair}
 use Rattle.usb_bus.specs.Exchanges.{is_lost_down}
 use Rattle.usb_capture.specs.declared.finding.Finding.TheVariants.{MoreThanAsked, RefusesStatus}
 use Rattle.usb_capture.specs.declared.frame.Frame.{Frame}
-use Rattle.usb_capture.specs.declared.packet_finding.PacketFinding.TheVariants.{Long, NoHandshake, NoRequest, SetupRefused, Toggle}
+use Rattle.usb_capture.specs.declared.packet_finding.PacketFinding.TheVariants.{Long, NoHandshake, NoRequest, NoShortPacket, SetupRefused, Toggle}
 use Rattle.usb_capture.specs.declared.reader.CaptureReader.{CaptureReader}
 use Rattle.usb_capture.specs.declared.recorded_packet.RecordedPacket.{RecordedPacket}
 use Rattle.usb_capture.specs.declared.transaction.Transaction.{Transaction}
@@ -87,6 +87,13 @@ NoLongPacketIsFound =
     (f : DescriptorFile) (fates : List Fate) (limits : LimitView) (speed : Speed) (choice : Choice) (earlier : List Pair) (n : ℕ) (last : Pair)
     (times : ℕ → Option ℕ) → IsRun f fates (chosen_pair limits speed choice) earlier n last →
     IsFreeAfter Long [] (heard times 1 (exchanges f fates earlier n))
+
+-- No status stage comes before its data stage is complete (5.5.3, 8.5.3.2): all bytes came, or a packet that is shorter than a whole one.
+abbrev pub NoShortPacketLacks : Type 0
+NoShortPacketLacks =
+    (f : DescriptorFile) (fates : List Fate) (limits : LimitView) (speed : Speed) (choice : Choice) (earlier : List Pair) (n : ℕ) (last : Pair)
+    (times : ℕ → Option ℕ) → IsRun f fates (chosen_pair limits speed choice) earlier n last →
+    IsFreeAfter NoShortPacket [] (heard times 1 (exchanges f fates earlier n))
 
 -- Of the control transfers of an enumeration none has more bytes than wLength (9.3.5), and none is a GET_STATUS that a device refuses (9.4.5).
 abbrev pub NoTransferHasMore : Type 0

@@ -1,5 +1,5 @@
 //! The functions of these laws do nothing: their contracts are the laws.
-ghost use Rattle.usb_recorded_runs.specs.Laws.{CapturedRunsAreRead, HandshakesAreLost, NoLongPacketIsFound, NoPacketIsDamaged, NoPacketIsLong, NoToggleIsWrong, NoTransferHasMore, RecordedRunsAreRead, SetupsAreTaken};
+ghost use Rattle.usb_recorded_runs.specs.Laws.{CapturedRunsAreRead, HandshakesAreLost, NoLongPacketIsFound, NoPacketIsDamaged, NoPacketIsLong, NoShortPacketLacks, NoToggleIsWrong, NoTransferHasMore, RecordedRunsAreRead, SetupsAreTaken};
 
 use usb_bus::laws::a_device_keeps_its_table;
 
@@ -39,6 +39,13 @@ pub fn no_packet_is_long()
 /// Nor is it found anywhere in an enumeration of a new device, which says no other packet size of itself.
 pub fn no_long_packet_is_found()
     ensures { NoLongPacketIsFound }
+{
+    a_device_keeps_its_table();
+}
+
+/// Nor is `NoShortPacket`: a data stage ends with all bytes that were asked for, or with a packet that is shorter than a whole one.
+pub fn no_short_packet_lacks()
+    ensures { NoShortPacketLacks }
 {
     a_device_keeps_its_table();
 }
