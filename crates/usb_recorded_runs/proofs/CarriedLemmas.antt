@@ -1,11 +1,7 @@
 -- What a bus of bytes on which no bit changes brings is what it brings under fates.
-use Rattle.std.proofs.Common.{◌≡◌, ◌+◌, ℕ, suc, Bool, true, false, if◌then◌else◌, List, [], ◌∷◌, inl, inr, refl, sym, ◌∙◌, ap, subst}
+use Rattle.std.proofs.Common.{◌≡◌, ℕ, Bool, true, false, if◌then◌else◌, List, [], ◌∷◌, inl, inr, refl, sym, ◌∙◌, ap, subst}
 use Rattle.std.specs.Prelude.{Option, Some, None}
-use Rattle.usb_wire.specs.Damages.{damage_of}
-use Rattle.usb_wire.specs.Packets.{IsLegal, PacketView, packet_bytes}
-use Rattle.usb_wire.specs.declared.pid.Handshake.TheVariants as handshakes
-use Rattle.usb_wire.specs.Packets.{HandshakePacket}
-use Rattle.usb_wire.proofs.RoundTrip.{packet_taken, same_packet}
+use Rattle.usb_wire.specs.Packets.{PacketView, packet_bytes}
 use Rattle.usb_fields.specs.declared.packet.Toggle.TheVariants as toggles
 use Rattle.usb_fields.specs.declared.setup.Setup.{Setup}
 use Rattle.usb_fields.specs.Packets.{AckReply, DataReply, NakReply, NoReply, Reply, Sent, StallReply}
@@ -20,7 +16,7 @@ use Rattle.usb_bus.specs.DamagedRuns.{DamagedRunsAt}
 use Rattle.usb_bus.specs.Enumerate.{Pair, RunsAt}
 use Rattle.usb_bus.specs.Exchanges.{is_lost_ack, is_lost_down, is_lost_up}
 use Rattle.usb_bus.specs.Run.{fate_at}
-use Rattle.usb_bus.specs.Wire.{Receives, ack_packet, data_packet, heard_reply, heard_sent, is_ack, reply_packet, served_heard, token_packet}
+use Rattle.usb_bus.specs.Wire.{Receives, ack_packet, data_packet, heard_reply, heard_sent, is_ack, reply_packet, token_packet}
 use Rattle.usb_host.specs.Steps.{Takes}
 use Rattle.usb_recorded_runs.proofs.RunLemmas.{due_fits, taken_whole, whole_heard}
 

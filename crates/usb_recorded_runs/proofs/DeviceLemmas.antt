@@ -1,44 +1,14 @@
 -- What a device sends when a host asks it for data.
-use Rattle.std.proofs.Common.{◌≡◌, ◌⊎◌, inl, inr, ◌==◌, ◌&&◌, ◌||◌, ◌<◌, ◌≤◌, ◌+◌, min, nat_le, nat_lt, ℕ, suc, Bool, true, false, not, if◌then◌else◌, List, [], ◌∷◌, ◌++◌, length, take, drop, refl, sym, ◌∙◌, ap, subst, arith}
+use Rattle.std.proofs.Common.{◌≡◌, ◌⊎◌, inl, inr, ◌==◌, ℕ, suc, Bool, true, false, not, if◌then◌else◌, List, [], ◌∷◌, drop, refl, sym, ◌∙◌, ap}
 use Rattle.std.specs.Prelude.{Option, Some, None}
-use Rattle.std.proofs.lemmas.Bool.Decides.{nat_tests}
-use Rattle.std.proofs.lemmas.List.{append-nil}
-use Rattle.usb_wire.specs.declared.pid.Handshake.TheVariants as handshakes
-use Rattle.usb_wire.specs.declared.pid.TokenKind.TheVariants as tokens
 use Rattle.usb_fields.specs.declared.packet.Toggle.{Toggle}
-use Rattle.usb_fields.specs.declared.packet.Toggle.TheVariants.{Data0, Data1}
-use Rattle.usb_fields.specs.declared.setup.Direction.{Direction}
-use Rattle.usb_fields.specs.declared.setup.Direction.TheVariants as directions
+use Rattle.usb_fields.specs.declared.packet.Toggle.TheVariants.{Data1}
 use Rattle.usb_fields.specs.declared.setup.Setup.{Setup}
-use Rattle.usb_fields.specs.Packets.{AckReply, DataReply, InToken, NakReply, NoReply, OutToken, Reply, Sent, SetupToken, StallReply, Token, flipped, is_same_toggle, joined, packets, toggle_of}
-use Rattle.usb_fields.specs.Setup.{direction_of, setup_bytes, setup_of}
-use Rattle.usb_host.specs.declared.transfer.TransferStage.{TransferStage}
-use Rattle.usb_host.specs.declared.transfer.TransferStage.TheVariants as stages
-use Rattle.usb_host.specs.declared.why.Why.{Why}
-use Rattle.usb_host.specs.declared.why.Why.TheVariants as whys
-use Rattle.usb_host.specs.Steps.{WantsSent, sends}
-use Rattle.usb_host.specs.Transfer.{Taken, TransferView, addressed, begun, data_stage, delayed, failed, kept_packet, stage_after_setup, struck, taken_at, taken_data, taken_status, token_due}
+use Rattle.usb_fields.specs.Packets.{DataReply, InToken, NoReply, Reply, flipped, packets, toggle_of}
+use Rattle.usb_host.specs.Steps.{sends}
 use Rattle.usb_device.specs.declared.state.State.{State}
-use Rattle.usb_device.specs.Requests.{Bytes, Done, Outcome, Refused, Takes}
+use Rattle.usb_device.specs.Requests.{Outcome}
 use Rattle.usb_device.specs.Step.{DeviceStage, DeviceView, Sending, Served, StatusIn, acked, acked_stage, acked_state, next_packet, next_stage, replies, served, served_here, served_in}
-use Rattle.usb_device.specs.Step as device
-use Rattle.usb_bus.specs.declared.fate.Fate.{Fate}
-use Rattle.usb_bus.specs.declared.fate.Fate.TheVariants as fates
-use Rattle.usb_bus.specs.Bus.{acknowledges, brought}
-use Rattle.usb_bus.specs.Damaged.{is_ready}
-use Rattle.usb_bus.specs.Exchanges.{is_lost_ack, is_lost_down}
-use Rattle.usb_bus.specs.Wire.{data_kind, token_kind}
-use Rattle.usb_capture.specs.declared.control_transfer.ControlTransfer.{ControlTransfer}
-use Rattle.usb_capture.specs.declared.ending.Ending.{Ending}
-use Rattle.usb_capture.specs.declared.ending.Ending.TheVariants as endings
-use Rattle.usb_capture.specs.declared.transaction.Transaction.{Transaction}
-use Rattle.usb_capture.specs.BusTransfers.{Going, Pipes, begun_by, closed, data_direction, ended_so, first_toggle, has_toggle, is_acknowledged, is_wrong_in, over_by, over_with_part, part_by, part_in, pipes_after, pipes_with, request_of, toggle_after, toggle_at, transfer_over, with_bytes}
-use Rattle.usb_capture.specs.Events.{setup_at}
-use Rattle.usb_capture.specs.PacketFindings.{has_wrong_toggle, is_wrong_at}
-use Rattle.usb_capture.specs.Readings.{is_done}
-use Rattle.usb_capture.specs.Transfers.{open_with}
-use Rattle.usb_recorded_runs.specs.Exchanges.{data_heard, handshake_heard}
-use Rattle.usb_recorded_runs.proofs.PipeLemmas.{Holds, OpenAt, Sound, again, begins_at, ended_at, found_unseen, goes_at, goes_with}
 
 -- ---- a device
 
@@ -148,4 +118,3 @@ module _ (table : State → Setup → Outcome) (cut : ℕ) where
   pub acked_flips : (d : DeviceView) (toggle next : Toggle) → d.pending ≡ true → in_toggle d.stage ≡ Some toggle → in_toggle (acked table cut d).stage ≡ Some next → next ≡ flipped toggle
   acked_flips d toggle next waits is after =
       stage_flips d.stage toggle next is (ap in_toggle (sym (acked_so d waits)) ∙ after)
-

@@ -22,7 +22,7 @@ use Rattle.usb_host.specs.Place.{Place, First, Address, Device, Header, Set, Qua
 use Rattle.usb_host.specs.Plan.{Plan, Begin, Success, GivesUp}
 use Rattle.usb_host.specs.Read.{get_descriptor}
 use Rattle.usb_host.specs.Steps.{Ended, HostPhase, HostView, KeepsHeard, Reading, ResetDue, TakesHeard, TakesIn, WantsReset, blames_bus, completed_leads, enter, entered, goes_on, reset, reset_in, sends, settled, terms_of, wanted}
-use Rattle.usb_host.specs.Transfer.{Taken, TransferView, begun, completed, delayed, due, failed, kept_packet, moved, progress, stage_after_setup, struck, taken, taken_at, taken_data, taken_status, with_packet}
+use Rattle.usb_host.specs.Transfer.{Taken, TransferView, begun, completed, delayed, due, failed, kept_packet, moved, stage_after_setup, struck, taken, taken_at, taken_data, taken_status}
 use Rattle.usb_host.specs.declared.transfer.TransferStage.{TransferStage}
 use Rattle.usb_host.specs.declared.transfer.TransferStage.TheVariants as stages
 use Rattle.usb_host.specs.declared.why.Why.{Why}
