@@ -18,8 +18,7 @@ use Rattle.usb_device.specs.Step.{DeviceStage, DeviceView, Sending, Served, Stat
 use Rattle.usb_bus.specs.declared.fate.Fate.{Fate}
 use Rattle.usb_bus.specs.declared.fate.Fate.TheVariants as fates
 use Rattle.usb_bus.specs.Bus.{brought}
-use Rattle.usb_bus.specs.DamagedRuns.{DamagedRunsAt}
-use Rattle.usb_bus.specs.Enumerate.{Pair, answered}
+use Rattle.usb_bus.specs.Enumerate.{Pair, RunsAt, answered}
 use Rattle.usb_bus.specs.Exchanges.{is_lost_down}
 use Rattle.usb_bus.specs.Log.{count_before}
 use Rattle.usb_bus.specs.Run.{fate_at}
@@ -137,14 +136,13 @@ module _ (f : DescriptorFile) where
   answered_short d sent fates.LostAck = served_short (answer f) f.device.packet d sent true
   answered_short d sent fates.LostDown = tt
 
-  pub short_run : (list : List Fate) (new : Pair) (earlier : List Pair) (n : ℕ) (last : Pair) → DamagedRunsAt (answer f) f.device.packet list [] new earlier n last
+  pub short_run : (list : List Fate) (new : Pair) (earlier : List Pair) (n : ℕ) (last : Pair) → RunsAt (answer f) f.device.packet list new earlier n last
       → AllByRecursion (IsShortIn f.device.packet) (exchanges f list earlier n)
   short_run list new [] n last run = tt
-  short_run list new (x ∷ earlier) n last (m, inl (reset, same), run) =
+  short_run list new (x ∷ earlier) n last (inl (reset, run)) =
       subst (λ w. AllByRecursion (IsShortIn f.device.packet) (exchanges f list earlier (count_before w n) ++ exchange_in f list n x.device w)) (sym reset.due)
-      (subst (λ k. AllByRecursion (IsShortIn f.device.packet) (exchanges f list earlier k ++ [])) (sym same)
-      (all_append (IsShortIn f.device.packet) (exchanges f list earlier m) [] (short_run list new earlier m x run) tt))
-  short_run list new (x ∷ earlier) n last (m, inr (made, same), run) =
+      (all_append (IsShortIn f.device.packet) (exchanges f list earlier n) [] (short_run list new earlier n x run) tt)
+  short_run list new (x ∷ earlier) n last (inr (m, same, made, run)) =
       let before : n - 1 ≡ m = omega (arith, same) in
       subst (λ w. AllByRecursion (IsShortIn f.device.packet) (exchanges f list earlier (count_before w n) ++ exchange_in f list n x.device w)) (sym made.due)
       (all_append (IsShortIn f.device.packet) (exchanges f list earlier (n - 1)) _

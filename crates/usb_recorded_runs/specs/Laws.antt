@@ -1,6 +1,7 @@
 -- What holds of a recording of a host and a device that enumerate over a bus that loses packets.
 use Rattle.std.specs.Prelude.{◌≡◌, ◌⊎◌, ℕ, true, false, List, [], Option, None}
 use Rattle.std.specs.List.{AllByRecursion}
+use Rattle.usb_wire.specs.Packets.{IsLegal}
 use Rattle.usb_file_data.specs.declared.file.DescriptorFile.{DescriptorFile}
 use Rattle.usb_fields.specs.declared.packet.Speed.{Speed}
 use Rattle.usb_host.specs.declared.choice.Choice.{Choice}
@@ -8,7 +9,7 @@ use Rattle.usb_host.specs.Limits.{LimitView}
 use Rattle.usb_device.specs.Requests.{answer}
 use Rattle.usb_bus.specs.declared.fate.Fate.{Fate}
 use Rattle.usb_bus.specs.DamagedRuns.{DamagedRunsAt}
-use Rattle.usb_bus.specs.Enumerate.{Pair, chosen_pair}
+use Rattle.usb_bus.specs.Enumerate.{Pair, Runs, chosen_pair}
 use Rattle.usb_bus.specs.Exchanges.{is_lost_down}
 use Rattle.usb_capture.specs.declared.finding.Finding.TheVariants.{MoreThanAsked, RefusesStatus}
 use Rattle.usb_capture.specs.declared.frame.Frame.{Frame}
@@ -25,10 +26,16 @@ use Rattle.usb_recorded_runs.specs.Captures.{AreOfFrames, Moment, capture_of, fr
 use Rattle.usb_recorded_runs.specs.Exchanges.{exchanges, heard, packets_in, transaction_of}
 use Rattle.usb_recorded_runs.specs.Findings.{IsFreeAfter, IsTransferFreeAfter, LosesHandshake}
 
--- A run from a new pair on, of n transactions over a bus of bytes that changes no bit of a packet: these are the pairs on the
--- way, the newest first. A bus of bytes carries packets that are legal.
+-- A run from a new pair on, of n transactions under these fates, as that of an enumeration: these are the pairs on the way, the newest
+-- first. Each packet that arrives is a legal one.
 abbrev pub IsRun : DescriptorFile → List Fate → Pair → List Pair → ℕ → Pair → Type 0
-IsRun f fates new earlier n last = DamagedRunsAt (answer f) f.device.packet fates [] new earlier n last
+IsRun f fates new earlier n last = Runs f fates new earlier n last × AllByRecursion IsLegal (packets_in (exchanges f fates earlier n))
+
+-- So it is over a bus of bytes that changes no bit of a packet, where no premise is needed.
+abbrev pub RunsOfBytesAreRuns : Type 0
+RunsOfBytesAreRuns =
+    (f : DescriptorFile) (fates : List Fate) (new : Pair) (earlier : List Pair) (n : ℕ) (last : Pair) →
+    DamagedRunsAt (answer f) f.device.packet fates [] new earlier n last → IsRun f fates new earlier n last
 
 -- The packets that arrive, read one by one as the program reads frames, are the transactions of the run, each with what of it arrives.
 abbrev pub RecordedRunsAreRead : Type 0

@@ -1,7 +1,12 @@
 //! The functions of these laws do nothing: their contracts are the laws.
-ghost use Rattle.usb_recorded_runs.specs.Laws.{CapturedRunsAreRead, HandshakesAreLost, NoLongPacketIsFound, NoPacketIsDamaged, NoPacketIsLong, NoShortPacketLacks, NoToggleIsWrong, NoTransferHasMore, RecordedRunsAreRead, SetupsAreTaken};
+ghost use Rattle.usb_recorded_runs.specs.Laws.{CapturedRunsAreRead, HandshakesAreLost, NoLongPacketIsFound, NoPacketIsDamaged, NoPacketIsLong, NoShortPacketLacks, NoToggleIsWrong, NoTransferHasMore, RecordedRunsAreRead, RunsOfBytesAreRuns, SetupsAreTaken};
 
 use usb_bus::laws::a_device_keeps_its_table;
+
+/// A run over a bus of bytes that changes no bit is a run under fates, and each packet of it that arrives is legal.
+pub fn a_run_of_bytes_is_a_run()
+    ensures { RunsOfBytesAreRuns }
+{}
 
 /// The packets of a run that arrive are read back to the transactions of the run: of one whose token is lost there is nothing,
 /// and of another its token, its data and its handshake, as far as each arrives.
