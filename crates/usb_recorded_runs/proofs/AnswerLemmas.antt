@@ -1,8 +1,8 @@
 -- A device's answer to GET_DESCRIPTOR tells its packet size.
-use Rattle.std.proofs.Common.{◌≡◌, ◌⊎◌, inl, inr, ◌<◌, ◌≤◌, ◌/◌, ◌%◌, ◌+◌, ◌-◌, ◌==◌, ◌&&◌, ℕ, zero, suc, Bool, true, false, if◌then◌else◌, List, [], ◌∷◌, ◌++◌, length, take, drop, refl, sym, ◌∙◌, ap, subst, arith, length-append}
-use Rattle.std.specs.Prelude.{Some, None, nat_lt, slice_index}
+use Rattle.std.proofs.Common.{◌≡◌, ◌⊎◌, inl, inr, ◌<◌, ◌≤◌, ◌/◌, ◌%◌, ◌+◌, ◌-◌, ◌==◌, ◌&&◌, ℕ, zero, suc, Bool, true, false, if◌then◌else◌, List, [], ◌∷◌, ◌++◌, append_assoc, length, take, drop, refl, sym, ◌∙◌, ap, subst, arith, length-append}
+use Rattle.std.specs.Prelude.{Option, Some, None, unwrap_or, nat_lt, slice_index}
 use Rattle.std.proofs.lemmas.Bool.Decides.{nat_tests}
-use Rattle.std.proofs.lemmas.List.{get_or-take, get_or_append_left, length-take}
+use Rattle.std.proofs.lemmas.List.{get_or-take, get_or_append_left, length-take, take-append-drop}
 use Rattle.usb_fields.specs.declared.device.DeviceDescriptor.{DeviceDescriptor}
 use Rattle.usb_fields.specs.declared.setup.Setup.{Setup}
 use Rattle.usb_fields.specs.Device.{device_bytes}
@@ -13,8 +13,8 @@ use Rattle.usb_device.specs.declared.state.State.{State}
 use Rattle.usb_device.specs.Descriptors.{descriptor}
 use Rattle.usb_device.specs.Requests.{Bytes, Done, answer, answer_of, gives}
 use Rattle.usb_recorded_runs.proofs.FrontLemmas.{front_joins}
-use Rattle.usb_capture.specs.Readings.{is_whole}
-use Rattle.usb_recorded_runs.proofs.SizeLemmas.{Fronts, TellsLong, TellsSize}
+use Rattle.usb_capture.specs.Readings.{is_whole, reads_descriptor}
+use Rattle.usb_recorded_runs.proofs.SizeLemmas.{Fronts, IsFront, TellsLong, TellsSize}
 
 -- ---- what the table answers
 
@@ -49,6 +49,25 @@ module _ (f : DescriptorFile) (s : State) where
   device_told q bytes type request kind e =
       let same : q ≡ asked_so q.value q.index q.length = (λ i. record { request_type = type i; request = request i; value = q.value; index = q.index; length = q.length }) in
       tells_so q.value q.index q.length bytes kind (ap (answer f s) (sym same) ∙ e)
+
+-- the descriptor that a request is for, or none
+abbrev pub described_by : DescriptorFile → Setup → List ℕ
+described_by f q = unwrap_or (descriptor f (q.value / 256) (q.value % 256) q.index) []
+
+module _ (f : DescriptorFile) (s : State) where
+  cut_any : (size : ℕ) (all bytes : List ℕ) (none : Bool) → (if none then Done s else Bytes (take size all)) ≡ Bytes bytes → bytes ≡ take size all
+  cut_any size all bytes true e = absurd (let w : ⊥ = cc in w)
+  cut_any size all bytes false e = cc
+
+  gives_any : (value index size : ℕ) (bytes : List ℕ) (o : Option (List ℕ)) → gives s (asked_so f s value index size) o ≡ Bytes bytes → bytes ≡ take size (unwrap_or o [])
+  gives_any value index size bytes None e = absurd (let w : ⊥ = cc in w)
+  gives_any value index size bytes (Some all) e = cut_any size all bytes (size == 0) e
+
+  any_told : (q : Setup) (bytes : List ℕ) → q.request_type ≡ 128 → q.request ≡ 6 → answer f s q ≡ Bytes bytes → bytes ≡ take q.length (described_by f q)
+  any_told q bytes type request e =
+      let same : q ≡ asked_so f s q.value q.index q.length = (λ i. record { request_type = type i; request = request i; value = q.value; index = q.index; length = q.length }) in
+      gives_any q.value q.index q.length bytes (descriptor f (q.value / 256) (q.value % 256) q.index)
+      (sym (table_gives f s q.value q.index q.length) ∙ ap (answer f s) (sym same) ∙ e)
 
 -- ---- the bytes of the first packets
 
@@ -137,6 +156,26 @@ long_fronts f s q bytes e within m read kind long =
     of rest (inl joins) is = long_tells f.device q.length front rest (joins ∙ is) long
     of rest (inr none) is = absurd (let w : ⊥ = omega (arith, long, ap length (nothing_front front rest none)) in w)
 
+-- The first packets of the answer to a request for a descriptor are its first bytes.
+any_front : (f : DescriptorFile) (s : State) (q : Setup) (bytes : List ℕ) → answer f s q ≡ Bytes bytes → length bytes ≤ q.length → (m : ℕ)
+    → reads_descriptor q ≡ true → IsFront (joined (take m (packets bytes f.device.packet q.length))) (described_by f q)
+any_front f s q bytes e within m read =
+    let parts = read_parts (q.request_type == 128) (q.request == 6) read in
+    let is : bytes ≡ take q.length (described_by f q) = any_told f s q bytes (same_number q.request_type 128 parts.0) (same_number q.request 6 parts.1) e in
+    let before = front_of f.device.packet q.length bytes m within in
+    of before.0 before.1 is
+  where
+    front : List ℕ
+    front = joined (take m (packets bytes f.device.packet q.length))
+
+    of : (rest : List ℕ) → (front ++ rest ≡ bytes) ⊎ (front ++ rest ≡ []) → bytes ≡ take q.length (described_by f q) → IsFront front (described_by f q)
+    of rest (inl joins) is = (
+      rest ++ drop q.length (described_by f q),
+      sym (append_assoc front rest (drop q.length (described_by f q))) ∙ ap (λ b. b ++ drop q.length (described_by f q)) (joins ∙ is)
+          ∙ take-append-drop q.length (described_by f q),
+    )
+    of rest (inr none) is = (described_by f q, ap (λ b. b ++ described_by f q) (nothing_front front rest none))
+
 -- The first packets of an answer tell no other size.
 fronts_tell : (f : DescriptorFile) (s : State) (q : Setup) (bytes : List ℕ) → answer f s q ≡ Bytes bytes
     → (m : ℕ) → TellsSize f.device.packet q (joined (take m (packets bytes f.device.packet q.length)))
@@ -170,6 +209,6 @@ fronts_few size limit bytes m within = let before = front_of size limit bytes m 
     of rest (inr none) = omega (arith, ap length (nothing_front front rest none))
 
 pub all_fronts : (f : DescriptorFile) (s : State) (q : Setup) (bytes : List ℕ) → answer f s q ≡ Bytes bytes → length bytes ≤ q.length → (m : ℕ)
-    → Fronts f.device.packet q (joined (take m (packets bytes f.device.packet q.length)))
+    → Fronts f.device.packet (described_by f) q (joined (take m (packets bytes f.device.packet q.length)))
 all_fronts f s q bytes e within m =
-    record { whole = fronts_tell f s q bytes e m; few = fronts_few f.device.packet q.length bytes m within; long = long_fronts f s q bytes e within m }
+    record { tells = record { whole = fronts_tell f s q bytes e m; front = any_front f s q bytes e within m }; few = fronts_few f.device.packet q.length bytes m within; long = long_fronts f s q bytes e within m }

@@ -39,7 +39,7 @@ use Rattle.usb_recorded_runs.specs.Findings.{IsFreeAfter}
 use Rattle.usb_recorded_runs.proofs.HostLemmas.{InWork, reset_works, takes_works}
 use Rattle.usb_recorded_runs.proofs.PipeLemmas.{Sound, sound_first}
 use Rattle.usb_recorded_runs.proofs.RecordedLemmas.{IsRegular}
-use Rattle.usb_recorded_runs.proofs.AnswerLemmas.{all_fronts}
+use Rattle.usb_recorded_runs.proofs.AnswerLemmas.{all_fronts, described_by}
 use Rattle.usb_recorded_runs.proofs.HeardLemmas.{heard_in}
 use Rattle.usb_recorded_runs.proofs.LengthLemmas.{IsShortIn, one_not_long}
 use Rattle.usb_recorded_runs.proofs.SizeLemmas.{Fronts, IfOver, IsSound, all_says, own_size}
@@ -118,14 +118,17 @@ module _ (f : DescriptorFile) (kept_table : IsTable (answer f)) (list : List Fat
   abbrev cut : ℕ
   cut = f.device.packet
 
-  pub tells : (s : State) (q : Setup) (bytes : List ℕ) → answer f s q ≡ Bytes bytes → (m : ℕ) → Fronts f.device.packet q (joined (take m (packets bytes f.device.packet q.length)))
+  abbrev described : Setup → List ℕ
+  described = described_by f
+
+  pub tells : (s : State) (q : Setup) (bytes : List ℕ) → answer f s q ≡ Bytes bytes → (m : ℕ) → Fronts f.device.packet (described_by f) q (joined (take m (packets bytes f.device.packet q.length)))
   tells s q bytes e m = all_fronts f s q bytes e (kept_table.fits s q bytes e) m
 
   abbrev made_of : DeviceView → Sent → Fate → Exchange
   made_of d sent fate = record { fate = fate; sent = sent; address = d.state.address; answered = answered f d sent fate }
 
   carried_kept : (d : DeviceView) (sent : Sent) (fate : Fate) → is_lost_down fate ≡ false
-      → carried table cut d sent fate ≡ (let r = served table cut d sent (is_ready fate) in record { reply = brought fate r.reply; device = after_answer table cut tells fate r })
+      → carried table cut d sent fate ≡ (let r = served table cut d sent (is_ready fate) in record { reply = brought fate r.reply; device = after_answer table cut described tells fate r })
   carried_kept d sent fates.Pass kept = refl
   carried_kept d sent fates.Busy kept = refl
   carried_kept d sent fates.LostUp kept = refl
@@ -140,21 +143,21 @@ module _ (f : DescriptorFile) (kept_table : IsTable (answer f)) (list : List Fat
   answered_kept d sent fates.LostDown kept = absurd (let w : ⊥ = cc in w)
 
   abbrev Known : DeviceStage → Pipes → HostPhase → Type 0
-  Known d pipes phase = InWork cut (Agree table cut tells d pipes) (fresh_agrees table cut tells d pipes) phase
+  Known d pipes phase = InWork cut (Agree table cut described tells d pipes) (fresh_agrees table cut described tells d pipes) phase
 
   -- after these transactions
   pub record IsRight (ts : List Transaction) (last : Pair) : Type 0 where
     pub toggles : IsFreeAfter Toggle [] ts
     pub lengths : IsFreeAfter Long [] ts
     pub endings : IsFreeAfter NoShortPacket [] ts
-    pub transfers : AllByRecursion (IsSound cut) (transfers_in ts)
+    pub transfers : AllByRecursion (IsSound cut described) (transfers_in ts)
     pub sound : Sound (pipes_in ts)
     pub known : Known last.device.stage (pipes_in ts) last.host.phase
 
   low_small : (address : ℕ) → address < 128 → address < 256
   low_small address low = omega (arith, low)
 
-  all_over : (ts : List ControlTransfer) (o : Option ControlTransfer) → AllByRecursion (IsSound cut) ts → IfOver cut o → AllByRecursion (IsSound cut) (ts ++ option_to_list o)
+  all_over : (ts : List ControlTransfer) (o : Option ControlTransfer) → AllByRecursion (IsSound cut described) ts → IfOver cut described o → AllByRecursion (IsSound cut described) (ts ++ option_to_list o)
   all_over [] None says over = tt
   all_over [] (Some t) says over = (over, tt)
   all_over (first ∷ ts) o says over = (says.0, all_over ts o says.1 over)
@@ -204,7 +207,7 @@ module _ (f : DescriptorFile) (kept_table : IsTable (answer f)) (list : List Fat
       after : pipes_in (ts ++ T ∷ []) ≡ pipes_after T (pipes_in ts)
       after = after_push pipes_after transfer_over none_open ts T
 
-      comes : carried table cut d made.sent fate ≡ (let r = served table cut d made.sent (is_ready fate) in record { reply = brought fate r.reply; device = after_answer table cut tells fate r })
+      comes : carried table cut d made.sent fate ≡ (let r = served table cut d made.sent (is_ready fate) in record { reply = brought fate r.reply; device = after_answer table cut described tells fate r })
       comes = carried_kept d made.sent fate kept
 
       of : (phase : HostPhase) → wanted phase ≡ WantsSent made.sent → TakesIn x.host phase (carried table cut d made.sent fate).reply last.host → Known d.stage (pipes_in ts) phase
@@ -215,17 +218,17 @@ module _ (f : DescriptorFile) (kept_table : IsTable (answer f)) (list : List Fat
           let legal = small kept in
           let agrees = known.holds in
           let below : t.address < 256 = due_small t t.stage made.sent due legal.address in
-          let own = own_size cut (transfers_in ts) made.sent.address (all_says cut (transfers_in ts) right.transfers) (low_small made.sent.address legal.address) in
-          let stepped = step table cut tells d fate kept number (times number) (pipes_in ts) right.sound t below (due_low t t.stage made.sent due legal.bytes) t.stage made.sent refl due agrees in
+          let own = own_size cut (transfers_in ts) made.sent.address (all_says cut described (transfers_in ts) right.transfers) (low_small made.sent.address legal.address) in
+          let stepped = step table cut described tells d fate kept number (times number) (pipes_in ts) right.sound t below (due_low t t.stage made.sent due legal.bytes) t.stage made.sent refl due agrees in
           let token = stepped.0 in
           let sent_is : made.sent ≡ record { address = t.address; token = token } = stepped.1 in
           let r : Served = served table cut d (record { address = t.address; token = token }) (is_ready fate) in
           let heard_is : T ≡ heard_in number (times number) t.address token (is_lost_ack fate) (brought fate r.reply) =
           ap (λ s. transaction_of number (times number) (made_of d s fate)) sent_is
           ∙ ap (λ a. heard_in number (times number) t.address token (is_lost_ack fate) (brought fate a)) (answered_kept d (record { address = t.address; token = token }) fate kept) in
-          let served_is : carried table cut d made.sent fate ≡ record { reply = brought fate r.reply; device = after_answer table cut tells fate r } =
+          let served_is : carried table cut d made.sent fate ≡ record { reply = brought fate r.reply; device = after_answer table cut described tells fate r } =
           ap (λ s. carried table cut d s fate) sent_is ∙ carried_kept d (record { address = t.address; token = token }) fate kept in
-          let device_is : last.device ≡ after_answer table cut tells fate r = made.device ∙ ap (λ c. c.device) served_is in
+          let device_is : last.device ≡ after_answer table cut described tells fate r = made.device ∙ ap (λ c. c.device) served_is in
           let pipes_is : pipes_in (ts ++ T ∷ []) ≡ pipes_after (heard_in number (times number) t.address token (is_lost_ack fate) (brought fate r.reply)) (pipes_in ts) =
           after ∙ ap (λ u. pipes_after u (pipes_in ts)) heard_is in
           record {
@@ -235,14 +238,14 @@ module _ (f : DescriptorFile) (kept_table : IsTable (answer f)) (list : List Fat
                 (ap (λ u. is_early (size_at made.sent.address (sizes_in (transfers_in ts))) u (pipes_in ts)) heard_is
                 ∙ stepped.2.not_early (size_at made.sent.address (sizes_in (transfers_in ts))) own
                 (λ zero. size_zero made.sent.address (sizes_in (transfers_in ts)) (ap (λ s. s.address) sent_is ∙ zero)));
-            transfers = subst (AllByRecursion (IsSound cut)) (sym (given_push pipes_after transfer_over none_open ts T))
-                (all_over (transfers_in ts) (transfer_over T (pipes_in ts)) right.transfers (subst (λ u. IfOver cut (transfer_over u (pipes_in ts))) (sym heard_is) stepped.2.over));
+            transfers = subst (AllByRecursion (IsSound cut described)) (sym (given_push pipes_after transfer_over none_open ts T))
+                (all_over (transfers_in ts) (transfer_over T (pipes_in ts)) right.transfers (subst (λ u. IfOver cut described (transfer_over u (pipes_in ts))) (sym heard_is) stepped.2.over));
             sound = subst Sound (sym pipes_is) stepped.2.sound_then;
             known =
                 subst (λ p. Known last.device.stage p last.host.phase) (sym pipes_is)
                 (subst (λ v. Known v.stage (pipes_after (heard_in number (times number) t.address token (is_lost_ack fate) (brought fate r.reply)) (pipes_in ts)) last.host.phase) (sym device_is)
-                (takes_works cut (Agree table cut tells (after_answer table cut tells fate r).stage (pipes_after (heard_in number (times number) t.address token (is_lost_ack fate) (brought fate r.reply)) (pipes_in ts)))
-                (fresh_agrees table cut tells (after_answer table cut tells fate r).stage (pipes_after (heard_in number (times number) t.address token (is_lost_ack fate) (brought fate r.reply)) (pipes_in ts)))
+                (takes_works cut (Agree table cut described tells (after_answer table cut described tells fate r).stage (pipes_after (heard_in number (times number) t.address token (is_lost_ack fate) (brought fate r.reply)) (pipes_in ts)))
+                (fresh_agrees table cut described tells (after_answer table cut described tells fate r).stage (pipes_after (heard_in number (times number) t.address token (is_lost_ack fate) (brought fate r.reply)) (pipes_in ts)))
                 x.host last.host place t k (brought fate r.reply) stepped.2.agrees known.knows known.first
                 (λ first at. stepped.2.may_come at (known.first first).request_is)
                 (subst (λ c. TakesIn x.host (Reading place t k) c.reply last.host) served_is takes)));
@@ -258,9 +261,9 @@ module _ (f : DescriptorFile) (kept_table : IsTable (answer f)) (list : List Fat
       of (Ended place) due takes known = absurd (let w : ⊥ = cc in w)
       of (Reading place t k) due takes known =
           subst (λ v. Known v.stage (pipes_in ts) last.host.phase) (sym made.device)
-          (takes_works cut (Agree table cut tells x.device.stage (pipes_in ts)) (fresh_agrees table cut tells x.device.stage (pipes_in ts)) x.host last.host place t k NoReply
-          (taken_agrees table cut tells x.device.stage (pipes_in ts) t known.holds.size_is t.stage NoReply refl known.holds.may_be known.holds.same
-          (λ transfer is. after_none table cut tells t.stage x.device.stage t (record { transfer = transfer; toggle = toggle_at t.address (pipes_in ts) }) (known.holds.fits transfer is))
+          (takes_works cut (Agree table cut described tells x.device.stage (pipes_in ts)) (fresh_agrees table cut described tells x.device.stage (pipes_in ts)) x.host last.host place t k NoReply
+          (taken_agrees table cut described tells x.device.stage (pipes_in ts) t known.holds.size_is t.stage NoReply refl known.holds.may_be known.holds.same
+          (λ transfer is. after_none table cut described tells t.stage x.device.stage t (record { transfer = transfer; toggle = toggle_at t.address (pipes_in ts) }) (known.holds.fits transfer is))
           (λ is none. absurd (let w : ⊥ = cc in w)))
           known.knows known.first (λ first at. tt) takes)
 
@@ -295,7 +298,7 @@ module _ (f : DescriptorFile) (kept_table : IsTable (answer f)) (list : List Fat
         endings = before.endings;
         transfers = before.transfers;
         sound = before.sound;
-        known = reset_works cut (Agree table cut tells last.device.stage (pipes_in ts)) (fresh_agrees table cut tells last.device.stage (pipes_in ts)) x.host last.host reset.due reset.host;
+        known = reset_works cut (Agree table cut described tells last.device.stage (pipes_in ts)) (fresh_agrees table cut described tells last.device.stage (pipes_in ts)) x.host last.host reset.due reset.host;
       }))
   run_right new (x ∷ earlier) n last due (inr (m, same, made, run)) small short =
       let back : n - 1 ≡ m = omega (arith, same) in

@@ -1,6 +1,6 @@
 -- What recorded transfers say of a device's packet size.
-use Rattle.std.proofs.Common.{◌≡◌, ◌⊎◌, inl, inr, ◌≢◌, ◌<◌, ◌≤◌, ◌%◌, ◌/◌, ◌==◌, ◌&&◌, ℕ, Bool, true, false, not, if◌then◌else◌, List, [], ◌∷◌, length, refl, sym, ◌∙◌, ap, subst, arith}
-use Rattle.std.specs.Prelude.{Option, Some, None, slice_index, slice_index_or, slice_set}
+use Rattle.std.proofs.Common.{◌≡◌, ◌⊎◌, inl, inr, ◌≢◌, ◌<◌, ◌≤◌, ◌%◌, ◌/◌, ◌==◌, ◌&&◌, ℕ, Bool, true, false, not, if◌then◌else◌, List, [], ◌∷◌, ◌++◌, length, refl, sym, ◌∙◌, ap, subst, arith}
+use Rattle.std.specs.Prelude.{Option, Some, None, nat_lt, slice_index, slice_index_or, slice_set}
 use Rattle.std.specs.List.{AllByRecursion}
 use Rattle.std.proofs.lemmas.Bool.Decides.{nat_tests}
 use Rattle.std.proofs.lemmas.List.{get_or-replicate, get_or-set_other, get_or-set_same, length-set}
@@ -10,7 +10,7 @@ use Rattle.usb_capture.specs.declared.ending.Ending.{Ending}
 use Rattle.usb_capture.specs.declared.ending.Ending.TheVariants as endings
 use Rattle.usb_capture.specs.declared.transaction.Transaction.{Transaction}
 use Rattle.usb_capture.specs.BusTransfers.{ended_so}
-use Rattle.usb_capture.specs.Findings.{is_answered, is_stall, reads_status}
+use Rattle.usb_capture.specs.Findings.{gives, is_answered, is_stall, reads_status}
 use Rattle.usb_capture.specs.PacketSizes.{gives_address, no_sizes, says_size, size_at, sizes_after, sizes_in, sizes_with}
 use Rattle.usb_capture.specs.Readings.{is_done, is_whole, reads_descriptor}
 
@@ -26,27 +26,37 @@ TellsSize size q bytes = reads_descriptor q ≡ true → (q.value / 256 == 1) �
 abbrev pub TellsLong : ℕ → Setup → List ℕ → Type 0
 TellsLong size q bytes = reads_descriptor q ≡ true → (q.value / 256 == 1) ≡ true → 7 < length bytes → slice_index bytes 7 ≡ size
 
+-- The list begins with these.
+abbrev pub IsFront : List ℕ → List ℕ → Type 0
+IsFront xs all = (rest : List ℕ) × (xs ++ rest ≡ all)
+
+-- what the bytes that have come of this request's answer say, where a device has these descriptors
+pub record Tells (size : ℕ) (described : Setup → List ℕ) (q : Setup) (bytes : List ℕ) : Type 0 where
+  pub whole : TellsSize size q bytes
+  pub front : reads_descriptor q ≡ true → IsFront bytes (described q)
+
 -- the first bytes of an answer to this request
-pub record Fronts (size : ℕ) (q : Setup) (front : List ℕ) : Type 0 where
-  pub whole : TellsSize size q front
+pub record Fronts (size : ℕ) (described : Setup → List ℕ) (q : Setup) (front : List ℕ) : Type 0 where
+  pub tells : Tells size described q front
   pub few : length front ≤ q.length
   pub long : TellsLong size q front
 
 -- what is known of a transfer that is open: of its bytes, unless some are cut off, and of its request
-pub record Told (size : ℕ) (transfer : ControlTransfer) : Type 0 where
-  pub tells : (transfer.is_cut ≡ true) ⊎ TellsSize size transfer.setup transfer.data
+pub record Told (size : ℕ) (described : Setup → List ℕ) (transfer : ControlTransfer) : Type 0 where
+  pub tells : (transfer.is_cut ≡ true) ⊎ Tells size described transfer.setup transfer.data
   pub few : transfer.length ≤ transfer.setup.length
   pub asked : reads_status transfer.setup ≡ false
 
 -- and of one that is over
-pub record IsSound (size : ℕ) (transfer : ControlTransfer) : Type 0 where
+pub record IsSound (size : ℕ) (described : Setup → List ℕ) (transfer : ControlTransfer) : Type 0 where
+  pub front : gives transfer ≡ true → IsFront transfer.data (described transfer.setup)
   pub says : Says size transfer
   pub few : is_answered transfer.ending ≡ true → transfer.length ≤ transfer.setup.length
   pub asked : is_stall transfer.ending ≡ true → reads_status transfer.setup ≡ false
 
-abbrev pub IfOver : ℕ → Option ControlTransfer → Type 0
-IfOver size None = Unit {0}
-IfOver size (Some transfer) = IsSound size transfer
+abbrev pub IfOver : ℕ → (Setup → List ℕ) → Option ControlTransfer → Type 0
+IfOver size described None = Unit {0}
+IfOver size described (Some transfer) = IsSound size described transfer
 
 record SaysParts (reads done kept whole device : Bool) : Type 0 where
   is_read : reads ≡ true
@@ -66,32 +76,55 @@ parts_of t e = says_parts (reads_descriptor t.setup) (is_done t.ending) (not t.i
 false_true : {A : Type 0} → false ≡ true → A
 false_true e = absurd (let w : ⊥ = cc in w)
 
+record GivesParts (reads done kept some type : Bool) : Type 0 where
+  is_read : reads ≡ true
+  is_ended : done ≡ true
+  is_kept : kept ≡ true
+
+gives_parts : (reads done kept some type : Bool) → (reads && done && kept && some && type) ≡ true → GivesParts reads done kept some type
+gives_parts true true true true true e = record { is_read = refl; is_ended = refl; is_kept = refl }
+gives_parts reads done kept some type e = absurd (let w : ⊥ = cc in w)
+
+parts_given : (t : ControlTransfer) → gives t ≡ true
+    → GivesParts (reads_descriptor t.setup) (is_done t.ending) (not t.is_cut) (nat_lt 1 (length t.data)) (slice_index t.data 1 == t.setup.value / 256)
+parts_given t e = gives_parts (reads_descriptor t.setup) (is_done t.ending) (not t.is_cut) (nat_lt 1 (length t.data)) (slice_index t.data 1 == t.setup.value / 256) e
+
 -- one whose end wasn't seen
-pub unseen_over : (size : ℕ) (t : ControlTransfer) → t.ending ≡ endings.Unseen → IsSound size t
-unseen_over size t unseen = record {
+pub unseen_over : (size : ℕ) (described : Setup → List ℕ) (t : ControlTransfer) → t.ending ≡ endings.Unseen → IsSound size described t
+unseen_over size described t unseen = record {
+  front = λ e. false_true (sym (ap is_done unseen) ∙ (parts_given t e).is_ended);
   says = λ e. false_true (sym (ap is_done unseen) ∙ (parts_of t e).is_ended);
   few = λ e. false_true (sym (ap is_answered unseen) ∙ e);
   asked = λ e. false_true (sym (ap is_stall unseen) ∙ e);
 }
 
 -- and one that was open
-pub told_over : (size : ℕ) (transaction : Transaction) (ending : Ending) (t : ControlTransfer) → Told size t → IsSound size (ended_so transaction ending t)
-told_over size transaction ending t told = record { says = says told.tells; few = λ e. told.few; asked = λ e. told.asked }
+pub told_over : (size : ℕ) (described : Setup → List ℕ) (transaction : Transaction) (ending : Ending) (t : ControlTransfer) → Told size described t
+    → IsSound size described (ended_so transaction ending t)
+told_over size described transaction ending t told =
+    record { front = front told.tells; says = says told.tells; few = λ e. told.few; asked = λ e. told.asked }
   where
-    says : (t.is_cut ≡ true) ⊎ TellsSize size t.setup t.data → Says size (ended_so transaction ending t)
+    says : (t.is_cut ≡ true) ⊎ Tells size described t.setup t.data → Says size (ended_so transaction ending t)
     says (inl cut) e = false_true (ap not (sym cut) ∙ (parts_of (ended_so transaction ending t) e).is_kept)
-    says (inr tells) e = let parts = parts_of (ended_so transaction ending t) e in tells parts.is_read parts.of_device parts.has_all
+    says (inr tells) e = let parts = parts_of (ended_so transaction ending t) e in tells.whole parts.is_read parts.of_device parts.has_all
 
-pub all_says : (size : ℕ) (ts : List ControlTransfer) → AllByRecursion (IsSound size) ts → AllByRecursion (Says size) ts
-all_says size [] each = tt
-all_says size (t ∷ ts) each = (each.0.says, all_says size ts each.1)
+    front : (t.is_cut ≡ true) ⊎ Tells size described t.setup t.data → gives (ended_so transaction ending t) ≡ true → IsFront t.data (described t.setup)
+    front (inl cut) e = false_true (ap not (sym cut) ∙ (parts_given (ended_so transaction ending t) e).is_kept)
+    front (inr tells) e = tells.front (parts_given (ended_so transaction ending t) e).is_read
+
+pub all_says : (size : ℕ) (described : Setup → List ℕ) (ts : List ControlTransfer) → AllByRecursion (IsSound size described) ts → AllByRecursion (Says size) ts
+all_says size described [] each = tt
+all_says size described (t ∷ ts) each = (each.0.says, all_says size described ts each.1)
 
 none_whole : (kind : ℕ) → is_whole kind [] ≡ false
 none_whole kind = refl
 
 -- Without bytes nothing is told.
-pub nothing_tells : (size : ℕ) (q : Setup) (bytes : List ℕ) → bytes ≡ [] → TellsSize size q bytes
-nothing_tells size q bytes none read device whole = false_true (sym (ap (is_whole (q.value / 256)) none) ∙ whole)
+pub nothing_tells : (size : ℕ) (described : Setup → List ℕ) (q : Setup) → Tells size described q []
+nothing_tells size described q = record {
+  whole = λ read device whole. false_true (sym (none_whole (q.value / 256)) ∙ whole);
+  front = λ read. (described q, refl);
+}
 
 -- ---- the sizes that are known
 

@@ -39,7 +39,7 @@ use Rattle.usb_recorded_runs.proofs.PlaceLemmas.{FirstTells}
 use Rattle.usb_recorded_runs.proofs.DeviceLemmas.{Follows, IsElsewhere, IsEmpty, IsNext, IsSent, acked_flips, acked_so, in_toggle, none_some, served_sends}
 use Rattle.usb_recorded_runs.proofs.FrontLemmas.{front_more}
 use Rattle.usb_recorded_runs.proofs.HeardLemmas.{EndsWhole, Goes, IsNoData, NotEarly, Right, bytes_cases, bytes_count, bytes_cut, bytes_keep, bytes_total, heard_in, packet_in, quiet_in, right_at, setup_right, status_in, status_out, with_again, with_next}
-use Rattle.usb_recorded_runs.proofs.SizeLemmas.{Fronts, IfOver, TellsSize, Told, nothing_tells}
+use Rattle.usb_recorded_runs.proofs.SizeLemmas.{Fronts, IfOver, Tells, Told, nothing_tells}
 
 -- which way data go by the request that was recorded
 recorded_length : (q : Setup) → (setup_at (setup_bytes q) 0).length ≡ q.length
@@ -94,9 +94,9 @@ flips_again Data1 Data0 is = refl
 flips_again Data0 Data0 is = absurd (let w : ⊥ = cc in w)
 flips_again Data1 Data1 is = absurd (let w : ⊥ = cc in w)
 
-module _ (table : State → Setup → Outcome) (cut : ℕ)
+module _ (table : State → Setup → Outcome) (cut : ℕ) (described : Setup → List ℕ)
     (fronts : (s : State) (q : Setup) (bytes : List ℕ) → table s q ≡ Bytes bytes → (m : ℕ) →
-    Fronts cut q (joined (take m (packets bytes cut q.length)))) where
+    Fronts cut described q (joined (take m (packets bytes cut q.length)))) where
   -- ---- what a recorder has of the bytes
 
   -- so many packets of the answer to this request
@@ -117,9 +117,9 @@ module _ (table : State → Setup → Outcome) (cut : ℕ)
 
   abbrev pub Content : DeviceStage → Going → Type 0
   Content (Sending q all acked_ones) going = Reads q all acked_ones going
-  Content stage going = Told cut going.transfer
+  Content stage going = Told cut described going.transfer
 
-  come_told : (q : Setup) (all : List ℕ) (count : ℕ) (going : Going) → HasCome q all count going → Told cut going.transfer
+  come_told : (q : Setup) (all : List ℕ) (count : ℕ) (going : Going) → HasCome q all count going → Told cut described going.transfer
   come_told q all count going came = record {
     tells = tells came.data_is;
     few = subst (λ s. going.transfer.length ≤ s.length) (sym came.setup_is) (omega (arith, came.few, (fronts came.state q all came.answers count).few));
@@ -127,13 +127,13 @@ module _ (table : State → Setup → Outcome) (cut : ℕ)
   }
     where
       tells : (going.transfer.is_cut ≡ true) ⊎ (going.transfer.data ≡ joined (take count (packets all cut q.length)))
-          → (going.transfer.is_cut ≡ true) ⊎ TellsSize cut going.transfer.setup going.transfer.data
+          → (going.transfer.is_cut ≡ true) ⊎ Tells cut described going.transfer.setup going.transfer.data
       tells (inl is) = inl is
       tells (inr data_is) =
-          inr (subst (λ s. TellsSize cut s going.transfer.data) (sym came.setup_is)
-          (subst (TellsSize cut q) (sym data_is) (fronts came.state q all came.answers count).whole))
+          inr (subst (λ s. Tells cut described s going.transfer.data) (sym came.setup_is)
+          (subst (Tells cut described q) (sym data_is) (fronts came.state q all came.answers count).tells))
 
-  content_told : (stage : DeviceStage) (going : Going) → Content stage going → Told cut going.transfer
+  content_told : (stage : DeviceStage) (going : Going) → Content stage going → Told cut described going.transfer
   content_told (Sending q all acked_ones) going reads = come_told q all reads.count going reads.came
   content_told device.Idle going told = told
   content_told (device.Halted refused) going told = told
@@ -143,7 +143,7 @@ module _ (table : State → Setup → Outcome) (cut : ℕ)
   content_told (device.Receiving q got) going told = told
   content_told (device.Written q got) going told = told
 
-  told_content : (stage : DeviceStage) (going : Going) → IsElsewhere stage → Told cut going.transfer → Content stage going
+  told_content : (stage : DeviceStage) (going : Going) → IsElsewhere stage → Told cut described going.transfer → Content stage going
   told_content (Sending q all acked_ones) going elsewhere told = absurd elsewhere
   told_content device.Idle going elsewhere told = told
   told_content (device.Halted refused) going elsewhere told = told
@@ -235,7 +235,7 @@ module _ (table : State → Setup → Outcome) (cut : ℕ)
             next_is = came.next_is;
           })
 
-  told_bytes : (bytes : List ℕ) (transfer : ControlTransfer) → bytes ≡ [] → Told cut transfer → Told cut (with_bytes bytes transfer)
+  told_bytes : (bytes : List ℕ) (transfer : ControlTransfer) → bytes ≡ [] → Told cut described transfer → Told cut described (with_bytes bytes transfer)
   told_bytes bytes transfer none told = record {
     tells = of told.tells (bytes_cases bytes transfer);
     few = subst (λ s. (with_bytes bytes transfer).length ≤ s.length) (sym (bytes_keep bytes transfer))
@@ -243,16 +243,16 @@ module _ (table : State → Setup → Outcome) (cut : ℕ)
     asked = ap reads_status (bytes_keep bytes transfer) ∙ told.asked;
   }
     where
-      of : (transfer.is_cut ≡ true) ⊎ TellsSize cut transfer.setup transfer.data
+      of : (transfer.is_cut ≡ true) ⊎ Tells cut described transfer.setup transfer.data
           → ((with_bytes bytes transfer).is_cut ≡ true) ⊎ ((with_bytes bytes transfer).data ≡ transfer.data ++ bytes)
-          → ((with_bytes bytes transfer).is_cut ≡ true) ⊎ TellsSize cut (with_bytes bytes transfer).setup (with_bytes bytes transfer).data
+          → ((with_bytes bytes transfer).is_cut ≡ true) ⊎ Tells cut described (with_bytes bytes transfer).setup (with_bytes bytes transfer).data
       of (inl is) either = inl (bytes_cut bytes transfer is)
       of (inr tells) (inl is) = inl is
       of (inr tells) (inr grows) =
           let same : (with_bytes bytes transfer).data ≡ transfer.data = grows ∙ ap (λ b. transfer.data ++ b) none ∙ append-nil transfer.data in
-          inr (subst (λ s. TellsSize cut s (with_bytes bytes transfer).data) (sym (bytes_keep bytes transfer)) (subst (TellsSize cut transfer.setup) (sym same) tells))
+          inr (subst (λ s. Tells cut described s (with_bytes bytes transfer).data) (sym (bytes_keep bytes transfer)) (subst (Tells cut described transfer.setup) (sym same) tells))
 
-  told_after : (lost : Bool) (stage : DeviceStage) (going : Going) → IsElsewhere stage → IsElsewhere (acked_stage table cut stage) → Told cut going.transfer → After lost stage going
+  told_after : (lost : Bool) (stage : DeviceStage) (going : Going) → IsElsewhere stage → IsElsewhere (acked_stage table cut stage) → Told cut described going.transfer → After lost stage going
   told_after true stage going elsewhere acked_is told = told_content stage going elsewhere told
   told_after false stage going elsewhere acked_is told = told_content (acked_stage table cut stage) going acked_is told
 
@@ -296,13 +296,13 @@ module _ (table : State → Setup → Outcome) (cut : ℕ)
 
   pub record InStatusOut (address : ℕ) (going : Going) : Type 0 where
     pub way : Goes directions.In going
-    pub told : Told cut going.transfer
+    pub told : Told cut described going.transfer
     pub whole : EndsWhole cut address going
 
   pub record InStatusIn (stage : DeviceStage) (going : Going) : Type 0 where
     pub way : Goes directions.Out going
     pub first : (toggle : Toggle) → in_toggle stage ≡ Some toggle → toggle ≡ Data1
-    pub told : Told cut going.transfer
+    pub told : Told cut described going.transfer
 
   -- by the stage of a transfer, with its address, the toggle that it awaits, how many bytes have come, and its request
   abbrev pub FitsBy : TransferStage → DeviceStage → ℕ → Toggle → ℕ → Setup → Going → Type 0
@@ -559,7 +559,7 @@ module _ (table : State → Setup → Outcome) (cut : ℕ)
 
     data_step : (t : TransferView) (fate : Fate) (old : DeviceStage) (reply : Reply) (new : DeviceView) → is_lost_down fate ≡ false → Follows old new.stage
         → (new.stage ≡ old) ⊎ IsElsewhere new.stage → IsSent table cut old new reply → OpenAt address (InData old t.awaited t.kept t.request) pipes
-        → Right cut (heard_in number time address InToken (is_lost_ack fate) (brought fate reply))
+        → Right cut described (heard_in number time address InToken (is_lost_ack fate) (brought fate reply))
         (AfterData (brought fate reply) (after_answer fate (record { reply = reply; device = new })).stage t) pipes
     data_step t fate old reply new kept follows stays_so sent opens = of fate reply kept sent
       where
@@ -577,21 +577,21 @@ module _ (table : State → Setup → Outcome) (cut : ℕ)
           low = h.low;
         }
 
-        quiet : (lost : Bool) (came : Reply) → IsNoData came → Right cut (heard_in number time address InToken lost came) (InData new.stage t.awaited t.kept t.request) pipes
-        quiet lost came none = quiet_in cut number time address small pipes sound Before (InData new.stage t.awaited t.kept t.request) lost came none opens
+        quiet : (lost : Bool) (came : Reply) → IsNoData came → Right cut described (heard_in number time address InToken lost came) (InData new.stage t.awaited t.kept t.request) pipes
+        quiet lost came none = quiet_in cut described number time address small pipes sound Before (InData new.stage t.awaited t.kept t.request) lost came none opens
             (λ going h. content_told old going h.content) stays
 
         unheard : (toggle : Toggle) (bytes : List ℕ) → IsSent table cut old new (DataReply toggle bytes)
-            → Right cut (heard_in number time address InToken true (DataReply toggle bytes)) (AfterPacket toggle bytes new.stage t.awaited t.kept t.request) pipes
-        unheard toggle bytes sent = packet_in cut number time address small pipes sound toggle bytes Before (AfterPacket toggle bytes new.stage t.awaited t.kept t.request) opens
+            → Right cut described (heard_in number time address InToken true (DataReply toggle bytes)) (AfterPacket toggle bytes new.stage t.awaited t.kept t.request) pipes
+        unheard toggle bytes sent = packet_in cut described number time address small pipes sound toggle bytes Before (AfterPacket toggle bytes new.stage t.awaited t.kept t.request) opens
             (λ going h. h.way) (λ going h. h.in_time toggle sent.was) true (λ going h. (
               λ e. next_packet_so t toggle bytes true old new.stage going h (λ other is. inr refl) (heard_next old new.stage toggle bytes true going h.content sent.which stays_so e) e,
               λ e. again_packet_so t toggle bytes true old new.stage going h (λ other is. inr refl) (heard_again old new.stage toggle bytes true going h.content sent.which stays_so e) e,
             ))
 
         heard : (toggle : Toggle) (bytes : List ℕ) → IsSent table cut old new (DataReply toggle bytes)
-            → Right cut (heard_in number time address InToken false (DataReply toggle bytes)) (AfterPacket toggle bytes (acked table cut new).stage t.awaited t.kept t.request) pipes
-        heard toggle bytes sent = packet_in cut number time address small pipes sound toggle bytes Before (AfterPacket toggle bytes (acked table cut new).stage t.awaited t.kept t.request) opens
+            → Right cut described (heard_in number time address InToken false (DataReply toggle bytes)) (AfterPacket toggle bytes (acked table cut new).stage t.awaited t.kept t.request) pipes
+        heard toggle bytes sent = packet_in cut described number time address small pipes sound toggle bytes Before (AfterPacket toggle bytes (acked table cut new).stage t.awaited t.kept t.request) opens
             (λ going h. h.way) (λ going h. h.in_time toggle sent.was) false (λ going h. (
               λ e. next_packet_so t toggle bytes false old (acked table cut new).stage going h
                   (λ other is. inl (acked_flips table cut new toggle other sent.waits sent.is is ∙ flips_next toggle going.toggle.next e))
@@ -604,7 +604,7 @@ module _ (table : State → Setup → Outcome) (cut : ℕ)
             ))
 
         of : (fate : Fate) (reply : Reply) → is_lost_down fate ≡ false → IsSent table cut old new reply
-            → Right cut (heard_in number time address InToken (is_lost_ack fate) (brought fate reply))
+            → Right cut described (heard_in number time address InToken (is_lost_ack fate) (brought fate reply))
             (AfterData (brought fate reply) (after_answer fate (record { reply = reply; device = new })).stage t) pipes
         of fates.LostDown reply kept sent = absurd (let w : ⊥ = cc in w)
         of fates.LostUp reply kept sent = quiet false NoReply tt
@@ -628,24 +628,24 @@ module _ (table : State → Setup → Outcome) (cut : ℕ)
     status_step : (fate : Fate) (old : DeviceStage) (reply : Reply) (new : DeviceView) → is_lost_down fate ≡ false → Follows old new.stage → (new.stage ≡ old) ⊎ IsElsewhere new.stage
         → IsSent table cut old new reply
         → OpenAt address (InStatusIn old) pipes
-        → Right cut (heard_in number time address InToken (is_lost_ack fate) (brought fate reply)) (InStatusIn (after_answer fate (record { reply = reply; device = new })).stage) pipes
+        → Right cut described (heard_in number time address InToken (is_lost_ack fate) (brought fate reply)) (InStatusIn (after_answer fate (record { reply = reply; device = new })).stage) pipes
     status_step fate old reply new kept follows stays_so sent opens = of fate reply kept sent
       where
         P : Going → Type 0
         P = InStatusIn old
 
-        quiet : (lost : Bool) (came : Reply) → IsNoData came → Right cut (heard_in number time address InToken lost came) (InStatusIn new.stage) pipes
-        quiet lost came none = quiet_in cut number time address small pipes sound P (InStatusIn new.stage) lost came none opens (λ going h. h.told) (λ going h. record { way = h.way; first = λ toggle is. h.first toggle (follows toggle is); told = h.told })
+        quiet : (lost : Bool) (came : Reply) → IsNoData came → Right cut described (heard_in number time address InToken lost came) (InStatusIn new.stage) pipes
+        quiet lost came none = quiet_in cut described number time address small pipes sound P (InStatusIn new.stage) lost came none opens (λ going h. h.told) (λ going h. record { way = h.way; first = λ toggle is. h.first toggle (follows toggle is); told = h.told })
 
         zero_one : Data0 ≡ Data1 → ⊥
         zero_one e = let w : ⊥ = cc in w
 
-        packet : (lost : Bool) (toggle : Toggle) (bytes : List ℕ) (Q : Going → Type 0) → IsSent table cut old new (DataReply toggle bytes) → Right cut (heard_in number time address InToken lost (DataReply toggle bytes)) Q pipes
-        packet lost Data1 bytes Q sent = status_in cut number time address small pipes sound P Q lost bytes opens (λ going h. h.way) (λ going h. h.told)
-        packet lost Data0 bytes Q sent = right_at cut (heard_in number time address InToken lost (DataReply Data0 bytes)) P Q pipes sound refl opens (λ going unended h. absurd (zero_one (h.first Data0 sent.was)))
+        packet : (lost : Bool) (toggle : Toggle) (bytes : List ℕ) (Q : Going → Type 0) → IsSent table cut old new (DataReply toggle bytes) → Right cut described (heard_in number time address InToken lost (DataReply toggle bytes)) Q pipes
+        packet lost Data1 bytes Q sent = status_in cut described number time address small pipes sound P Q lost bytes opens (λ going h. h.way) (λ going h. h.told)
+        packet lost Data0 bytes Q sent = right_at cut described (heard_in number time address InToken lost (DataReply Data0 bytes)) P Q pipes sound refl opens (λ going unended h. absurd (zero_one (h.first Data0 sent.was)))
 
         of : (fate : Fate) (reply : Reply) → is_lost_down fate ≡ false → IsSent table cut old new reply
-            → Right cut (heard_in number time address InToken (is_lost_ack fate) (brought fate reply)) (InStatusIn (after_answer fate (record { reply = reply; device = new })).stage) pipes
+            → Right cut described (heard_in number time address InToken (is_lost_ack fate) (brought fate reply)) (InStatusIn (after_answer fate (record { reply = reply; device = new })).stage) pipes
         of fates.LostDown reply kept sent = absurd (let w : ⊥ = cc in w)
         of fates.LostUp reply kept sent = quiet false NoReply tt
         of fates.LostAck (DataReply toggle bytes) kept sent = packet true toggle bytes (InStatusIn new.stage) sent
@@ -682,8 +682,8 @@ module _ (table : State → Setup → Outcome) (cut : ℕ)
       of fates.Busy false kept acks = absurd (let w : ⊥ = cc in w)
       of fates.LostAck false kept acks = absurd (let w : ⊥ = cc in w)
 
-  begun_told : (q : Setup) (t : Transaction) → reads_status q ≡ false → Told cut (begun_by t q)
-  begun_told q t other = record { tells = inr (nothing_tells cut q [] refl); few = omega arith; asked = other }
+  begun_told : (q : Setup) (t : Transaction) → reads_status q ≡ false → Told cut described (begun_by t q)
+  begun_told q t other = record { tells = inr (nothing_tells cut described q); few = omega arith; asked = other }
 
   begun_content : (s : State) (q : Setup) (o : Outcome) (t : Transaction) → reads_status q ≡ false → table s q ≡ o
       → Content (device.begun q o) (record { transfer = begun_by t q; toggle = first_toggle })
@@ -841,7 +841,7 @@ module _ (table : State → Setup → Outcome) (cut : ℕ)
 
     pub record Steps (stage : TransferStage) (token : Token) : Type 0 where
       pub right : has_wrong_toggle (heard_of token) pipes ≡ false
-      pub over : IfOver cut (transfer_over (heard_of token) pipes)
+      pub over : IfOver cut described (transfer_over (heard_of token) pipes)
       pub not_early : NotEarly cut t.address (λ known. is_early known (heard_of token) pipes)
       pub sound_then : Sound (pipes_after (heard_of token) pipes)
       pub agrees : Agree (later token) (pipes_after (heard_of token) pipes) (taken_at t stage (brought fate (answer_to token).reply)).transfer
@@ -849,7 +849,7 @@ module _ (table : State → Setup → Outcome) (cut : ℕ)
 
     -- at a stage where nothing is known of an ACK
     step_at : (stage : TransferStage) (token : Token) → t.stage ≡ stage → (stage ≡ stages.Setup → ⊥) → SizeIsKnown cut t.address t.packet → MayBe stage t
-        → AsksSame stage t.request (later token) → Right cut (heard_of token) (AfterReply stage (brought fate (answer_to token).reply) (later token) t) pipes
+        → AsksSame stage t.request (later token) → Right cut described (heard_of token) (AfterReply stage (brought fate (answer_to token).reply) (later token) t) pipes
         → (stage ≡ stages.DataIn → t.request ≡ get_descriptor 1 0 0 8 → MayCome cut (brought fate (answer_to token).reply)) → Steps stage token
     step_at stage token at other size_is may same right comes =
         record {
@@ -865,7 +865,7 @@ module _ (table : State → Setup → Outcome) (cut : ℕ)
     setup_step at size_is may =
         let token = SetupToken (setup_bytes t.request) in
         let came = brought fate (answer_to token).reply in
-        let right : Right cut (heard_of token) (λ going. Unit {0}) pipes = setup_right cut number time t.address small pipes sound t.request (is_lost_ack fate) came (λ going. Unit {0}) tt in
+        let right : Right cut described (heard_of token) (λ going. Unit {0}) pipes = setup_right cut described number time t.address small pipes sound t.request (is_lost_ack fate) came (λ going. Unit {0}) tt in
         record {
           right = right.0;
           over = right.1;
@@ -878,7 +878,7 @@ module _ (table : State → Setup → Outcome) (cut : ℕ)
                 may_be = after.may_be;
                 size_is = size_is;
                 same = after.same;
-                fits = (setup_right cut number time t.address small pipes sound t.request (is_lost_ack fate) came (Fits (stage_after_setup t.request) (later token) t) after.fits).3.1;
+                fits = (setup_right cut described number time t.address small pipes sound t.request (is_lost_ack fate) came (Fits (stage_after_setup t.request) (later token) t) after.fits).3.1;
               });
           may_come = λ e. absurd (let w : ⊥ = cc in w);
         }
@@ -911,7 +911,7 @@ module _ (table : State → Setup → Outcome) (cut : ℕ)
       OutToken Data1 [],
       same_sent _ sent due,
       step_at stages.StatusOut (OutToken Data1 []) at (λ e. let w : ⊥ = cc in w) agrees.size_is tt tt
-          (status_out cut number time t.address small pipes sound (InStatusOut t.address) (InStatusOut t.address)
+          (status_out cut described number time t.address small pipes sound (InStatusOut t.address) (InStatusOut t.address)
           agrees.fits (λ going h. h.way) (λ going h. h.told) (λ going h. h.whole) (λ going h. record { way = h.way; told = h.told; whole = h.whole }) (is_lost_ack fate) (brought fate (answer_to (OutToken Data1 [])).reply))
           (λ e. absurd (let w : ⊥ = cc in w)),
     )

@@ -11,7 +11,7 @@ use Rattle.usb_bus.specs.declared.fate.Fate.{Fate}
 use Rattle.usb_bus.specs.DamagedRuns.{DamagedRunsAt}
 use Rattle.usb_bus.specs.Enumerate.{Pair, Runs, chosen_pair}
 use Rattle.usb_bus.specs.Exchanges.{is_lost_down}
-use Rattle.usb_capture.specs.declared.finding.Finding.TheVariants.{MoreThanAsked, RefusesStatus}
+use Rattle.usb_capture.specs.declared.finding.Finding.TheVariants.{MoreThanAsked, OtherBytes, RefusesStatus}
 use Rattle.usb_capture.specs.declared.frame.Frame.{Frame}
 use Rattle.usb_capture.specs.declared.packet_finding.PacketFinding.TheVariants.{Long, NoHandshake, NoRequest, NoShortPacket, SetupRefused, Toggle}
 use Rattle.usb_capture.specs.declared.reader.CaptureReader.{CaptureReader}
@@ -109,6 +109,13 @@ NoTransferHasMore =
     (times : ℕ → Option ℕ) → IsRun f fates (chosen_pair limits speed choice) earlier n last →
     (let transfers = transfers_in (heard times 1 (exchanges f fates earlier n)) in
     IsTransferFreeAfter MoreThanAsked [] transfers × IsTransferFreeAfter RefusesStatus [] transfers)
+
+-- What a device says of a descriptor is what it said of it before (9.4.3), as far as both have bytes.
+abbrev pub NoDescriptorChanges : Type 0
+NoDescriptorChanges =
+    (f : DescriptorFile) (fates : List Fate) (limits : LimitView) (speed : Speed) (choice : Choice) (earlier : List Pair) (n : ℕ) (last : Pair)
+    (times : ℕ → Option ℕ) → IsRun f fates (chosen_pair limits speed choice) earlier n last →
+    IsTransferFreeAfter OtherBytes [] (transfers_in (heard times 1 (exchanges f fates earlier n)))
 
 -- A handshake lacks in a transaction whose token arrives only where it was lost, or where the device has another address (8.5).
 abbrev pub HandshakesAreLost : Type 0

@@ -1,5 +1,5 @@
 //! The functions of these laws do nothing: their contracts are the laws.
-ghost use Rattle.usb_recorded_runs.specs.Laws.{CapturedRunsAreRead, HandshakesAreLost, NoLongPacketIsFound, NoPacketIsDamaged, NoPacketIsLong, NoShortPacketLacks, NoToggleIsWrong, NoTransferHasMore, RecordedRunsAreRead, RunsOfBytesAreRuns, SetupsAreTaken};
+ghost use Rattle.usb_recorded_runs.specs.Laws.{CapturedRunsAreRead, HandshakesAreLost, NoDescriptorChanges, NoLongPacketIsFound, NoPacketIsDamaged, NoPacketIsLong, NoShortPacketLacks, NoToggleIsWrong, NoTransferHasMore, RecordedRunsAreRead, RunsOfBytesAreRuns, SetupsAreTaken};
 
 use usb_bus::laws::a_device_keeps_its_table;
 
@@ -58,6 +58,13 @@ pub fn no_short_packet_lacks()
 /// Of the findings in control transfers neither `MoreThanAsked` nor `RefusesStatus` is ever there.
 pub fn no_transfer_has_more()
     ensures { NoTransferHasMore }
+{
+    a_device_keeps_its_table();
+}
+
+/// Nor is `OtherBytes`: a device never says something else of a descriptor.
+pub fn no_descriptor_changes()
+    ensures { NoDescriptorChanges }
 {
     a_device_keeps_its_table();
 }
