@@ -1,6 +1,6 @@
 -- What recorded transfers say of a device's packet size.
 use Rattle.std.proofs.Common.{◌≡◌, ◌⊎◌, inl, inr, ◌≢◌, ◌<◌, ◌≤◌, ◌%◌, ◌/◌, ◌==◌, ◌&&◌, ℕ, Bool, true, false, not, if◌then◌else◌, List, [], ◌∷◌, ◌++◌, length, refl, sym, ◌∙◌, ap, subst, arith}
-use Rattle.std.specs.Prelude.{Option, Some, None, nat_lt, slice_index, slice_index_or, slice_set}
+use Rattle.std.specs.Prelude.{Option, Some, None, slice_index, slice_index_or, slice_set}
 use Rattle.std.specs.List.{AllByRecursion}
 use Rattle.std.proofs.lemmas.Bool.Decides.{nat_tests}
 use Rattle.std.proofs.lemmas.List.{get_or-replicate, get_or-set_other, get_or-set_same, length-set}
@@ -10,7 +10,7 @@ use Rattle.usb_capture.specs.declared.ending.Ending.{Ending}
 use Rattle.usb_capture.specs.declared.ending.Ending.TheVariants as endings
 use Rattle.usb_capture.specs.declared.transaction.Transaction.{Transaction}
 use Rattle.usb_capture.specs.BusTransfers.{ended_so}
-use Rattle.usb_capture.specs.Findings.{gives, is_answered, is_stall, reads_status}
+use Rattle.usb_capture.specs.Findings.{is_answered, is_stall, reads_status}
 use Rattle.usb_capture.specs.PacketSizes.{gives_address, no_sizes, says_size, size_at, sizes_after, sizes_in, sizes_with}
 use Rattle.usb_capture.specs.Readings.{is_done, is_whole, reads_descriptor}
 
@@ -49,7 +49,7 @@ pub record Told (size : ℕ) (described : Setup → List ℕ) (transfer : Contro
 
 -- and of one that is over
 pub record IsSound (size : ℕ) (described : Setup → List ℕ) (transfer : ControlTransfer) : Type 0 where
-  pub front : gives transfer ≡ true → IsFront transfer.data (described transfer.setup)
+  pub front : reads_descriptor transfer.setup ≡ true → is_done transfer.ending ≡ true → not transfer.is_cut ≡ true → IsFront transfer.data (described transfer.setup)
   pub says : Says size transfer
   pub few : is_answered transfer.ending ≡ true → transfer.length ≤ transfer.setup.length
   pub asked : is_stall transfer.ending ≡ true → reads_status transfer.setup ≡ false
@@ -76,23 +76,10 @@ parts_of t e = says_parts (reads_descriptor t.setup) (is_done t.ending) (not t.i
 false_true : {A : Type 0} → false ≡ true → A
 false_true e = absurd (let w : ⊥ = cc in w)
 
-record GivesParts (reads done kept some type : Bool) : Type 0 where
-  is_read : reads ≡ true
-  is_ended : done ≡ true
-  is_kept : kept ≡ true
-
-gives_parts : (reads done kept some type : Bool) → (reads && done && kept && some && type) ≡ true → GivesParts reads done kept some type
-gives_parts true true true true true e = record { is_read = refl; is_ended = refl; is_kept = refl }
-gives_parts reads done kept some type e = absurd (let w : ⊥ = cc in w)
-
-parts_given : (t : ControlTransfer) → gives t ≡ true
-    → GivesParts (reads_descriptor t.setup) (is_done t.ending) (not t.is_cut) (nat_lt 1 (length t.data)) (slice_index t.data 1 == t.setup.value / 256)
-parts_given t e = gives_parts (reads_descriptor t.setup) (is_done t.ending) (not t.is_cut) (nat_lt 1 (length t.data)) (slice_index t.data 1 == t.setup.value / 256) e
-
 -- one whose end wasn't seen
 pub unseen_over : (size : ℕ) (described : Setup → List ℕ) (t : ControlTransfer) → t.ending ≡ endings.Unseen → IsSound size described t
 unseen_over size described t unseen = record {
-  front = λ e. false_true (sym (ap is_done unseen) ∙ (parts_given t e).is_ended);
+  front = λ read done kept. false_true (sym (ap is_done unseen) ∙ done);
   says = λ e. false_true (sym (ap is_done unseen) ∙ (parts_of t e).is_ended);
   few = λ e. false_true (sym (ap is_answered unseen) ∙ e);
   asked = λ e. false_true (sym (ap is_stall unseen) ∙ e);
@@ -108,9 +95,10 @@ told_over size described transaction ending t told =
     says (inl cut) e = false_true (ap not (sym cut) ∙ (parts_of (ended_so transaction ending t) e).is_kept)
     says (inr tells) e = let parts = parts_of (ended_so transaction ending t) e in tells.whole parts.is_read parts.of_device parts.has_all
 
-    front : (t.is_cut ≡ true) ⊎ Tells size described t.setup t.data → gives (ended_so transaction ending t) ≡ true → IsFront t.data (described t.setup)
-    front (inl cut) e = false_true (ap not (sym cut) ∙ (parts_given (ended_so transaction ending t) e).is_kept)
-    front (inr tells) e = tells.front (parts_given (ended_so transaction ending t) e).is_read
+    front : (t.is_cut ≡ true) ⊎ Tells size described t.setup t.data → reads_descriptor t.setup ≡ true → is_done ending ≡ true → not t.is_cut ≡ true
+        → IsFront t.data (described t.setup)
+    front (inl cut) read done kept = false_true (ap not (sym cut) ∙ kept)
+    front (inr tells) read done kept = tells.front read
 
 pub all_says : (size : ℕ) (described : Setup → List ℕ) (ts : List ControlTransfer) → AllByRecursion (IsSound size described) ts → AllByRecursion (Says size) ts
 all_says size described [] each = tt

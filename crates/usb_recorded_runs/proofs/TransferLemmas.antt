@@ -1,17 +1,30 @@
 -- What is never found in the control transfers of a run.
-use Rattle.std.proofs.Common.{◌≡◌, ◌≤◌, ◌==◌, ◌&&◌, ◌||◌, ◌/◌, ◌%◌, nat_lt, ℕ, Bool, true, false, not, if◌then◌else◌, List, [], ◌∷◌, ◌++◌, length, drop, refl, sym, ◌∙◌, ap, subst, arith}
-use Rattle.std.specs.Prelude.{unwrap_or}
-use Rattle.std.specs.List.{AllByRecursion}
+use Rattle.std.proofs.Common.{◌≡◌, ◌≤◌, ◌<◌, ◌==◌, ◌&&◌, ◌||◌, ◌/◌, ◌%◌, nat_lt, ℕ, zero, suc, Bool, true, false, not, if◌then◌else◌, List, [], ◌∷◌, ◌++◌, length, drop, refl, sym, ◌∙◌, ap, subst, arith}
+use Rattle.std.specs.Prelude.{Option, Some, None, slice_index, unwrap_or}
+use Rattle.std.specs.List.{AllByRecursion, list_any}
+use Rattle.std.specs.Option.{option_map}
 use Rattle.std.proofs.lemmas.Bool.Decides.{nat_tests}
-use Rattle.std.proofs.lemmas.List.{append-nil}
+use Rattle.std.proofs.lemmas.List.{append-nil, get_or_append_left}
+use Rattle.usb_fields.specs.declared.device.DeviceDescriptor.{DeviceDescriptor}
 use Rattle.usb_fields.specs.declared.setup.Setup.{Setup}
+use Rattle.usb_fields.specs.Device.{device_bytes, qualifier_bytes}
+use Rattle.usb_fields.specs.Units.{units_bytes}
+use Rattle.usb_set.specs.declared.tree.Configuration.{Configuration}
+use Rattle.usb_set.specs.declared.tree.SetKind.{SetKind}
+use Rattle.usb_set.specs.declared.tree.SetKind.TheVariants as kinds
+use Rattle.usb_set.specs.Descriptors.{type_number}
 use Rattle.usb_file_data.specs.declared.file.DescriptorFile.{DescriptorFile}
-use Rattle.usb_device.specs.Descriptors.{descriptor}
+use Rattle.usb_file_data.specs.declared.file.Other.{Other}
+use Rattle.usb_file_data.specs.declared.file.Strings.{Strings}
+use Rattle.usb_file_data.specs.File.{has_wrong_count, has_wrong_kind, has_wrong_layout, is_other_kind, named_indices, other_sets, units_at, whole_set}
+use Rattle.usb_device.specs.Accepted.{has_wrong_sets}
+use Rattle.usb_device.specs.Descriptors.{descriptor, device_of, other_set_at, qualifier_of, set_at, string_at}
 use Rattle.usb_capture.specs.declared.asked.Asked.{Asked}
 use Rattle.usb_capture.specs.declared.control_transfer.ControlTransfer.{ControlTransfer}
 use Rattle.usb_capture.specs.declared.finding.Finding.{Finding}
-use Rattle.usb_capture.specs.declared.finding.Finding.TheVariants.{MoreThanAsked, OtherBytes, RefusesStatus}
-use Rattle.usb_capture.specs.Findings.{asked_of, differ, gives, holds, is_answered, is_same, is_stall, may_change, reads_status, said}
+use Rattle.usb_capture.specs.declared.finding.Finding.TheVariants.{MoreThanAsked, OtherBytes, OtherType, RefusesStatus}
+use Rattle.usb_capture.specs.Findings.{asked_of, brings_descriptor, differ, gives, has_other_type, holds, is_answered, is_same, is_stall, is_standard_type, may_change, reads_status, said}
+use Rattle.usb_capture.specs.Readings.{is_done, reads_descriptor}
 use Rattle.usb_recorded_runs.specs.Findings.{IsTransferFreeAfter}
 use Rattle.usb_recorded_runs.proofs.AnswerLemmas.{described_by}
 use Rattle.usb_recorded_runs.proofs.SizeLemmas.{IsFront, IsSound}
@@ -67,6 +80,25 @@ fronts_agree (x ∷ xs) (y ∷ ys) (z ∷ zs) first second =
     ∙ ap (λ c. c || differ xs ys) (own_number x)
     ∙ fronts_agree xs ys zs (first.0, a.1) (second.0, b.1)
 
+record GivesParts (reads done kept some type : Bool) : Type 0 where
+  is_read : reads ≡ true
+  is_ended : done ≡ true
+  is_kept : kept ≡ true
+  has_some : some ≡ true
+  of_type : type ≡ true
+
+gives_parts : (reads done kept some type : Bool) → (reads && done && kept && some && type) ≡ true → GivesParts reads done kept some type
+gives_parts true true true true true e = record { is_read = refl; is_ended = refl; is_kept = refl; has_some = refl; of_type = refl }
+gives_parts reads done kept some type e = absurd (let w : ⊥ = cc in w)
+
+parts_given : (t : ControlTransfer) → gives t ≡ true
+    → GivesParts (reads_descriptor t.setup) (is_done t.ending) (not t.is_cut) (nat_lt 1 (length t.data)) (slice_index t.data 1 == t.setup.value / 256)
+parts_given t e = gives_parts (reads_descriptor t.setup) (is_done t.ending) (not t.is_cut) (nat_lt 1 (length t.data)) (slice_index t.data 1 == t.setup.value / 256) e
+
+parts_brought : (t : ControlTransfer) → brings_descriptor t ≡ true
+    → GivesParts (reads_descriptor t.setup) (is_done t.ending) (not t.is_cut) (is_standard_type (t.setup.value / 256)) (nat_lt 1 (length t.data))
+parts_brought t e = gives_parts (reads_descriptor t.setup) (is_done t.ending) (not t.is_cut) (is_standard_type (t.setup.value / 256)) (nat_lt 1 (length t.data)) e
+
 module _ (size : ℕ) (f : DescriptorFile) where
   -- the descriptor that is asked for
   abbrev is_of : Asked → List ℕ
@@ -104,7 +136,8 @@ module _ (size : ℕ) (f : DescriptorFile) where
       of false true e before =
           let parts = both_parts (gives t) (is_same (asked_of t) asked) e in
           front_over t.data (said asked earlier) (is_of asked)
-          (subst (IsFront t.data) (same_descriptor (asked_of t) asked parts.1) (each.0.front parts.0)) before
+          (subst (IsFront t.data) (same_descriptor (asked_of t) asked parts.1)
+          (let given = parts_given t parts.0 in each.0.front given.is_read given.is_ended given.is_kept)) before
 
   said_same : (t : ControlTransfer) (earlier : List ControlTransfer) → IsSound size (described_by f) t → AllByRecursion (IsSound size (described_by f)) earlier
       → holds OtherBytes (λ asked. said asked earlier) t ≡ false
@@ -112,7 +145,9 @@ module _ (size : ℕ) (f : DescriptorFile) where
     where
       of : (given : Bool) → gives t ≡ given → (given && differ t.data (said (asked_of t) earlier)) ≡ false
       of false e = refl
-      of true e = fronts_agree t.data (said (asked_of t) earlier) (is_of (asked_of t)) (is.front e) (said_front (asked_of t) earlier each)
+      of true e =
+          let given = parts_given t e in
+          fronts_agree t.data (said (asked_of t) earlier) (is_of (asked_of t)) (is.front given.is_read given.is_ended given.is_kept) (said_front (asked_of t) earlier each)
 
   same_after : (earlier ts : List ControlTransfer) → AllByRecursion (IsSound size (described_by f)) earlier → AllByRecursion (IsSound size (described_by f)) ts
       → IsTransferFreeAfter OtherBytes earlier ts
@@ -121,3 +156,108 @@ module _ (size : ℕ) (f : DescriptorFile) where
 
   pub none_changes : (ts : List ControlTransfer) → AllByRecursion (IsSound size (described_by f)) ts → IsTransferFreeAfter OtherBytes [] ts
   none_changes ts each = same_after [] ts tt each
+
+-- ---- the type of a descriptor
+
+-- A descriptor, if there is one, has this type in its second byte.
+abbrev TypeIs : ℕ → Option (List ℕ) → Type 0
+TypeIs kind None = Unit {0}
+TypeIs kind (Some b) = slice_index b 1 ≡ kind
+
+type_of_set : (c : Configuration) → slice_index (whole_set c) 1 ≡ type_number c.kind
+unfolding whole_set
+type_of_set c = refl
+
+own_kind : (kind : SetKind) (c : Configuration) → is_other_kind kind c ≡ false → type_number c.kind ≡ type_number kind
+own_kind kind c e = of (type_number c.kind) (type_number kind) e
+  where
+    of : (m n : ℕ) → not (m == n) ≡ false → m ≡ n
+    of m n e = grind (arith, nat_tests)
+
+or_parts : (a b : Bool) → (a || b) ≡ false → (a ≡ false) × (b ≡ false)
+or_parts false false e = (refl, refl)
+or_parts a b e = absurd (let w : ⊥ = cc in w)
+
+sets_type : (kind : SetKind) (sets : List Configuration) (index : ℕ) → list_any (is_other_kind kind) sets ≡ false → TypeIs (type_number kind) (set_at sets index)
+sets_type kind [] zero none = tt
+sets_type kind [] (suc index) none = tt
+sets_type kind (c ∷ cs) zero none = type_of_set c ∙ own_kind kind c (or_parts (is_other_kind kind c) (list_any (is_other_kind kind) cs) none).0
+sets_type kind (c ∷ cs) (suc index) none = sets_type kind cs index (or_parts (is_other_kind kind c) (list_any (is_other_kind kind) cs) none).1
+
+device_type : (d : DeviceDescriptor) (first : Bool) → TypeIs 1 (if first then Some (device_bytes d) else None)
+device_type d true = refl
+device_type d false = tt
+
+units_type : (o : Option (List ℕ)) → TypeIs 3 (option_map units_bytes o)
+units_type None = tt
+units_type (Some u) = refl
+
+string_type : (strings : Option Strings) (named : List ℕ) (index language : ℕ) → TypeIs 3 (string_at strings named index language)
+string_type None named index language = tt
+string_type (Some s) named index language = of (index == 0)
+  where
+    of : (first : Bool) → TypeIs 3 (if first then Some (units_bytes s.languages) else option_map units_bytes (units_at s named index language))
+    of true = refl
+    of false = units_type (units_at s named index language)
+
+qualifier_type : (other : Option Other) (index : ℕ) → TypeIs 6 (qualifier_of other index)
+qualifier_type None index = tt
+qualifier_type (Some other) index = of (index == 0)
+  where
+    of : (first : Bool) → TypeIs 6 (if first then Some (qualifier_bytes other.qualifier) else None)
+    of true = refl
+    of false = tt
+
+other_type : (other : Option Other) (index : ℕ) → list_any (is_other_kind kinds.OtherSpeed) (other_sets other) ≡ false → TypeIs 7 (other_set_at other index)
+other_type None index none = tt
+other_type (Some other) index none = sets_type kinds.OtherSpeed other.sets index none
+
+-- each descriptor of accepted ones has the type that it is asked for by
+descriptor_type : (f : DescriptorFile) (kind index language : ℕ) → has_wrong_kind f ≡ false → TypeIs kind (descriptor f kind index language)
+descriptor_type f kind index language right = of (kind == 1) (kind == 2) (kind == 3) (kind == 6) (kind == 7) refl refl refl refl refl
+  where
+    same : (n : ℕ) (is : Bool) → (kind == n) ≡ is → is ≡ true → n ≡ kind
+    same n is e yes_so = grind (arith, nat_tests)
+
+    own : (list_any (is_other_kind kinds.Configuration) f.sets ≡ false) × (list_any (is_other_kind kinds.OtherSpeed) (other_sets f.other) ≡ false)
+    own = or_parts (list_any (is_other_kind kinds.Configuration) f.sets) (list_any (is_other_kind kinds.OtherSpeed) (other_sets f.other)) right
+
+    of : (one two three six seven : Bool) → (kind == 1) ≡ one → (kind == 2) ≡ two → (kind == 3) ≡ three → (kind == 6) ≡ six → (kind == 7) ≡ seven
+        → TypeIs kind (if one then device_of f index
+        else if two then set_at f.sets index
+        else if three then string_at f.strings (named_indices f) index language
+        else if six then qualifier_of f.other index
+        else if seven then other_set_at f.other index
+        else None)
+    of true two three six seven a b c d e = subst (λ k. TypeIs k (device_of f index)) (same 1 true a refl) (device_type f.device (index == 0))
+    of false true three six seven a b c d e = subst (λ k. TypeIs k (set_at f.sets index)) (same 2 true b refl) (sets_type kinds.Configuration f.sets index own.0)
+    of false false true six seven a b c d e = subst (λ k. TypeIs k (string_at f.strings (named_indices f) index language)) (same 3 true c refl) (string_type f.strings (named_indices f) index language)
+    of false false false true seven a b c d e = subst (λ k. TypeIs k (qualifier_of f.other index)) (same 6 true d refl) (qualifier_type f.other index)
+    of false false false false true a b c d e = subst (λ k. TypeIs k (other_set_at f.other index)) (same 7 true e refl) (other_type f.other index own.1)
+    of false false false false false a b c d e = tt
+
+less_so : (n : ℕ) → nat_lt 1 n ≡ true → 1 < n
+less_so n e = grind (arith, nat_tests)
+
+front_type : (kind : ℕ) (o : Option (List ℕ)) (bytes : List ℕ) → TypeIs kind o → IsFront bytes (unwrap_or o []) → 1 < length bytes → slice_index bytes 1 ≡ kind
+front_type kind None [] is front some = absurd (let w : ⊥ = omega (arith, some) in w)
+front_type kind None (x ∷ bytes) is front some = absurd (let e : x ∷ (bytes ++ front.0) ≡ [] = front.1 in let w : ⊥ = cc in w)
+front_type kind (Some b) bytes is front some = sym (get_or_append_left bytes front.0 0 1 some) ∙ ap (λ z. slice_index z 1) front.1 ∙ is
+
+not_other : (brings : Bool) (type kind : ℕ) → (brings ≡ true → type ≡ kind) → (brings && not (type == kind)) ≡ false
+not_other false type kind is = refl
+not_other true type kind is = let same : type ≡ kind = is refl in grind (arith, nat_tests)
+
+type_right : (size : ℕ) (f : DescriptorFile) (t : ControlTransfer) → has_wrong_kind f ≡ false → IsSound size (described_by f) t → has_other_type t ≡ false
+type_right size f t right is = not_other (brings_descriptor t) (slice_index t.data 1) (t.setup.value / 256) (λ e.
+    let parts = parts_brought t e in
+    front_type (t.setup.value / 256) (descriptor f (t.setup.value / 256) (t.setup.value % 256) t.setup.index) t.data
+    (descriptor_type f (t.setup.value / 256) (t.setup.value % 256) t.setup.index right) (is.front parts.is_read parts.is_ended parts.is_kept) (less_so (length t.data) parts.of_type))
+
+accepted_kinds : (f : DescriptorFile) → has_wrong_sets f ≡ false → has_wrong_kind f ≡ false
+unfolding has_wrong_sets
+accepted_kinds f e = (or_parts (has_wrong_count f) (has_wrong_kind f) (or_parts (has_wrong_count f || has_wrong_kind f) (has_wrong_layout f) e).0).1
+
+pub none_of_other_type : (size : ℕ) (f : DescriptorFile) (ts : List ControlTransfer) → has_wrong_sets f ≡ false → AllByRecursion (IsSound size (described_by f)) ts
+    → IsTransferFreeAfter OtherType [] ts
+none_of_other_type size f ts right each = all_free OtherType size (described_by f) (λ t earlier is. type_right size f t (accepted_kinds f right) is) [] ts each

@@ -1,5 +1,5 @@
 //! The functions of these laws do nothing: their contracts are the laws.
-ghost use Rattle.usb_recorded_runs.specs.Laws.{CapturedRunsAreRead, HandshakesAreLost, NoDescriptorChanges, NoLongPacketIsFound, NoPacketIsDamaged, NoPacketIsLong, NoShortPacketLacks, NoToggleIsWrong, NoTransferHasMore, RecordedRunsAreRead, RunsOfBytesAreRuns, SetupsAreTaken};
+ghost use Rattle.usb_recorded_runs.specs.Laws.{CapturedRunsAreRead, DescriptorsHaveTypes, HandshakesAreLost, NoDescriptorChanges, NoLongPacketIsFound, NoPacketIsDamaged, NoPacketIsLong, NoShortPacketLacks, NoToggleIsWrong, NoTransferHasMore, RecordedRunsAreRead, RunsOfBytesAreRuns, SetupsAreTaken};
 
 use usb_bus::laws::a_device_keeps_its_table;
 
@@ -65,6 +65,13 @@ pub fn no_transfer_has_more()
 /// Nor is `OtherBytes`: a device never says something else of a descriptor.
 pub fn no_descriptor_changes()
     ensures { NoDescriptorChanges }
+{
+    a_device_keeps_its_table();
+}
+
+/// Nor is `OtherType`, of a device with accepted descriptors.
+pub fn each_descriptor_has_its_type()
+    ensures { DescriptorsHaveTypes }
 {
     a_device_keeps_its_table();
 }
