@@ -30,7 +30,7 @@ use crate::remarks::headers::header_remark;
 use crate::remarks::intervals::interval_remark;
 use crate::remarks::settings::{default_remark, empty_remark, pipe_remark, setting_remark};
 use crate::remarks::strings::{languages_remark, text_remark};
-use crate::standing::device_codes;
+use crate::outline_state::device_codes;
 use usb_fields::{byte_at, word_at};
 use usb_set::TransferType;
 use usb_walk::Role;

@@ -7,13 +7,13 @@ use crate::device_facts::DeviceFacts;
 use crate::set_speed::{Background, other_speed, side_speed, speed_by};
 use crate::speed::SetSpeed;
 use crate::speed_evidence::Evidence;
-use crate::standing::Standing;
+use crate::outline_state::OutlineState;
 use crate::survey::survey;
 use usb_fields::{after, byte_at, descriptor_type, prefix, word_at};
 use usb_file_data::after_sets;
 use usb_walk::Role;
 
-impl Standing {
+impl OutlineState {
     /// Comes to a descriptor of this role, with which the bytes begin.
     pub(crate) fn enter(&mut self, role: Role, running: Option<SetSpeed>, ahead: &[u8])
         ensures { self.new ≡ entered role running ahead.now self.old }

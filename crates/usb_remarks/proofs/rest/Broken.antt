@@ -29,12 +29,12 @@ use Rattle.usb_file_data.specs.declared.fault.InputFault.TheVariants as faults
 use Rattle.usb_file_data.specs.FileFaults.{FileFaulty, NextPart, a_set, a_qualifier, the_languages, a_string, the_end, PartFaulty, SetFaulty, fixed_fault, is_no_string, string_fault}
 use Rattle.usb_file_data.specs.Inputs.{DeviceRefused, HasFault, InputRefused}
 use Rattle.usb_walk.specs.declared.role.Role.TheVariants as roles
-use Rattle.usb_remarks.specs.declared.standing.Standing.{Standing}
+use Rattle.usb_remarks.specs.declared.outline_state.OutlineState.{OutlineState}
 use Rattle.usb_remarks.specs.FaultPlaces.{place_of_fault}
 use Rattle.usb_remarks.specs.OutlineLaws.{BrokenCoversUpToFault}
 use Rattle.usb_walk.specs.Positions.{noted}
 use Rattle.usb_remarks.specs.SetStart.{entered}
-use Rattle.usb_remarks.specs.Standings.{start}
+use Rattle.usb_remarks.specs.OutlineStates.{start}
 use Rattle.usb_remarks.proofs.Telling.{none_at}
 use Rattle.usb_remarks.specs.Uncovered.{uncovered_in_file, uncovered_in_set, most_uncovered}
 use Rattle.usb_remarks.specs.declared.speed.SetSpeed.{SetSpeed}
@@ -54,9 +54,9 @@ byte_fits (x ∷ b) (suc at) h = byte_fits b at h.1
 
 -- ---- the front of a file
 
--- from each standing outside of sets of which this is seen, few bytes are left of these
+-- from each state outside of sets of which this is seen, few bytes are left of these
 abbrev FewFrom : ℕ → Option SetSpeed → Out → List ℕ → Type 0
-FewFrom k running o ahead = (s : Standing) → out (seen s) ≡ o → EndsFew k running s ahead
+FewFrom k running o ahead = (s : OutlineState) → out (seen s) ≡ o → EndsFew k running s ahead
 
 device_few : (k : ℕ) (running : Option SetSpeed) (d : DeviceDescriptor) (behind : List ℕ) → FewFrom k running (outside true false 0 0) behind → EndsFew k running start (device_bytes d ++ behind)
 device_few k running d behind onward fs nil =
@@ -164,7 +164,7 @@ below : (n long : ℕ) → long < 256 → nat_lt n long ≡ true → n ≤ 254
 below n long lt e = grind (arith, nat_tests)
 
 -- that of a descriptor of fixed length
-fixed_few : (running : Option SetSpeed) (long : ℕ) (wrong : Bool) (why tells : FileWhy) (b : List ℕ) (place : ℕ) (s : Standing) → long < 256
+fixed_few : (running : Option SetSpeed) (long : ℕ) (wrong : Bool) (why tells : FileWhy) (b : List ℕ) (place : ℕ) (s : OutlineState) → long < 256
     → fixed_fault long wrong why b ≡ Some (place, tells) → EndsFew (uncovered_in_file tells) running s (take place b)
 fixed_few running long wrong why tells b place s lt e =
     few_left (uncovered_in_file tells) running s (take place b)
@@ -179,7 +179,7 @@ cut_short : (n len : ℕ) → len < 256 → (nat_lt n 2 || nat_lt n len) ≡ tru
 cut_short n len lt e = grind (arith, nat_tests)
 
 -- that of a string
-string_few : (running : Option SetSpeed) (least : ℕ) (why : FileWhy) (b : List ℕ) (place : ℕ) (s : Standing) → AreBytes b
+string_few : (running : Option SetSpeed) (least : ℕ) (why : FileWhy) (b : List ℕ) (place : ℕ) (s : OutlineState) → AreBytes b
     → string_fault least b ≡ Some (place, why) → EndsFew (uncovered_in_file why) running s (take place b)
 string_few running least why b place s h e =
     let len = slice_index b 0 in

@@ -33,7 +33,7 @@ use Rattle.usb_walk.specs.Trees.{descriptor_length, other_descriptors, set_descr
 use Rattle.usb_remarks.specs.declared.speed.SetSpeed.{SetSpeed}
 use Rattle.usb_walk.specs.declared.role.Role.{Role}
 use Rattle.usb_walk.specs.declared.role.Role.TheVariants as roles
-use Rattle.usb_remarks.specs.declared.standing.Standing.{Standing}
+use Rattle.usb_remarks.specs.declared.outline_state.OutlineState.{OutlineState}
 use Rattle.usb_walk.specs.Places.{place_in}
 use Rattle.usb_remarks.specs.Findings.{IsAtPlace, can_break, finding_at}
 use Rattle.usb_walk.specs.Surroundings.{depth_of}
@@ -41,11 +41,11 @@ use Rattle.usb_remarks.specs.OutlineLaws.{WholeHasNoRest, WholeShowsTree, WholeR
 use Rattle.usb_walk.specs.Owners.{of_set, owner_of}
 use Rattle.usb_remarks.specs.SetStart.{entered}
 use Rattle.usb_walk.specs.Positions.{noted}
-use Rattle.usb_remarks.specs.Standings.{passed, start}
+use Rattle.usb_remarks.specs.OutlineStates.{passed, start}
 use Rattle.usb_walk.specs.Roles.{is_alone, outer_role, role_if, role_of, string_role}
 use Rattle.usb_file_data.specs.Likeness.{names_languages}
 use Rattle.usb_remarks.proofs.Spans.{Aim, adding}
-use Rattle.usb_remarks.proofs.Standings.{start_number}
+use Rattle.usb_remarks.proofs.OutlineStates.{start_number}
 use Rattle.usb_remarks.proofs.Telling.{AllBrokenAt, Told}
 use Rattle.usb_remarks.proofs.rest.Walks.{Ends, ShowsAll, Tells, all_tells, ends_here, nothing_left}
 use Rattle.usb_remarks.proofs.rest.Steps.{behind_one, goes_on, left_one, length_is}
@@ -69,7 +69,7 @@ at_end : (E : Aim) (running : Option SetSpeed) (o : Out) → E [] [] → GoesOut
 at_end E running o aimed v e s fs same told = ends_here E running s fs (told_none s.descriptors fs told) aimed
 
 -- a descriptor outside of sets
-pub record OutStep (running : Option SetSpeed) (s : Standing) (role : Role) (d behind : List ℕ) (mine : List Broken) (o : Out) : Type 0 where
+pub record OutStep (running : Option SetSpeed) (s : OutlineState) (role : Role) (d behind : List ℕ) (mine : List Broken) (o : Out) : Type 0 where
   pub is : role_of s.position d ≡ Some role
   pub own : AllBrokenAt (entered role running (d ++ behind) s).position role mine
   pub after : out (seen (passed role d (entered role running (d ++ behind) s))) ≡ o
@@ -77,7 +77,7 @@ pub record OutStep (running : Option SetSpeed) (s : Standing) (role : Role) (d b
   pub belongs : owner_of (entered role running (d ++ behind) s).position role d ≡ None
 
 pub out_goes : (E : Aim) (running : Option SetSpeed) (o p : Out) (role : Role) (d behind : List ℕ) (mine : List Broken) (later : List (List Broken)) → descriptor_length (d ++ behind) ≡ Some (length d)
-    → ((s : Standing) → out (seen s) ≡ o → OutStep running s role d behind mine p) → GoesOut (adding E (tree_descriptor role 0 None d ∷ [])) running p later behind
+    → ((s : OutlineState) → out (seen s) ≡ o → OutStep running s role d behind mine p) → GoesOut (adding E (tree_descriptor role 0 None d ∷ [])) running p later behind
     → GoesOut E running o (mine ∷ later) (d ++ behind)
 out_goes E running o p role d behind mine later e step onward v is s fs same told =
     let one = step s (ap (λ v. out v) same ∙ is) in
@@ -125,18 +125,18 @@ device_goes E running fs d sets is_dump behind later onward told =
 
 -- ---- the other speed
 
-pub qualifier_role : (s : Standing) (q : Qualifier) → s.position.has_device ≡ true → outer_role s.position (qualifier_bytes q) ≡ Some roles.Qualifier
+pub qualifier_role : (s : OutlineState) (q : Qualifier) → s.position.has_device ≡ true → outer_role s.position (qualifier_bytes q) ≡ Some roles.Qualifier
 unfolding outer_role
 qualifier_role s q e = both_hold (s.position.has_device) true roles.Qualifier e refl
 
 -- outside of sets nothing is left of one
-pub nothing_less : (o : Out) (s : Standing) (n : ℕ) → o.left ≡ 0 → out (seen s) ≡ o → record (out (seen s)) { left = s.position.left - n } ≡ o
+pub nothing_less : (o : Out) (s : OutlineState) (n : ℕ) → o.left ≡ 0 → out (seen s) ≡ o → record (out (seen s)) { left = s.position.left - n } ≡ o
 nothing_less o s n none e =
     let left : s.position.left ≡ 0 = ap (λ (o : Out). o.left) e ∙ none in
     let same : s.position.left - n ≡ s.position.left = omega (arith, left) in
     ap (λ k. record (out (seen s)) { left = k }) same ∙ e
 
-qualifier_step : (running : Option SetSpeed) (other : Other) (spoken : Bool) (m n : ℕ) (behind : List ℕ) (s : Standing) → out (seen s) ≡ outside true spoken m n
+qualifier_step : (running : Option SetSpeed) (other : Other) (spoken : Bool) (m n : ℕ) (behind : List ℕ) (s : OutlineState) → out (seen s) ≡ outside true spoken m n
     → OutStep running s roles.Qualifier (qualifier_bytes other.qualifier) behind (without_sets parts.Other other.sets ++ at_qualifier other.qualifier) (outside true spoken m n)
 unfolding noted depth_of owner_of finding_at place_in can_break
 qualifier_step running other spoken m n behind s e =
@@ -176,7 +176,7 @@ even n k e = eq-eqb (n % 2) 0 (omega (arith, e))
 holds : (a : Bool) (role : Role) → a ≡ true → role_if a role ≡ Some role
 holds a role h = rw h refl
 
-languages_role : (s : Standing) (u : List ℕ) → s.position.has_device ≡ true → s.position.has_languages ≡ false → 0 < length u
+languages_role : (s : OutlineState) (u : List ℕ) → s.position.has_device ≡ true → s.position.has_languages ≡ false → 0 < length u
     → outer_role s.position (units_bytes u) ≡ Some roles.Languages
 unfolding outer_role
 languages_role s u known e some =
@@ -185,13 +185,13 @@ languages_role s u known e some =
     ∙ both_hold _ _ roles.Languages (even (length (units_bytes u)) (length u) (length-units_bytes u))
     (le-leb 4 (length (units_bytes u)) (omega (arith, length-units_bytes u, some)))
 
-text_role : (s : Standing) (u : List ℕ) → s.position.has_languages ≡ true → outer_role s.position (units_bytes u) ≡ Some roles.Text
+text_role : (s : OutlineState) (u : List ℕ) → s.position.has_languages ≡ true → outer_role s.position (units_bytes u) ≡ Some roles.Text
 unfolding outer_role
 text_role s u e =
     ap (λ b. string_role (b || is_alone s.position (units_bytes u)) (length (units_bytes u))) e
     ∙ holds _ roles.Text (even (length (units_bytes u)) (length u) (length-units_bytes u))
 
-pub languages_step : (running : Option SetSpeed) (u behind : List ℕ) (m n : ℕ) (s : Standing) → 0 < length u → out (seen s) ≡ outside true false m n
+pub languages_step : (running : Option SetSpeed) (u behind : List ℕ) (m n : ℕ) (s : OutlineState) → 0 < length u → out (seen s) ≡ outside true false m n
     → OutStep running s roles.Languages (units_bytes u) behind [] (outside true true m n)
 unfolding noted depth_of owner_of
 languages_step running u behind m n s some e = record {
@@ -202,7 +202,7 @@ languages_step running u behind m n s some e = record {
   belongs = refl;
 }
 
-pub text_step : (running : Option SetSpeed) (u behind : List ℕ) (known : Bool) (m n : ℕ) (s : Standing) → out (seen s) ≡ outside known true m n
+pub text_step : (running : Option SetSpeed) (u behind : List ℕ) (known : Bool) (m n : ℕ) (s : OutlineState) → out (seen s) ≡ outside known true m n
     → OutStep running s roles.Text (units_bytes u) behind [] (outside known true m n)
 unfolding noted depth_of owner_of
 text_step running u behind known m n s e = record {

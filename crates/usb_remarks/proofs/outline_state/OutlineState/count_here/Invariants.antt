@@ -1,7 +1,7 @@
 use Rattle.std.proofs.Common.{◌≡◌, ◌+◌, drop, length}
 use Rattle.std.specs.List.{take_while}
 use Rattle.usb_remarks.specs.Findings.{is_here}
-use Rattle.usb_remarks.proofs.standing.Standing.count_here.Given as goal
+use Rattle.usb_remarks.proofs.outline_state.OutlineState.count_here.Given as goal
 
 -- what was counted, and what of the rest is to be counted, are all of it
 abbrev pub invariant-loop-one : goal.invariant-loop-one

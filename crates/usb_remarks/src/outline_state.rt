@@ -1,6 +1,6 @@
-//! What came before a descriptor in an input.
+//! With what an outline goes on from descriptor to descriptor.
 ghost use Rattle.std.specs.Prelude.{◌≡◌, ◌+◌, ◌<◌, ◌^◌, length};
-ghost use Rattle.usb_remarks.specs.Standings.{AreCounted, device_codes, kept, passed, start};
+ghost use Rattle.usb_remarks.specs.OutlineStates.{AreCounted, device_codes, kept, passed, start};
 
 use crate::bindings::Bindings;
 use crate::device_facts::DeviceFacts;
@@ -10,9 +10,9 @@ use usb_fields::byte_at;
 use usb_names::ClassCodes;
 use usb_walk::{Position, Role};
 
-/// What came before a descriptor, as far as its explanation depends on it.
+/// Where an outline is, and what came before, as far as an explanation depends on it.
 #[derive(Drop)]
-pub(crate) struct Standing {
+pub(crate) struct OutlineState {
     /// Where it is, as numbers.
     pub(crate) position: Position,
     /// How many descriptors came.
@@ -39,14 +39,14 @@ pub(crate) struct Standing {
     pub(crate) before: InterfaceNumbers,
 }
 
-impl Standing {
+impl OutlineState {
     /// At the first byte of an input.
-    #[tactic(auto, unfolding(crate::specs::Standings::start))]
-    pub(crate) fn start() -> Standing
+    #[tactic(auto, unfolding(crate::specs::OutlineStates::start))]
+    pub(crate) fn start() -> OutlineState
         ensures start { result ≡ start }
         ensures counted { AreCounted result }
     {
-        Standing {
+        OutlineState {
             position: Position::start(),
             descriptors: 0,
             device: None,

@@ -1,7 +1,7 @@
 use Rattle.std.proofs.Common.{arith}
 use Rattle.std.proofs.lemmas.Bool.{eq-eqb}
 use Rattle.usb_remarks.proofs.Telling.{one_on}
-use Rattle.usb_remarks.proofs.standing.Standing.count_here.Goals as goal
+use Rattle.usb_remarks.proofs.outline_state.OutlineState.count_here.Goals as goal
 
 pub loop-one-preserved : goal.loop-one-preserved
 loop-one-preserved c =

@@ -1,6 +1,6 @@
 use Rattle.std.proofs.Common.{refl}
-use Rattle.usb_remarks.specs.Standings.{start}
-use Rattle.usb_remarks.proofs.standing.Standing.start.Goals as goal
+use Rattle.usb_remarks.specs.OutlineStates.{start}
+use Rattle.usb_remarks.proofs.outline_state.OutlineState.start.Goals as goal
 
 pub returns-clause-start : goal.returns-clause-start
 unfolding start
