@@ -1,5 +1,5 @@
 -- What a reader of a capture file has read and holds.
-use Rattle.std.specs.Prelude.{◌≡◌, ℕ, ◌<◌, ◌≤◌, ◌^◌, ◌-◌, List, ◌++◌, length, take, min}
+use Rattle.std.specs.Prelude.{◌≡◌, ℕ, ◌<◌, ◌≤◌, ◌^◌, ◌-◌, ◌||◌, List, ◌++◌, length, take, min, nat_lt, Option, Some, None, if◌then◌else◌}
 use Rattle.usb_capture.specs.declared.frame.Frame.{Frame}
 use Rattle.usb_capture.specs.declared.reader.CaptureReader.{CaptureReader}
 use Rattle.usb_capture.specs.Files.{AreParts, State, bytes_of, frames_of, last_four, start, state_after, whole}
@@ -32,3 +32,8 @@ pub record IsFront (reader : CaptureReader) (piece : List ℕ) (used : ℕ) : Ty
   pub none : reader.count ≡ 0
   pub long : used ≡ whole reader.stage (take used piece)
   pub within : used ≤ length piece
+
+-- how many bytes the next part has, where the reader has taken none of it and a piece has all of it
+abbrev pub front_length : CaptureReader → List ℕ → Option ℕ
+front_length reader piece =
+    if nat_lt 0 reader.count || nat_lt (length piece) (whole reader.stage piece) then None else Some (whole reader.stage piece)

@@ -63,7 +63,7 @@ pub struct CaptureReader {
 impl CaptureReader {
     ghost use Rattle.std.specs.Prelude.{◌^◌, None, Some};
     ghost use Rattle.usb_capture.specs.Files.{content, frame_list, frame_with, last_four};
-    ghost use Rattle.usb_capture.specs.Reading.{IsFront, IsKept, IsRead, state_of};
+    ghost use Rattle.usb_capture.specs.Reading.{IsFront, IsKept, IsRead, front_length, state_of};
     ghost use Rattle.std.specs.Option.{option_to_list};
 
     /// A reader that has taken no byte.
@@ -149,7 +149,8 @@ impl CaptureReader {
 
     /// How many bytes the part has that a piece begins with, where nothing of it came before and all of it is there.
     fn front(&self, piece: &[u8]) -> Option<usize>
-        ensures { IfSome result (λ used. IsFront self.now piece.now used) }
+        ensures length { result ≡ front_length self.now piece.now }
+        ensures is { IfSome result (λ used. IsFront self.now piece.now used) }
     {
         if self.count > 0 {
             return None;
