@@ -55,6 +55,7 @@ impl ByteOrder {
     }
 
     /// The number of 64 bits at this place.
+    #[inline(always)]
     pub(crate) fn long_at(self, b: &[u8], at: u8) -> u64
         requires { at + 4 < 256 }
         ensures { result ≡ long_at self b.now at }

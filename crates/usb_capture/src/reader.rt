@@ -8,7 +8,8 @@ use crate::content::{Content, Head};
 use crate::fault::CaptureFault;
 use crate::frame::{Frame, MOST_BYTES};
 use crate::interface::Interface;
-use crate::stage::Stage;
+use crate::pcap::Form;
+use crate::stage::{Stage, record_head};
 use std::alloc::{AllocError, Global};
 use usb_fields::{Sequence, after, prefix};
 
@@ -65,6 +66,7 @@ impl CaptureReader {
     ghost use Rattle.usb_capture.specs.Files.{content, frame_list, frame_with, last_four};
     ghost use Rattle.usb_capture.specs.Reading.{IsFront, IsKept, IsRead, front_length, state_of};
     ghost use Rattle.std.specs.Option.{option_to_list};
+    ghost use Rattle.usb_capture.specs.declared.stage.Stage.TheVariants.{Records};
 
     /// A reader that has taken no byte.
     pub fn new(alloc: Global) -> CaptureReader
@@ -140,7 +142,10 @@ impl CaptureReader {
         ensures going { self.new.failed ≡ self.old.failed }
     {
         if let Some(used) = self.front(piece) {
-            return self.take_front(piece, used);
+            return match self.stage {
+                Stage::Records(form) => self.take_record(form, piece, used),
+                _ => self.take_front(piece, used),
+            };
         }
         let used = self.keep(piece)?;
         let frame = self.end_part()?;
@@ -184,6 +189,28 @@ impl CaptureReader {
         self.go_on(content)?;
         self.place = self.place.saturating_add(used as u64);
         Ok(Step { used, frame })
+    }
+
+    /// Takes a whole record of pcap so. What any part may say takes longer to hand on than a record's head.
+    #[inline(always)]
+    fn take_record(&mut self, form: Form, piece: &[u8], used: usize) -> Result<Step, CaptureFault>
+        requires front { IsFront self.old piece.now used }
+        requires stage { self.old.stage ≡ Records form }
+        ensures within { IfOk result (λ step. step.used ≤ length piece.now) }
+        ensures ok { IfOk result (λ step. (all : List ℕ) (frames : List Frame) → IsRead all frames self.old
+            → IsRead (all ++ take step.used piece.now) (frames ++ option_to_list step.frame) self.new) }
+        ensures goes_on { IfOk result (λ step. (all : List ℕ) (frames : List Frame) → IsRead all frames self.old
+            → 0 < length piece.now → 0 < step.used) }
+        ensures memory { IfErr result (λ fault. fault ≡ faults.Memory) }
+        ensures going { self.new.failed ≡ self.old.failed }
+    {
+        let part = prefix(piece, used);
+        let frame = self.frame_with(&record_head(form, part), part)?;
+        self.place = self.place.saturating_add(used as u64);
+        Ok(Step {
+            used,
+            frame: Some(frame),
+        })
     }
 
     /// How many bytes the part has, as far as those that are held tell.

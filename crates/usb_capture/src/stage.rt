@@ -117,7 +117,7 @@ fn first_content(
 
 /// What a record says before its data.
 #[inline(always)]
-fn record_head(form: Form, held: &[u8]) -> Head
+pub(crate) fn record_head(form: Form, held: &[u8]) -> Head
     ensures { result ≡ record_head form held.now }
 {
     let order = form.writer.order;
