@@ -1,6 +1,6 @@
 -- How many bytes a part has, as more of it come or as only the first are held.
-use Rattle.std.proofs.Common.{◌≡◌, ℕ, ◌+◌, ◌<◌, ◌≤◌, List, ◌++◌, length, take, Bool, true, false, nat_lt, nat_eq, slice_index, inl, inr, refl, sym, ◌∙◌, ap, arith, length-append}
-use Rattle.std.proofs.lemmas.List.{length-take-le, take_all}
+use Rattle.std.proofs.Common.{◌≡◌, ℕ, ◌+◌, ◌<◌, ◌≤◌, List, ◌++◌, length, take, drop, Bool, true, false, nat_lt, nat_eq, slice_index, inl, inr, refl, sym, ◌∙◌, ap, arith, length-append}
+use Rattle.std.proofs.lemmas.List.{length-take-le, take_all, take-append-drop}
 use Rattle.std.proofs.lemmas.Bool.Decides.{nat_tests}
 use Rattle.std.specs.Prelude.{Option, Some, None, is_some, ◌&&◌, if◌then◌else◌}
 use Rattle.usb_capture.specs.declared.order.ByteOrder.{ByteOrder}
@@ -211,3 +211,12 @@ whole_held stage b =
       | inl all ↦ ap (whole stage) (take_all 65627 b all)
       | inr some ↦ held_same stage b (let n = length-take-le 65627 b (omega (arith, some)) in omega (arith, n)) (omega (arith, some))
     ]
+
+-- a piece that has a whole part begins with it
+pub whole_front : (stage : Stage) (b : List ℕ) (n : ℕ) → n ≡ whole stage b → n ≤ length b → n ≡ whole stage (take n b)
+whole_front stage b n is within =
+    let long = length-take-le n b within in
+    let same : whole stage (take n b ++ drop n b) ≡ whole stage b = ap (whole stage) (take-append-drop n b) in
+    let grows = whole_grows stage (take n b) (drop n b) in
+    let steady = whole_steady stage (take n b) (drop n b) (omega (arith, grows, same, is, long)) in
+    omega (arith, steady, same, is)

@@ -1,5 +1,5 @@
 -- The descriptors of a device that came whole, as a descriptor file or as Linux's file `descriptors` (USB 2.0, 9.4.3 and 9.6).
-use Rattle.std.specs.Prelude.{◌≡◌, ◌≢◌, ⊤, ℕ, ◌+◌, ◌*◌, ◌%◌, ◌||◌, List, [], ◌∷◌, ◌++◌, length, drop, map, filter, find, slice_index, Option, Some, None, option_and_then, unwrap_or}
+use Rattle.std.specs.Prelude.{◌≡◌, ⊤, ℕ, ◌+◌, ◌*◌, ◌%◌, ◌||◌, List, [], ◌∷◌, ◌++◌, length, drop, map, filter, find, slice_index, Option, Some, None, option_and_then, unwrap_or}
 use Rattle.std.specs.List.{flat_map, range_with_len}
 use Rattle.std.specs.Option.{option_map}
 use Rattle.usb_capture.specs.declared.asked.Asked.{Asked}

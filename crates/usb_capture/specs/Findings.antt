@@ -1,7 +1,6 @@
 -- What USB 2.0 forbids in control transfers, over a list of them (USB 2.0, 8.5.3, 9.3.5, 9.4.3, 9.4.5 and 9.6).
-use Rattle.std.specs.Prelude.{◌≡◌, ℕ, zero, suc, ◌+◌, ◌*◌, ◌/◌, ◌%◌, ◌==◌, ◌&&◌, ◌||◌, Bool, true, false, not, List, [], ◌∷◌, ◌++◌, length, take, drop, min, filter, slice_index, nat_lt, if◌then◌else◌}
+use Rattle.std.specs.Prelude.{ℕ, zero, suc, ◌+◌, ◌*◌, ◌/◌, ◌%◌, ◌==◌, ◌&&◌, ◌||◌, Bool, true, false, not, List, [], ◌∷◌, ◌++◌, length, take, drop, min, filter, slice_index, nat_lt, if◌then◌else◌}
 use Rattle.std.specs.List.{list_any, range_with_len, zip}
-use Rattle.usb_fields.specs.Bytes.{little_endian_at}
 use Rattle.usb_fields.specs.declared.setup.Setup.{Setup}
 use Rattle.usb_capture.specs.declared.asked.Asked.{Asked}
 use Rattle.usb_capture.specs.declared.control_transfer.ControlTransfer.{ControlTransfer}
