@@ -53,7 +53,7 @@ def wanted(program, data):
 def words_of(it):
     """What a finding says, under its own name."""
     words = f"{it['message']} ({it['section']})"
-    return words if it["name"] == NAMES[words] else f"{it['name']} {words}"
+    return words if it["name"] == NAMES.get(words) else f"{it['name']} {words}"
 
 
 def number(it):
