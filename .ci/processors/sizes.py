@@ -6,7 +6,6 @@ import re
 import struct
 
 import declared
-import targets
 from playing.built import LLD, fail, run
 
 NOT_THERE = 8  # SHT_NOBITS
