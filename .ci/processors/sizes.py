@@ -6,7 +6,6 @@ import re
 import struct
 
 import declared
-import targets
 from playing.built import LLD, fail, run
 
 NOT_THERE = 8  # SHT_NOBITS
@@ -51,17 +50,15 @@ BOUNDS = {
 STRUCT, STRUCT_BOUND, FRAME_BOUND = "nzg_device", 330, 200
 
 
-# A module for npm, as it is and packed by gzip: with every call, and without those for recordings.
-OF_NPM = {"every call": (320_000, 110_000), "all calls but those for recordings": (320_000, 110_000)}
+# The modules for npm, as they are and packed by gzip: the library, and what it loads where a recording is read.
+OF_NPM = {"nozzlegorse.wasm": (320_000, 110_000), "recordings.wasm": (57_000, 25_500)}
 
 
-def modules(made, room):
-    """The sizes of the modules for npm of an object, each with its bounds."""
-    for (what, bounds), prefix in zip(OF_NPM.items(), ("", "nzg_capture_")):
-        names = [it for it in declared.calls(declared.text_of_header()) if not prefix or not it.startswith(prefix)]
-        with open(targets.shrunk(targets.wasm(made, room, names)), "rb") as it:
-            module = it.read()
-        yield what, (len(module), len(gzip.compress(module, 9, mtime=0))), bounds
+def of_npm(files):
+    """The sizes of the modules among the files for npm, each with its bounds."""
+    for name, module in files.items():
+        if name.endswith(".wasm"):
+            yield name, (len(module), len(gzip.compress(module, 9, mtime=0))), OF_NPM[name]
 
 
 def bound_of(target, group):
