@@ -18,7 +18,7 @@ use Rattle.usb_capture.specs.Words.{digit}
 use Rattle.usb_capture.proofs.LineLengths.{least_line, line_grows, line_held, line_steady}
 use Rattle.usb_capture.proofs.Numbers.{Agree, front, le_or, more, same_number}
 
--- what the first bytes tell is told by whatever agrees with them
+-- what the first bytes tell is known by whatever agrees with them
 pub order_same : (order : ByteOrder) (b c : List ℕ) → Agree 12 b c → block_order order b ≡ block_order order c
 order_same order b c h =
     let type = same_number 12 Big b c 0 (omega arith) h in

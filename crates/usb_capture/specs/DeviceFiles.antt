@@ -25,7 +25,7 @@ abbrev pub parts : List ControlTransfer → List Asked → Option (List ℕ)
 parts kept [] = Some []
 parts kept (asked ∷ more) = option_and_then (λ b. option_map (λ rest. b ++ rest) (parts kept more)) (part kept asked)
 
--- so many configurations, from this wValue on: 0200 of the device, 0700 at the other speed
+-- this many configurations, from this wValue on: 0200 of the device, 0700 at the other speed
 abbrev pub configurations : Asked → ℕ → ℕ → List Asked
 configurations device value count = map (λ i. beside device (value + i)) (range_with_len 0 count)
 

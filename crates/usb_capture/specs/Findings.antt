@@ -106,7 +106,7 @@ string_index b =
     else if slice_index b 1 == 11 then slice_index b 7
     else 0
 
--- whether one of the first so many descriptors that stand one after another names the string of this index
+-- whether one of the first this many descriptors that stand one after another names the string of this index
 unfoldable pub names_in : ℕ → ℕ → List ℕ → Bool
 names_in zero n b = false
 names_in (suc most) n b =

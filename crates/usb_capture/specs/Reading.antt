@@ -27,7 +27,7 @@ IsRead all frames reader = (parts : List (List ℕ)) × (part : List ℕ) × Has
 abbrev pub IsKept : List ℕ → List Frame → CaptureReader → Type 0
 IsKept all frames reader = (parts : List (List ℕ)) × (part : List ℕ) × Has all frames reader parts part × (length part ≤ whole reader.stage part)
 
--- a piece begins with a whole part, which has so many bytes and of which the reader has taken none
+-- a piece begins with a whole part, which has this many bytes and of which the reader has taken none
 pub record IsFront (reader : CaptureReader) (piece : List ℕ) (used : ℕ) : Type 0 where
   pub none : reader.count ≡ 0
   pub long : used ≡ whole reader.stage (take used piece)

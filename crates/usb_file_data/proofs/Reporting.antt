@@ -113,16 +113,16 @@ passed_extras at stands n (extras.Raw x ∷ xs) r none =
 passed_extras at stands n (extras.Association x ∷ xs) r none = cc
 
 -- what is found in all, with causes and without them
-told_with : (r : Reported) (ds : List (List Broken)) → r.has_causes ≡ true → (walked r ds).found ≡ r.found ++ found_from r.descriptor ds
+all_reported_with : (r : Reported) (ds : List (List Broken)) → r.has_causes ≡ true → (walked r ds).found ≡ r.found ++ found_from r.descriptor ds
 unfolding walked reported
-told_with r [] is = sym (append-nil r.found)
-told_with r (here ∷ later) is =
-    told_with (passed 1 (reported r here)) later is
+all_reported_with r [] is = sym (append-nil r.found)
+all_reported_with r (here ∷ later) is =
+    all_reported_with (passed 1 (reported r here)) later is
     ∙ ap (λ b. (r.found ++ with_causes b r.descriptor here) ++ found_from (counted b 1 r.descriptor) later) is
     ∙ append_assoc r.found (map (found r.descriptor) here) (found_from (r.descriptor + 1) later)
 
 pub all_found : (ds : List (List Broken)) → (walked (none_reported true) ds).found ≡ found_from 0 ds
-all_found ds = told_with (none_reported true) ds refl
+all_found ds = all_reported_with (none_reported true) ds refl
 
 same_findings : (n : ℕ) (here : List Broken) → map (λ f. f.finding) (map (found n) here) ≡ map (λ b. b.finding) here
 same_findings n [] = refl
@@ -134,16 +134,16 @@ pub findings_on : (n : ℕ) (here : List Broken) (later : List (List Broken))
 findings_on n here later =
     map-append (λ f. f.finding) (map (found n) here) (found_from (n + 1) later) ∙ ap (λ l. l ++ map (λ f. f.finding) (found_from (n + 1) later)) (same_findings n here)
 
-told_without : (n : ℕ) (r : Reported) (ds : List (List Broken)) → r.has_causes ≡ false → (walked r ds).findings ≡ r.findings ++ map (λ f. f.finding) (found_from n ds)
+all_reported_without : (n : ℕ) (r : Reported) (ds : List (List Broken)) → r.has_causes ≡ false → (walked r ds).findings ≡ r.findings ++ map (λ f. f.finding) (found_from n ds)
 unfolding walked reported
-told_without n r [] is = sym (append-nil r.findings)
-told_without n r (here ∷ later) is =
+all_reported_without n r [] is = sym (append-nil r.findings)
+all_reported_without n r (here ∷ later) is =
     let rest = map (λ f. f.finding) (found_from (n + 1) later) in
-    told_without (n + 1) (passed 1 (reported r here)) later is ∙ ap (λ b. (r.findings ++ without_causes b here) ++ rest) is
+    all_reported_without (n + 1) (passed 1 (reported r here)) later is ∙ ap (λ b. (r.findings ++ without_causes b here) ++ rest) is
     ∙ append_assoc r.findings (map (λ b. b.finding) here) rest ∙ ap (λ l. r.findings ++ l) (sym (findings_on n here later))
 
 pub all_findings : (ds : List (List Broken)) → (walked (none_reported false) ds).findings ≡ map (λ f. f.finding) (found_from 0 ds)
-all_findings ds = told_without 0 (none_reported false) ds refl
+all_findings ds = all_reported_without 0 (none_reported false) ds refl
 
 -- ---- loops
 

@@ -140,7 +140,7 @@ count_is settings e list entered are = sym (length-map list first_of) ∙ ap len
 is_within : (next from n : ℕ) → next ≡ from → true ≡ nat_lt next (from + suc n)
 is_within next from n here = grind (arith, nat_tests)
 
--- one of so many numbers from a number on is absent just where the first absent one is among them
+-- one of this many numbers from a number on is absent just where the first absent one is among them
 pub some_absent : (stands : ℕ → Bool) (from next n : ℕ) → IsNextAbsent stands from next
     → list_any (λ m. not (stands m)) (range_with_len from n) ≡ nat_lt next (from + n)
 some_absent stands from next zero absent = let h = absent.least in grind (arith, nat_tests)

@@ -47,7 +47,7 @@ impl Report {
         }
     }
 
-    /// Goes on to the descriptor that comes so many later. Only what is found with its cause needs the number.
+    /// Goes on to the descriptor that comes this many later. Only what is found with its cause needs the number.
     #[inline(always)]
     #[tactic(auto, using(crate::proofs::Reporting::passed_with, crate::proofs::Reporting::passed_without))]
     pub(crate) fn pass(&mut self, count: usize) -> Result<(), AllocError>

@@ -17,7 +17,7 @@ use Rattle.usb_capture.specs.PacketSizes.{is_long, size_at}
 use Rattle.usb_capture.specs.Reading.{IsRead}
 use Rattle.usb_capture.specs.Recordings.{transactions_in}
 use Rattle.usb_recorded_runs.specs.Captures.{AreOfFrames, Moment, capture_of, frames, times}
-use Rattle.usb_recorded_runs.specs.Exchanges.{exchanges, heard, packets_in, transaction_of}
+use Rattle.usb_recorded_runs.specs.Exchanges.{exchanges, received, packets_in, transaction_of}
 use Rattle.usb_recorded_runs.specs.Findings.{IsFreeAfter, LosesHandshake}
 
 -- A run from a new pair on, of n transactions over a bus of bytes that changes no bit of a packet: these are the pairs on the
@@ -31,7 +31,7 @@ RecordedRunsAreRead =
     (f : DescriptorFile) (fates : List Fate) (new : Pair) (earlier : List Pair) (n : ℕ) (last : Pair) (clock : ℕ → Moment)
     (recorded : List RecordedPacket) → IsRun f fates new earlier n last →
     (let xs = exchanges f fates earlier n in
-    AreOfFrames 1 (frames clock 1 (packets_in xs)) recorded → transactions_in recorded ≡ heard (times clock) 1 xs)
+    AreOfFrames 1 (frames clock 1 (packets_in xs)) recorded → transactions_in recorded ≡ received (times clock) 1 xs)
 
 -- So are they where the packets stand in a capture file: whoever has read its bytes, in any pieces, has these frames, and with them
 -- that very list of transactions.
@@ -41,7 +41,7 @@ CapturedRunsAreRead =
     (read : List Frame) (reader : CaptureReader) (recorded : List RecordedPacket) → IsRun f fates new earlier n last →
     (let xs = exchanges f fates earlier n in
     IsRead (capture_of clock (packets_in xs)) read reader → AreOfFrames 1 read recorded →
-    (read ≡ frames clock 1 (packets_in xs)) × (transactions_in recorded ≡ heard (times clock) 1 xs))
+    (read ≡ frames clock 1 (packets_in xs)) × (transactions_in recorded ≡ received (times clock) 1 xs))
 
 -- No packet that arrives is damaged (8.3.1, 8.3.5, 8.4).
 abbrev pub NoPacketIsDamaged : Type 0
@@ -55,7 +55,7 @@ abbrev pub SetupsAreTaken : Type 0
 SetupsAreTaken =
     (f : DescriptorFile) (fates : List Fate) (new : Pair) (earlier : List Pair) (n : ℕ) (last : Pair) (times : ℕ → Option ℕ) →
     IsRun f fates new earlier n last →
-    (let transactions = heard times 1 (exchanges f fates earlier n) in
+    (let transactions = received times 1 (exchanges f fates earlier n) in
     IsFreeAfter NoRequest [] transactions × IsFreeAfter SetupRefused [] transactions)
 
 -- No packet of data is longer than bMaxPacketSize0 of the device (5.5.3, 9.6.1): none is found to be, where that or nothing is known of
@@ -66,7 +66,7 @@ NoPacketIsLong =
     IsRun f fates new earlier n last →
     AllByRecursion
     (λ t. (sizes : List ℕ) → (size_at t.to.address sizes ≡ 0) ⊎ (size_at t.to.address sizes ≡ f.device.packet) → is_long sizes t ≡ false)
-    (heard times 1 (exchanges f fates earlier n))
+    (received times 1 (exchanges f fates earlier n))
 
 -- A handshake lacks in a transaction whose token arrives only where it was lost, or where the device has another address (8.5).
 abbrev pub HandshakesAreLost : Type 0

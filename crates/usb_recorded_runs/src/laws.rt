@@ -28,7 +28,7 @@ pub fn no_packet_is_long()
 {}
 
 /// `NoHandshake` is found only where an answer or an ACK was lost, or where the device has another address, as one that has not
-/// heard the ACK of its SET_ADDRESS.
+/// received the ACK of its SET_ADDRESS.
 pub fn a_handshake_lacks_by_a_loss()
     ensures { HandshakesAreLost }
 {}

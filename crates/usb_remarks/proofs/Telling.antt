@@ -58,8 +58,8 @@ are_numbered s (f ∷ found) =
     (numbered_by s f (take_while (is_here s) found) (is_here s f) refl (are_numbered s found))
 
 -- these are all that is found at descriptors of which the first has this number, or nothing is found
-abbrev pub Told : ℕ → List (List Broken) → List Found → Type 0
-Told n broken fs = (fs ≡ found_from n broken) ⊎ (fs ≡ [])
+abbrev pub Reported : ℕ → List (List Broken) → List Found → Type 0
+Reported n broken fs = (fs ≡ found_from n broken) ⊎ (fs ≡ [])
 
 -- what is found at later descriptors is not of this one
 none_after : (s : OutlineState) (m : ℕ) (later : List (List Broken)) → s.descriptors < m → take_while (is_here s) (found_from m later) ≡ []
@@ -79,15 +79,15 @@ mine_first s (b ∷ mine) later =
     ∙ ap (λ l. found s.descriptors b ∷ l) (mine_first s mine later)
 
 -- behind it the later ones are left
-pub told_behind : (s : OutlineState) (mine : List Broken) (later : List (List Broken)) (fs : List Found) → Told s.descriptors (mine ∷ later) fs
-    → Told (s.descriptors + 1) later (drop (length (found_at s fs)) fs)
+pub reported_behind : (s : OutlineState) (mine : List Broken) (later : List (List Broken)) (fs : List Found) → Reported s.descriptors (mine ∷ later) fs
+    → Reported (s.descriptors + 1) later (drop (length (found_at s fs)) fs)
 unfolding found_at
-told_behind s mine later fs (inl e) =
+reported_behind s mine later fs (inl e) =
     let own = map (found s.descriptors) mine in
     let rest = found_from (s.descriptors + 1) later in
     inl (ap (λ (l : List Found). drop (length (take_while (is_here s) l)) l) e
     ∙ ap (λ (l : List Found). drop (length l) (own ++ rest)) (mine_first s mine later) ∙ drop-append_seam own rest)
-told_behind s mine later fs (inr e) = inr (ap (λ (l : List Found). drop (length (take_while (is_here s) l)) l) e)
+reported_behind s mine later fs (inr e) = inr (ap (λ (l : List Found). drop (length (take_while (is_here s) l)) l) e)
 
 -- what is found at a descriptor of this role is at its place
 abbrev pub AllAtPlace : Position → Role → List Found → Type 0
@@ -105,7 +105,7 @@ pub none_at : (s : OutlineState) (role : Role) (fs : List Found) → fs ≡ [] �
 unfolding found_at
 none_at s role fs none = subst (λ l. AllAtPlace s.position role (take_while (is_here s) l)) (sym none) tt
 
-pub own_at : (s : OutlineState) (role : Role) (mine : List Broken) (later : List (List Broken)) (fs : List Found) → AllBrokenAt s.position role mine → Told s.descriptors (mine ∷ later) fs
+pub own_at : (s : OutlineState) (role : Role) (mine : List Broken) (later : List (List Broken)) (fs : List Found) → AllBrokenAt s.position role mine → Reported s.descriptors (mine ∷ later) fs
     → AllAtPlace s.position role (found_at s fs)
 unfolding found_at
 own_at s role mine later fs own (inl e) =

@@ -2,10 +2,10 @@
 ghost use Rattle.std.specs.Prelude.{◌≡◌};
 ghost use Rattle.usb_remarks.specs.Contexts.{is_super, one_speed_at, speed_of};
 
+use crate::outline_state::OutlineState;
 use crate::set_speed::{high_beside, high_side, is_super_device, one_speed};
 use crate::set_start::other_speed_of;
 use crate::speed::SetSpeed;
-use crate::outline_state::OutlineState;
 use usb_fields::{byte_at, word_at};
 use usb_walk::Role;
 

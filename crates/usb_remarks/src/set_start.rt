@@ -4,10 +4,10 @@ ghost use Rattle.usb_remarks.specs.SetSpeeds.{other_speed};
 ghost use Rattle.usb_remarks.specs.SetStart.{after_own_sets, background_after, background_alone, background_by, background_of, entered, has_qualifier, looked, own_ahead, own_sets, own_side, sets_ahead, side_of_qualifier, speed_after_qualifier, surveyed};
 
 use crate::device_facts::DeviceFacts;
+use crate::outline_state::OutlineState;
 use crate::set_speed::{Background, other_speed, side_speed, speed_by};
 use crate::speed::SetSpeed;
 use crate::speed_evidence::Evidence;
-use crate::outline_state::OutlineState;
 use crate::survey::survey;
 use usb_fields::{after, byte_at, descriptor_type, prefix, word_at};
 use usb_file_data::after_sets;

@@ -23,7 +23,7 @@ abbrev pub without_causes : Bool → List Broken → List Finding
 without_causes true broken = []
 without_causes false broken = map (λ b. b.finding) broken
 
--- the number of the descriptor that comes so many later, where causes are asked for
+-- the number of the descriptor that many later, where causes are asked for
 abbrev pub counted : Bool → ℕ → ℕ → ℕ
 counted true n number = number + n
 counted false n number = number
@@ -41,7 +41,7 @@ reported r broken = record {
   descriptor = r.descriptor;
 }
 
--- so many descriptors later
+-- past this many descriptors
 abbrev pub passed : ℕ → Reported → Reported
 passed n r = record r { descriptor = counted r.has_causes n r.descriptor }
 

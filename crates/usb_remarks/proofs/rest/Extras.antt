@@ -51,11 +51,11 @@ association_breaks false = refl
 
 -- ---- what is left
 
--- so many bytes of the set are taken
+-- this many bytes of the set are taken
 abbrev pub less : ℕ → Seen → Seen
 less n v = record v { left = v.left - n }
 
--- the same with so many associations
+-- the same with this many associations
 abbrev pub taken : ℕ → ℕ → Seen → Seen
 taken n c v = record v { left = v.left - n; associations = v.associations + c }
 

@@ -38,11 +38,11 @@ use Rattle.usb_remarks.proofs.rest.Seen.{Seen}
 use Rattle.usb_remarks.proofs.rest.Sets.{outer_at, set_after, set_role}
 use Rattle.usb_remarks.proofs.rest.Steps.{behind_one, goes_on, inner_at, left_one, length_is}
 
--- no more bytes are left than so many
+-- no more bytes are left than this many
 abbrev pub few : ℕ → Aim
 few k = λ rest entries. length rest ≤ k
 
--- a walk from here leaves no more bytes than so many, where nothing is found
+-- a walk from here leaves no more bytes than this many, where nothing is found
 abbrev pub EndsFew : ℕ → Option SetSpeed → OutlineState → List ℕ → Type 0
 EndsFew k running s ahead = (fs : List Found) → fs ≡ [] → Ends (few k) running s fs ahead
 
@@ -162,7 +162,7 @@ not_nested : (room : ℕ) (in_setting : Bool) (len kind : ℕ) (body : List ℕ)
 not_nested room in_setting len kind body e =
     no_other_fault (nat_lt len 2) (nat_lt room len) (is_set_type kind) whys.ItemLength whys.Over whys.Nested _ e
 
--- from each state where so much of a set is left, no more bytes than so many are left of these
+-- from each state where so much of a set is left, no more bytes than this many are left of these
 abbrev pub GoesFew : ℕ → Option SetSpeed → ℕ → List ℕ → Type 0
 GoesFew k running room ahead = (s : OutlineState) → s.position.left ≡ room → EndsFew k running s ahead
 

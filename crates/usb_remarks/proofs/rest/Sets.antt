@@ -176,7 +176,7 @@ configuration_goes E running before c total v behind later whole outside onward 
 
 -- ---- sets
 
--- A set whose wTotalLength is the count of its bytes. Behind its first descriptor so many bytes are left as the others have.
+-- A set whose wTotalLength is the count of its bytes. Behind its first descriptor this many bytes are left as the others have.
 pub set_goes : (E : Aim) (running : Option SetSpeed) (c : Configuration) (before : List Configuration) (total : ℕ) (v : Seen) (behind : List ℕ) (later : List (List Broken))
     → has_typed_raw c ≡ false → length (set_bytes c total) ≡ total → v.left ≡ 0
     → ((w : Seen) → out w ≡ with_count c.kind (count_in c.kind (out v) + 1) (out v) → Goes (adding E (set_descriptors_by (of_set (part_of_kind c.kind) (count_in c.kind (out v))) c total)) running w later behind)

@@ -102,12 +102,12 @@ all_tells running input b leaves =
     let ended = leaves (length b) (omega arith) in
     let w = ended.walk in
     let es = entries running found b in
-    let told : flat_map findings_of es ≡ found =
+    let report : flat_map findings_of es ≡ found =
     sym (append-nil (flat_map findings_of es)) ∙ ap (λ l. flat_map findings_of es ++ l) (sym ended.all_reported) ∙ w.tells in
-    let ruled = without_causes found (subst (λ l. AllByRecursion (λ f. HasRule f.finding) l) told (all_have_rules es ended.own)) in
+    let ruled = without_causes found (subst (λ l. AllByRecursion (λ f. HasRule f.finding) l) report (all_have_rules es ended.own)) in
     record {
       tells = record {
-        reported = found_same running es ∙ told;
+        reported = found_same running es ∙ report;
         own = ended.own;
         numbered = subst (λ k. AreNumbered k es) start_number w.numbered;
         count = sym (length-map found (λ f. f.finding)) ∙ sym (as_many (map (λ f. f.finding) found) ruled);

@@ -10,7 +10,7 @@ use Rattle.usb_set.specs.declared.decoder.Progress.{Progress}
 use Rattle.usb_host.specs.declared.choice.NamedStrings.{NamedStrings}
 use Rattle.usb_host.specs.declared.transfer.TransferStage.{TransferStage}
 use Rattle.usb_host.specs.declared.transfer.TransferStage.TheVariants.{Setup, DataIn, DataOut, StatusOut, StatusIn, Completed, Failed}
-use Rattle.usb_host.specs.Transfer.{TransferView, Hearing, Taken, addressed, delayed, due, struck, taken, taken_at, token_due, packet_due}
+use Rattle.usb_host.specs.Transfer.{TransferView, HeardView, Taken, addressed, delayed, due, struck, taken, taken_at, token_due, packet_due}
 use Rattle.usb_device.specs.declared.state.State.{State}
 use Rattle.usb_device.specs.Requests.{Outcome}
 use Rattle.usb_device.specs.Step.{DeviceView, Served, replies, served}
@@ -29,22 +29,22 @@ neither (inr x) = x
 
 module _ (texts : NamedStrings) (place : Place) (k : Kept) (result : Result Progress SetFault) where
   -- nothing is asked of memory
-  abbrev Asks : Hearing → Type 0
-  Asks heard = LacksMemory heard k result ⊎ Grows texts heard place
+  abbrev Asks : HeardView → Type 0
+  Asks received = LacksMemory received k result ⊎ Grows texts received place
 
-  if_none : (b : Bool) (x y : Taken) → (Asks x.heard → ⊥) → (Asks y.heard → ⊥) → Asks (if b then x else y).heard → ⊥
+  if_none : (b : Bool) (x y : Taken) → (Asks x.received → ⊥) → (Asks y.received → ⊥) → Asks (if b then x else y).received → ⊥
   if_none true x y p q = p
   if_none false x y p q = q
 
-  struck_none : (t : TransferView) → Asks (struck t).heard → ⊥
+  struck_none : (t : TransferView) → Asks (struck t).received → ⊥
   struck_none t = if_none (nat_lt t.strikes 2) _ _ neither neither
 
-  delayed_none : (t : TransferView) → Asks (delayed t).heard → ⊥
+  delayed_none : (t : TransferView) → Asks (delayed t).received → ⊥
   delayed_none t = if_none (nat_lt t.nak_count t.naks) _ _ neither neither
 
   -- a transaction that brought nothing
   silent : (t : TransferView) (stage : TransferStage) (sent : Sent) → addressed t.address (token_due t [] stage) ≡ Some sent →
-      Asks (taken_at t stage NoReply).heard → ⊥
+      Asks (taken_at t stage NoReply).received → ⊥
   silent t Setup sent asks = struck_none t
   silent t DataIn sent asks = struck_none t
   silent t DataOut sent asks = struck_none t
@@ -59,7 +59,7 @@ module _ (texts : NamedStrings) (place : Place) (k : Kept) (result : Result Prog
     unready sent = served table packet d sent false
 
     abbrev None : TransferStage → Answer → Type 0
-    None stage reply = Asks (taken_at t stage reply).heard → ⊥
+    None stage reply = Asks (taken_at t stage reply).received → ⊥
 
     here_or : (here : Bool) (stage : TransferStage) (r : Served) → None stage r.reply → None stage NoReply →
         None stage (if here then r else replies NoReply d.state d.stage false).reply
@@ -85,10 +85,10 @@ module _ (texts : NamedStrings) (place : Place) (k : Kept) (result : Result Prog
     unready_none Completed sent e = absurd (cc)
     unready_none (Failed why) sent e = absurd (cc)
 
-pub wanting_heard : (texts : NamedStrings) (table : State → SetupPacket → Outcome) (packet : ℕ) (t : TransferView) (k : Kept) (place : Place) (sent : Sent) (fate : Fate) (d : DeviceView) (result : Result Progress SetFault) →
-    due t ≡ Some sent → Asks texts place k result (taken t (carried table packet d sent fate).reply).heard → brings fate ≡ true
-wanting_heard texts table packet t k place sent fates.Pass d result asks wants = refl
-wanting_heard texts table packet t k place sent fates.LostAck d result asks wants = refl
-wanting_heard texts table packet t k place sent fates.LostDown d result asks wants = absurd (silent texts place k result t t.stage sent asks wants)
-wanting_heard texts table packet t k place sent fates.LostUp d result asks wants = absurd (silent texts place k result t t.stage sent asks wants)
-wanting_heard texts table packet t k place sent fates.Busy d result asks wants = absurd (unready_none texts place k result table packet d t t.stage sent asks wants)
+pub wanting_received : (texts : NamedStrings) (table : State → SetupPacket → Outcome) (packet : ℕ) (t : TransferView) (k : Kept) (place : Place) (sent : Sent) (fate : Fate) (d : DeviceView) (result : Result Progress SetFault) →
+    due t ≡ Some sent → Asks texts place k result (taken t (carried table packet d sent fate).reply).received → brings fate ≡ true
+wanting_received texts table packet t k place sent fates.Pass d result asks wants = refl
+wanting_received texts table packet t k place sent fates.LostAck d result asks wants = refl
+wanting_received texts table packet t k place sent fates.LostDown d result asks wants = absurd (silent texts place k result t t.stage sent asks wants)
+wanting_received texts table packet t k place sent fates.LostUp d result asks wants = absurd (silent texts place k result t t.stage sent asks wants)
+wanting_received texts table packet t k place sent fates.Busy d result asks wants = absurd (unready_none texts place k result table packet d t t.stage sent asks wants)
