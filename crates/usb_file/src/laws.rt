@@ -52,7 +52,7 @@ pub fn no_dump_is_a_file()
 }
 
 /// If [`likeness_of`](usb_file_data::likeness_of) reports a dump and `n` more bytes, the bytes before the fault are a dump and `n`
-/// bytes follow it; before a wrong qualifier they may be a file that names no string. Each dump is reported after which a string descriptor comes next and isn't there.
+/// bytes follow it; before a wrong qualifier they may be a file that names no string. Each dump is reported after which a string descriptor is expected and isn't there.
 pub fn a_dump_ends_at_its_fault()
     ensures ends { DumpsEndAtFaults }
     ensures seen { DumpsAreSeen }

@@ -160,7 +160,7 @@ fn is_empty_string(b: &[u8]) -> bool
     byte_at(b, 0) == descriptor_length::HEAD && byte_at(b, 1) == descriptor_type::STRING
 }
 
-/// Whether the fault is that something else follows the sets of a dump, where the language list came next or a qualifier begins.
+/// Whether the fault is that something else follows the sets of a dump, where the language list is expected or a qualifier begins.
 fn goes_on_after_dump(fault: FileFault, b: &[u8]) -> bool
     ensures { result ≡ goes_on_after_dump fault.why fault.at b.now }
 {
