@@ -5,7 +5,7 @@ ghost use Rattle.usb_device.specs.Images.{body_of, count_in, find_in, has_key, h
 ghost use Rattle.usb_device.specs.inside.Places.{bytes_at, piece_of, IsPlace};
 
 use std::alloc::AllocError;
-use usb_fields::{after, byte_at, word_at, word_bytes};
+use usb_fields::{byte_at, word_at, word_bytes};
 
 /// How many bytes there are before those of a piece.
 const HEADER: usize = 8;
@@ -84,7 +84,7 @@ pub(crate) fn first(pieces: &[u8]) -> Option<(Piece<'_>, &[u8])>
     if pieces.len() < HEADER {
         return None;
     }
-    let (body, later) = cut(after(pieces, HEADER), count(pieces));
+    let (body, later) = cut(past(pieces, HEADER), count(pieces));
     let piece = Piece {
         kind: byte_at(pieces, 0),
         index: byte_at(pieces, 1),
@@ -92,6 +92,15 @@ pub(crate) fn first(pieces: &[u8]) -> Option<(Piece<'_>, &[u8])>
         body,
     };
     Some((piece, later))
+}
+
+/// The bytes after the first this many, which there are.
+#[inline(always)]
+pub(crate) fn past(bytes: &[u8], count: usize) -> &[u8]
+    requires { count ≤ length bytes.now }
+    ensures { result.now ≡ drop count bytes.now }
+{
+    &bytes[count..]
 }
 
 /// The first bytes, as many as `count`, or all if there are fewer, and the others.
