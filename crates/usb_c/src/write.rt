@@ -12,7 +12,7 @@ ghost use Rattle.usb_c.specs.Writes.{TellsNext, bytes_of, wrong_write};
 
 use crate::answer::{Answer, Verdict};
 use crate::device_owner::NzgSetup;
-use crate::transaction::{NzgTransaction, answer_of, report};
+use crate::transaction::{NzgTransaction, answer_of, transaction_numbers};
 use crate::transfer::{tell_received, wrong_transfer};
 use crate::transfer_numbers::NzgTransfer;
 use usb_fields::{Direction, Setup, Stage, Transaction};
@@ -98,7 +98,7 @@ fn tell_next(write: &Write, bytes: &[u8], transaction: &mut NzgTransaction) -> V
     let Some(due) = write.next(bytes) else {
         return Verdict::Open(0);
     };
-    *transaction = report(&due);
+    *transaction = transaction_numbers(&due);
     Verdict::Due(usize::from(write.acknowledged()), count_bytes(&due))
 }
 
