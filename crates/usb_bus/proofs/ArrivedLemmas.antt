@@ -56,12 +56,12 @@ module _ (sends : Bool) (t : TransferView) (at : t.stage ≡ DataOut) (refused :
   dooms (DataReply toggle bytes) e = tt
   dooms NakReply e = by_naks (nat_lt t.nak_count t.naks)
     where
-      by_naks : (few : Bool) → (let x : Taken = if few then record { arrived = Goes; transfer = record t { nak_count = suc t.nak_count } } else failed t whys.Busy in Dooms x.transfer.stage)
+      by_naks : (few : Bool) → (let x : Taken = if few then record { received = Goes; transfer = record t { nak_count = suc t.nak_count } } else failed t whys.Busy in Dooms x.transfer.stage)
       by_naks true = subst (λ s. Dooms s) (sym at) tt
       by_naks false = tt
   dooms NoReply e = by_strikes (nat_lt t.strikes 2)
     where
-      by_strikes : (few : Bool) → (let x : Taken = if few then record { arrived = Goes; transfer = record t { strikes = suc t.strikes } } else failed t whys.NoAnswer in Dooms x.transfer.stage)
+      by_strikes : (few : Bool) → (let x : Taken = if few then record { received = Goes; transfer = record t { strikes = suc t.strikes } } else failed t whys.NoAnswer in Dooms x.transfer.stage)
       by_strikes true = subst (λ s. Dooms s) (sym at) tt
       by_strikes false = tt
 
@@ -362,7 +362,7 @@ module _ (answer : State → SetupPacket → Outcome) (packet : ℕ) where
 
         abbrev struck_to : Bool → TransferStage
         struck_to few =
-            let x : Taken = if few then record { arrived = Goes; transfer = record e.host.transfer { strikes = suc e.host.transfer.strikes } } else failed e.host.transfer whys.NoAnswer in x.transfer.stage
+            let x : Taken = if few then record { received = Goes; transfer = record e.host.transfer { strikes = suc e.host.transfer.strikes } } else failed e.host.transfer whys.NoAnswer in x.transfer.stage
 
         by_strikes : (few : Bool) (stage : DeviceStage) → (needed (struck_to few) stage ≡ 1) ⊎ IsDoomed (struck_to few) stage
         by_strikes true stage = inl (ap (λ st. needed st stage) is)
