@@ -43,6 +43,11 @@ export class Held {
         this.set(bytes);
     }
 
+    // The bytes from this one on, where they lie. The whole frees them.
+    from(at) {
+        return Object.assign(Object.create(Held.prototype), this, { place: this.place + at, length: this.length - at });
+    }
+
     static struct(exports, kind) {
         return new Held(exports, new Uint8Array(structs[kind].size));
     }
@@ -159,6 +164,8 @@ function call(exports, name, it, given) {
     return hasRoom && result.status === NO_ROOM ? once(exports, name, it, given, result.length) : result;
 }
 
+// The calls that a module has.
 export function callsOver(exports) {
-    return Object.fromEntries(Object.entries(declared).map(([name, it]) => [name, (...given) => call(exports, name, it, given)]));
+    const known = Object.entries(declared).filter(([name]) => name in exports);
+    return Object.fromEntries(known.map(([name, it]) => [name, (...given) => call(exports, name, it, given)]));
 }

@@ -1,4 +1,4 @@
-import type { Calls, Descriptor, Finding, Remark } from './declared.mjs';
+import type { Calls, Descriptor, Finding, RecordingCalls, Remark } from './declared.mjs';
 
 export type * from './declared.mjs';
 export type Speed = '' | 'low' | 'full' | 'high' | 'super';
@@ -14,6 +14,65 @@ export class Fault extends Error {
 
 export interface NamedField { name: string; place: number; width: number; value: bigint; }
 export interface Walked extends Descriptor { bytes: Uint8Array; fields: NamedField[]; }
+
+export interface DeviceAddress { bus: number; device: number; }
+
+/** What USB 2.0 forbids: T1 in a transfer, C1 to C8 in a device's conversation, P1 to P12 in packets, these with the number of their frame.
+ * The time is in nanoseconds. What isn't known is null. */
+export interface Forbidden {
+    kind: 'finding';
+    name: string;
+    message: string;
+    section: string;
+    time: bigint | null;
+    device: DeviceAddress | null;
+    frame: number | null;
+}
+
+/** A control transfer of endpoint zero, with what is found in it. It ended, or began where no end came, at `time`. An 'error' has the status
+ * of the host's system, and so has 'refused'. Of the `length` bytes of data that came or went, `data` are in the recording. */
+export interface Request {
+    kind: 'request';
+    time: bigint | null;
+    begun: bigint | null;
+    device: DeviceAddress;
+    setup: Uint8Array;
+    data: Uint8Array;
+    length: number;
+    ending: 'no end' | 'done' | 'stall' | 'error' | 'refused';
+    status: number;
+    isCut: boolean;
+    findings: Forbidden[];
+}
+
+/** A recording in pieces: pcap, pcapng or usbmon's text. It has memory of the module until it is closed. */
+export interface Recording {
+    /** What is over with the next bytes, in order. A fault of the recording is thrown once what came before it was given: by the next call,
+     * of no bytes at the end of the file. */
+    feed(piece: Uint8Array): (Request | Forbidden)[];
+    /** The requests so far whose end didn't come. */
+    unended(): Request[];
+    /** Where the part begins that isn't whole, and how many bytes of it came, if any did: a file that ends here is cut. */
+    cut(): { place: number; length: number } | null;
+    /** The devices so far, in the order in which they are first seen, and how many findings each has; null for packets of which no device
+     * is known. */
+    devices(): { device: DeviceAddress | null; findings: number }[];
+    /** The descriptors of a device that came, as usbdesc capture --file writes them. A Fault of kind 'lacking' says what didn't. */
+    file(device: DeviceAddress): Uint8Array;
+    close(): void;
+}
+
+export interface Recordings {
+    /** One that has read nothing. */
+    open(): Recording;
+    /** Each export of nozzlegorse.h for recordings by its name, over values. */
+    calls: RecordingCalls;
+    /** Pages of 64 KB that the module has taken. */
+    pages(): number;
+}
+
+/** Where a module is: its bytes, a Response or a URL. */
+export type Source = Uint8Array | ArrayBuffer | Response | URL;
 
 export interface Library {
     explain(bytes: Uint8Array | string, options?: { brief?: boolean; places?: boolean; utf8?: boolean; formats?: boolean; loose?: boolean; hex?: boolean; speed?: Speed }): { text: string; fault: Fault | null };
@@ -39,7 +98,11 @@ export interface Library {
     /** Each whole set and each device descriptor in any bytes. */
     find(bytes: Uint8Array): Generator<{ kind: 'set' | 'device'; place: number; bytes: Uint8Array }>;
     string(bytes: Uint8Array, descriptor: Descriptor): string;
-    /** Each export of nozzlegorse.h by its name, over values: devices, hosts, transfers and writes too. */
+    /** What reads recordings. Its module, recordings.wasm beside this file, or its bytes, a Response or a URL, is loaded when this is first
+     * called, and never where it isn't. */
+    recordings(source?: Source): Promise<Recordings>;
+    /** Each export of nozzlegorse.h by its name, over values: devices, hosts, transfers and writes too. Those for recordings are calls of
+     * `recordings`. */
     calls: Calls;
     /** Pages of 64 KB that the library has taken. */
     pages(): number;
@@ -48,5 +111,5 @@ export interface Library {
 /** The enumerations of nozzlegorse.h, without nzg_: names and numbers. */
 export const enumerations: Record<string, Record<string, number>>;
 
-/** The library, of the module beside this file, or of its bytes, a Response or a URL. */
-export function load(source?: Uint8Array | ArrayBuffer | Response | URL): Promise<Library>;
+/** The library, of nozzlegorse.wasm beside this file, or of its bytes, a Response or a URL. */
+export function load(source?: Source): Promise<Library>;

@@ -5,27 +5,13 @@
 //     console.log(usb.explain(bytes).text);
 import { callsOver } from './calls.mjs';
 import { enumerations } from './declared.mjs';
+import { done, Fault } from './faults.mjs';
+import { recordingsOver } from './recordings.mjs';
 
-export { enumerations };
+export { enumerations, Fault };
 
 const utf8 = new TextDecoder();
 const SPEEDS = ['', 'low', 'full', 'high', 'super'];
-const KINDS = Object.fromEntries(Object.entries(enumerations.status).map(([name, number]) => [number, name.slice(4).toLowerCase()]));
-
-// What is wrong: its kind is that of enum nzg_status, as 'set_fault'; number and place are those of `usbdesc`. Of a 'text_fault' the
-// place is a line, which has a column.
-export class Fault extends Error {
-    constructor({ status, number, place, length }) {
-        const kind = KINDS[status], column = kind === 'text_fault' ? length : 0;
-        super(column ? `hexadecimal fault line ${place} column ${column}` : `${kind.replaceAll('_', ' ')} ${number} at ${place}`);
-        Object.assign(this, { name: 'Fault', kind, number, place, column });
-    }
-}
-
-function done(answer) {
-    if (answer.status) throw new Fault(answer);
-    return answer;
-}
 
 function speedOf(name) {
     const number = SPEEDS.indexOf(name);
@@ -95,8 +81,26 @@ function facts(calls) {
     };
 }
 
+// The exports of a module, and how many pages of 64 KB it has taken.
+async function opened(source) {
+    const { instance: { exports } } = await WebAssembly.instantiate(await moduleOf(source), {});
+    return { exports, pages: () => exports.memory.buffer.byteLength >> 16 };
+}
+
+// What reads recordings. Its module is loaded when it is first asked for, and after a failure anew.
+function recordingsOnce() {
+    let loading = null;
+    async function loaded(source) {
+        const { exports, pages } = await opened(source);
+        return { ...recordingsOver(exports), pages };
+    }
+    return (source = new URL('recordings.wasm', import.meta.url)) => loading ??= loaded(source).catch(failure => {
+        loading = null;
+        throw failure;
+    });
+}
+
 export async function load(source = new URL('nozzlegorse.wasm', import.meta.url)) {
-    const { instance } = await WebAssembly.instantiate(await moduleOf(source), {});
-    const calls = callsOver(instance.exports);
-    return { ...texts(calls), ...facts(calls), calls, pages: () => instance.exports.memory.buffer.byteLength >> 16 };
+    const { exports, pages } = await opened(source), calls = callsOver(exports);
+    return { ...texts(calls), ...facts(calls), recordings: recordingsOnce(), calls, pages };
 }

@@ -236,11 +236,13 @@ REASONS = [
     ),
     (
         "checks",
-        "A pass over the settings enters all interfaces before the rules are checked in the order of the bytes: 26 of 55 instructions a setting. A small file takes 105 to fill its tables with zeros. A table of 256 bytes less gains nothing. Each descriptor is counted, so that a finding has its number: 5 instructions, before which these rows had 1.32, 1.19, 1.31 and 1.31.",
+        "A pass over the settings enters all interfaces before the rules are checked in the order of the bytes: 29 of 58 instructions a setting. A small file takes 105 to fill its tables with zeros. A table of 256 bytes less gains nothing. At each descriptor a test tells whether it is to be counted: 3 instructions, before which these rows had 1.32, 1.19, 1.31 and 1.31.",
     ),
     ("walk", "The walk stands in a library of its own, which is a call more."),
-    ("recordings, the same, usbmon's text", "Each word is looked for from the start of its line: that takes 170 of 406."),
-    ("recordings", "The reader takes some 500 instructions a frame, what observes and writes its lines 450. Nothing was tried yet."),
+    (
+        "recordings",
+        "A frame's bytes are a list of its own: to ask for it, fill and free it takes some 230 instructions of 853 to 1,539. Through the list that holds a part these rows took 23.8, 12.8, 74.2 and 81.6, usbmon's text 406. Read where it lies they took 20.1, 9.65, 59.3, 67.0 and 87.0. That a record's head isn't handed on as what any part may say brought the rest.",
+    ),
     ("transactions, status stage of a header", "The next set's decoder is filled with 380 zeros, and what was read is moved through memory."),
 ]
 

@@ -4,7 +4,6 @@ writes; and whether the lines of `python3 -m nozzlegorse.capture` are of the sam
 
     .ci/playing/recordings.py PROGRAM    with NOZZLEGORSE_LIBRARY and PYTHONPATH=python
 """
-import glob
 import json
 import os
 import re
@@ -15,10 +14,8 @@ import tempfile
 sys.path.append(os.path.abspath(f"{os.path.dirname(os.path.abspath(__file__))}/../.."))
 import nozzlegorse as usb  # noqa: E402
 from nozzlegorse.recordings import Request  # noqa: E402
-from readings import recorded  # noqa: E402
+from recorded_again import FILES, bad, read_again  # noqa: E402
 
-ENDINGS = {"unseen": "no end", "failed": "error"}
-FILES = sorted(it for it in glob.glob("testdata/captures/*") if it.endswith((".pcap", ".pcapng", ".text")))
 PROGRAM = sys.argv[1]
 
 
@@ -38,22 +35,6 @@ def numbers(it):
     if isinstance(it, Request):
         return it.time, it.device, it.setup, it.data, it.length, it.ending, it.status, it.is_cut, tuple(f"{one.message} ({one.section})" for one in it.findings)
     return it.time, it.device, it.frame, f"{it.message} ({it.section})"
-
-
-def read_again(data):
-    """The same by the second reading."""
-    recording = recorded.Recording(data)
-    all_ = [*recording.order, *recording.open.values(), *recording.bus.open.values()]
-    cut = recording.cut is not None and (recording.cut, len(data) - recording.cut)
-    return [of_reading(it) for it in all_], list(recording.findings().items()), cut or None
-
-
-def of_reading(it):
-    if "words" in it:
-        return it["place"][1], it["device"], it["place"][0], it["words"]
-    kind, status = it["ending"]
-    return (it["time"], it["device"], it["setup"], it["data"], it["length"], ENDINGS.get(kind, kind), status if kind in ("failed", "refused") else 0,
-            it["cut"], tuple(recorded.FINDINGS[name] for name in it.get("found", [])))
 
 
 def differ(what, came, wanted):
@@ -92,15 +73,6 @@ def lines_are_of(data):
     differ("requests", requests, [it[:5] for it in shown if len(it) > 4])
     differ("findings", [len(it["findings"]) for it in lines if it["kind"] == "request"], [len(it[8]) for it in shown if len(it) > 4])
     differ("cut", lines[-1]["cut"], cut and list(cut))
-
-
-def bad():
-    """Recordings that are none, or none from some place on, and what the program says of them."""
-    pcap, pcapng = (open(f"testdata/captures/{name}", "rb").read() for name in ("qemu-usb-serial.pcap", "clocks.pcapng"))
-    text = open("testdata/captures/linux-gadget-acm.text", "rb").read()
-    yield from (b"\0\0\0\0", pcapng[:8] + b"\0\0\0\0" + pcapng[12:], pcapng[:40] + b"\x11" + pcapng[41:], text + b"no line\n" + text, text[:300] + text[305:])
-    yield from (pcapng[:at] + bytes([pcapng[at] ^ 0x55]) + pcapng[at + 1:] for at in range(0, len(pcapng), 37))
-    yield pcap[1:]
 
 
 def main():

@@ -1,5 +1,5 @@
 """The package for npm in Chromium, beside the program: it is served from this machine, as a page has it, and each input of testdata is
-explained, listed and checked."""
+explained, listed and checked, and each recording read."""
 
 import base64
 import contextlib
@@ -7,11 +7,13 @@ import functools
 import glob
 import http.server
 import json
+import shutil
 import subprocess
 import threading
 
 from in_browser import chromium
 from playing.built import ROOT
+from processors import recordings
 
 SPEEDS = ("", "low", "full", "high", "super")
 # The options of explain, by a bit each.
@@ -27,12 +29,13 @@ TEXTS = """(() => {
 
 
 class Quiet(http.server.SimpleHTTPRequestHandler):
-    """A server that says nothing, and knows what a module is."""
+    """A server that says nothing, knows what a module is, and notes what it is asked for."""
 
     extensions_map = {".mjs": "text/javascript", ".wasm": "application/wasm", "": "text/html"}
+    requests = []
 
     def log_message(self, *_):
-        pass
+        self.requests.append(self.path)
 
 
 @contextlib.contextmanager
@@ -75,6 +78,7 @@ def is_right(package, program, said):
         return True
     inputs = sorted(it for end in ("file", "bin", "descriptors") for it in glob.glob(f"{ROOT}/testdata/**/*.{end}", recursive=True))
     count, faults = 0, []
+    shutil.copy(f"{recordings.PLACE}/recordings.mjs", f"{package}/recordings_as_told.mjs")
     with served(package) as address, chromium.opened() as page:
         page.open(f"{address}empty")
         page.value(LOAD)
@@ -82,7 +86,8 @@ def is_right(package, program, said):
             number, found = differing(page, program, path)
             count += number
             faults += [f"{path}: {it}" for it in found]
+        are_read = recordings.in_chromium(page, Quiet.requests, program, said)
     for it in faults[:10]:
         said(f"npm: in Chromium: {it}")
     said(f"npm: {chromium.version()}: {len(inputs)} inputs: {count - len(faults)} texts as of usbdesc, {len(faults)} others")
-    return not faults
+    return not faults and are_read

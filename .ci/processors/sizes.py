@@ -6,7 +6,6 @@ import re
 import struct
 
 import declared
-import targets
 from playing.built import LLD, fail, run
 
 NOT_THERE = 8  # SHT_NOBITS
@@ -27,12 +26,13 @@ GROUPS = {
     "remarks": r"remarks",
     "texts": r"show|check|explain|build|text|rule|with_strings",
     "packets": r"packet_\w+|crc\d+",
-    "everything": r"\w+",
+    "recordings": r"capture_\w+",
+    "all but recordings": r"(?!capture_)\w+",
 }
 # What none may be over, of proved code and of code near to that: of thumbv7em, thumbv6m and riscv32imac.
 BOUNDED = ("thumbv7em", "thumbv6m", "riscv32imac")
 BOUNDS = {
-    "a device": (5_000, 6_300, 8_000),
+    "a device": (5_000, 6_400, 8_050),
     "the image of a device": (33_000, 39_000, 52_000),
     "a device with its image and a judge": (46_000, 58_000, 74_000),
     "a host": (32_000, 40_000, 51_000),
@@ -45,23 +45,22 @@ BOUNDS = {
     "remarks": (41_000, 50_000, 64_000),
     "texts": (206_000, 214_000, 260_000),
     "packets": (3_300, 3_650, 4_400),
-    "everything": (256_000, 275_000, 337_000),
+    "recordings": (44_500, 56_500, 68_000),
+    "all but recordings": (256_000, 275_000, 337_000),
 }
 # Of a device: all that a program keeps but the room that it lends, and each frame of the calls.
 STRUCT, STRUCT_BOUND, FRAME_BOUND = "nzg_device", 330, 200
 
 
-# A module for npm, as it is and packed by gzip: with every call, and without those for recordings.
-OF_NPM = {"every call": (320_000, 110_000), "all calls but those for recordings": (320_000, 110_000)}
+# The modules for npm, as they are and packed by gzip: the library, and what it loads where a recording is read.
+OF_NPM = {"nozzlegorse.wasm": (320_000, 110_000), "recordings.wasm": (57_000, 25_500)}
 
 
-def modules(made, room):
-    """The sizes of the modules for npm of an object, each with its bounds."""
-    for (what, bounds), prefix in zip(OF_NPM.items(), ("", "nzg_capture_")):
-        names = [it for it in declared.calls(declared.text_of_header()) if not prefix or not it.startswith(prefix)]
-        with open(targets.shrunk(targets.wasm(made, room, names)), "rb") as it:
-            module = it.read()
-        yield what, (len(module), len(gzip.compress(module, 9, mtime=0))), bounds
+def of_npm(files):
+    """The sizes of the modules among the files for npm, each with its bounds."""
+    for name, module in files.items():
+        if name.endswith(".wasm"):
+            yield name, (len(module), len(gzip.compress(module, 9, mtime=0))), OF_NPM[name]
 
 
 def bound_of(target, group):

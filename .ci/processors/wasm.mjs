@@ -5,11 +5,23 @@ import { resolve } from 'node:path';
 
 const [folder, usbdesc, testdata] = process.argv.slice(2);
 const { load, Fault, enumerations } = await import(`${resolve(folder)}/index.mjs`);
+const { calls: declared } = await import(`${resolve(folder)}/declared.mjs`);
 const usb = await load();
 const SPEEDS = ['', 'low', 'full', 'high', 'super'];
 const below = place => readdirSync(place).sort().flatMap(it => statSync(`${place}/${it}`).isDirectory() ? below(`${place}/${it}`) : [`${place}/${it}`]);
 const program = (words, input) => spawnSync(usbdesc, words, { input, maxBuffer: 1 << 28 }).stdout;
+const MEMORY = ['memory', 'nzg_lowered_alloc', 'rattle_dealloc'];
 const told = { texts: 0, others: 0, built: 0, descriptors: 0, fields: 0, findings: 0 };
+
+// Each call is in one module alone, and what all have is for memory.
+function exportsAreOnce() {
+    const modules = readdirSync(folder).filter(it => it.endsWith('.wasm')).map(it => new WebAssembly.Module(readFileSync(`${folder}/${it}`)));
+    const names = modules.map(it => WebAssembly.Module.exports(it).map(({ name }) => name));
+    const rest = names.map(it => it.filter(name => !MEMORY.includes(name))), ofHeader = Object.keys(declared);
+    const isOnce = names.every(it => MEMORY.every(name => it.includes(name))) && rest.flat().sort().join() === ofHeader.sort().join();
+    console.log(`${modules.length} modules of ${rest.map(it => it.length).join(' and ')} calls: ${isOnce ? 'each of the header' : 'NOT each of the header, and'} once`);
+    return isOnce;
+}
 
 function compare(what, ours, theirs) {
     told[ours === theirs ? 'texts' : 'others']++;
@@ -101,4 +113,4 @@ for (const name of inputs) {
 const keyboard = new Uint8Array(readFileSync(`${testdata}/dumps/holtek-keyboard.descriptors`));
 console.log(`${inputs.length} inputs: ${told.texts} texts as of usbdesc, ${told.others} others; ${told.built} built back, ${ends} enumerated; ${told.descriptors} descriptors with ${told.fields} fields; ${usb.pages()} pages of memory`);
 console.log(`explain of a keyboard's dump ${median(() => usb.explain(keyboard))} ms`);
-process.exit(told.others ? 1 : 0);
+process.exit(exportsAreOnce() && !told.others ? 0 : 1);

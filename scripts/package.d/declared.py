@@ -12,6 +12,8 @@ WIDTHS = {"bool": 1, "uint8_t": 1, "uint16_t": 2, "uint32_t": 4, "uint64_t": 8, 
 HELD = ("held", "held", 0)
 # How the length of the pointer before it is called.
 LENGTH = re.compile(r"(\w+_)?len|room")
+# How the names of calls for recordings begin. For npm they have a module and a type of their own.
+OF_RECORDINGS = "nzg_capture_"
 
 
 class Field(NamedTuple):
@@ -173,6 +175,9 @@ def types(text):
     known, lines = structs(text), ["// Made of nozzlegorse.h."]
     for name, it in known.items():
         lines.append(f"export interface {camel(name)} {{ {' '.join(f'{field.name}: {type_of(field.kind, field.count, known)};' for field in it.fields)} }}")
-    lines.append("export interface Calls {")
-    lines += [f"    {name}({', '.join(parameters_of(it, known))}): {result_of(it, known)};" for name, it in calls(text).items()]
-    return "\n".join([*lines, "}"]) + "\n"
+    for of_recordings, name in enumerate(("Calls", "RecordingCalls")):
+        declared = {name: it for name, it in calls(text).items() if name.startswith(OF_RECORDINGS) == of_recordings}
+        lines.append(f"export interface {name} {{")
+        lines += [f"    {name}({', '.join(parameters_of(it, known))}): {result_of(it, known)};" for name, it in declared.items()]
+        lines.append("}")
+    return "\n".join(lines) + "\n"

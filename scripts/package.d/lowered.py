@@ -49,6 +49,17 @@ insertelement shufflevector switch br unreachable""".split())
 OVER_POINTERS = set("extractvalue insertvalue ret phi select".split())
 # What a module may leave to others: memory, and functions of LLVM for bytes and bits. The last is the start of an unproved module.
 DECLARED = re.compile(r"rattle_(?:re|de)?alloc|llvm\.(?:mem(?:set|move|cpy)|trap|assume|ct(?:pop|tz|lz)|bswap|[us](?:min|max|(?:add|sub|mul)\.with\.overflow)|lifetime\.\w+)[\w.]*|__sysv_signal")
+# Where an export takes a slice: a place gets a pointer that isn't null, and behind it the length.
+SLICE = re.compile(
+    rf"""  ({NAME}) = icmp eq ptr (%a\d+), null
+  ({NAME}) = zext i1 \1 to i64
+  ({NAME}) = mul i64 \3, 4096
+  ({NAME}) = getelementptr i8, ptr \2, i64 \4
+  store ptr \5, ptr ({NAME}), align 8
+  ({NAME}) = getelementptr i8, ptr \6, i64 8
+  store i64 (%a\d+), ptr \7, align 8
+"""
+)
 # Attributes that say something of x86-64, or ask for what isn't there elsewhere.
 OF_X86 = r'"(?:target-cpu|target-features|tune-cpu|probe-stack|stack-probe-size|frame-pointer)"="[^"]*"|\b(?:sanitize_address|uwtable(?:\(\w+\))?)\b'
 # What the sources say is inlined, for speed. In the smallest code none of it is. In small code what writes and reads texts isn't, by which
@@ -68,6 +79,19 @@ OF_CALLS = re.compile(
 )
 # What is smaller in some of the places where it is called.
 OF_FEW = re.compile(r'define internal [^@]*@"usb_device::(?:beside::is_open|sets::Settings::has_alternate)"\(.* (#\d+) \{\n')
+
+# How many functions each of these lists names in a module with a device's calls: one that lost its name is told by it.
+NAMED = {"OF_DEVICES": (OF_DEVICES, 20), "OF_CALLS": (OF_CALLS, 10), "OF_FEW": (OF_FEW, 2)}
+
+
+def misnamed(text):
+    """The first of the lists that doesn't name as many functions of a module as it is to, or nothing."""
+    heads = [line for line in text.splitlines(keepends=True) if line.startswith("define internal ")]
+    for name, (forms, wanted) in NAMED.items():
+        if (found := sum(bool(forms.fullmatch(it)) for it in heads)) != wanted:
+            return f"{name} names {found} functions in place of {wanted}"
+    return None
+
 
 # Two kinds of a function's attributes more: those without what is inlined, and those that don't say either.
 APART, JOINED = 7, 8
@@ -175,6 +199,12 @@ def constant(line):
         kinds += [kind, "i32"] if kind == "ptr" else [kind]
         values += [value, "i32 0"] if kind == "ptr" else [value]
     return f"{cut[1]}<{{ {', '.join(kinds)} }}> <{{ {', '.join(values)} }}>{cut[4]}\n"
+
+
+def marked(found):
+    """The lines of a slice as one, for which there is a rule, but for the exports that are left as they are."""
+    head = found.string.rfind("define ", 0, found.start())
+    return found[0] if counted.AS_IT_IS.match(found.string, head) else f"  slice {' '.join(found.groups())}\n"
 
 
 def numbered(number, kind):
@@ -300,6 +330,19 @@ class Lowering:
     def compared_with_null(self, line):
         return [line]
 
+    @rule("slice", rf"slice ({NAME}) (%a\d+) {NAME} {NAME} ({NAME}) ({NAME}) ({NAME}) (%a\d+)")
+    def slice_taken(self, line, is_null, pointer, held, place, behind, length):
+        """Where an export takes a slice. Null goes to 1 in place of 4096, in fewer bytes: neither is read."""
+        by = self.fresh()
+        return [
+            f"{is_null} = icmp eq ptr {pointer}, null",
+            f"{by} = zext i1 {is_null} to i32",
+            f"{held} = getelementptr i8, ptr {pointer}, i32 {by}",
+            *self.put("ptr", held, place, 8),
+            f"{behind} = getelementptr i8, ptr {place}, i64 8",
+            f"store i64 {length}, ptr {behind}, align 8",
+        ]
+
     # --- calls -----------------------------------------------------------------------------------------------------------
 
     @rule("call", rf"(?:tail )?call void @llvm\.mem(?:set|move|cpy)\.[\w.]+\(ptr {VALUE}, (?:ptr {VALUE}|i8 -?\d+|i8 {NAME}), i64 ({VALUE}), i1 false\)")
@@ -398,7 +441,7 @@ class Lowering:
 
     def module(self, text):
         """The whole module. What was rewritten is there as often as it was to be."""
-        lines = text.splitlines(keepends=True)
+        lines = SLICE.sub(marked, text).splitlines(keepends=True)
         self.own = {found[1] for line in lines if line.startswith("define ") and (found := re.search(r" (#\d+) \{$", line))}
         out, inside = [], False
         for line in lines:

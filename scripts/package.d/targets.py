@@ -101,13 +101,20 @@ def plain_package(made, target, version, room, epoch):
     return f"{top}.tar.gz", archives.packed({f"{top}/{path}": it for path, it in whole.items()}, epoch)
 
 
-def wasm(made, room, names=None):
-    """The module with every export, or with these, and the two for memory. The stack lies first, so that one too deep is a trap."""
+def exports_of_modules():
+    """The exports of each module for npm. Those for recordings have one of their own, which is loaded where the first one is read."""
+    names = declared.calls(declared.text_of_header())
+    of_recordings = [it for it in names if it.startswith(declared.OF_RECORDINGS)]
+    return {"nozzlegorse.wasm": [it for it in names if it not in of_recordings], "recordings.wasm": of_recordings}
+
+
+def wasm(made, room, names):
+    """A module with these exports, and the two for memory. The stack lies first, so that one too deep is a trap."""
     parts = [made, *(compiled(f"{HERE}/{name}.c", "wasm32", f"{room}/{name}.o") for name in ("lowered_memory", "wasm_memory", "wasm_wide"))]
-    names = [*(names or declared.calls(declared.text_of_header())), "nzg_lowered_alloc", "rattle_dealloc"]
+    names = [*names, "nzg_lowered_alloc", "rattle_dealloc"]
     run(linker(room, "wasm-ld"), "--no-entry", "--gc-sections", "--stack-first", "-z", "stack-size=1048576", "-O2", "--strip-all", "--compress-relocations",
-        *(f"--export={it}" for it in names), *parts, "-o", f"{room}/nozzlegorse.wasm")
-    return f"{room}/nozzlegorse.wasm"
+        *(f"--export={it}" for it in names), *parts, "-o", f"{room}/module.wasm")
+    return f"{room}/module.wasm"
 
 
 def shrunk(module):
@@ -120,15 +127,11 @@ def shrunk(module):
 def javascript(made, version, room):
     """The files of the package for npm, by their names."""
     header = declared.text_of_header()
-    files = {name: archives.read(f"{ROOT}/javascript/{name}") for name in ("index.mjs", "index.d.ts", "calls.mjs")}
-    about = json.loads(archives.read(f"{ROOT}/javascript/package.json")) | {"version": version}
-    return files | {
-        "package.json": json.dumps(about, indent=4).encode() + b"\n",
-        "declared.mjs": declared.javascript(header).encode(),
-        "declared.d.mts": declared.types(header).encode(),
-        "nozzlegorse.wasm": archives.read(shrunk(wasm(made, room))),
-        "LICENSE": archives.read(f"{ROOT}/LICENSE"),
-    }
+    files = {name: archives.read(f"{ROOT}/javascript/{name}") for name in ("index.mjs", "index.d.ts", "calls.mjs", "faults.mjs", "recordings.mjs")}
+    files |= {name: archives.read(shrunk(wasm(made, room, calls))) for name, calls in exports_of_modules().items()}
+    files |= {"declared.mjs": declared.javascript(header).encode(), "declared.d.mts": declared.types(header).encode(), "LICENSE": archives.read(f"{ROOT}/LICENSE")}
+    about = json.loads(archives.read(f"{ROOT}/javascript/package.json")) | {"version": version, "files": sorted(files)}
+    return files | {"package.json": json.dumps(about, indent=4).encode() + b"\n"}
 
 
 def package(made, target, version, room, epoch):

@@ -8,7 +8,7 @@ use nozzlegorse::host::Limits;
 use std::alloc::Global;
 
 /// What came of it: how often the host began, and in how many transactions it has read all descriptors.
-pub(crate) fn told(alloc: Global, bytes: &[u8], fates: &[Fate]) -> Result<String> {
+pub(crate) fn report(alloc: Global, bytes: &[u8], fates: &[Fate]) -> Result<String> {
     let file = read_file(alloc, bytes)?;
     let description = Description::new(alloc, file, Speed::Full)?;
     let run = enumerate(alloc, &description, Limits::new(1, 16, 3)?, fates);

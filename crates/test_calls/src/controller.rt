@@ -95,14 +95,14 @@ impl<'d> Controller<'d> {
     /// Loads the next packet, or sets the stall bit. In Written nothing is loaded.
     fn load(&mut self) {
         self.own();
-        let is_due = matches!(
+        let comes_next = matches!(
             self.device.stage(),
             DeviceStage::Sending
                 | DeviceStage::StatusIn
                 | DeviceStage::Receiving
                 | DeviceStage::Halted
         );
-        if self.loaded.is_some() || !is_due {
+        if self.loaded.is_some() || !comes_next {
             return;
         }
         let token = Transaction {

@@ -136,7 +136,7 @@ impl Course {
     }
 }
 
-/// Makes this request, in at most so many transactions.
+/// Makes this request, in at most this many transactions.
 pub(crate) fn make(
     alloc: Global,
     end: &mut End<'_>,

@@ -12,8 +12,8 @@ use usb_tool::FatesFault;
 const NO_MEMORY: &str = "out of memory";
 
 /// Looks that each says this.
-fn say<T: Display>(alloc: Global, told: &[(T, &str)]) -> Result<()> {
-    for (fault, message) in told {
+fn say<T: Display>(alloc: Global, report: &[(T, &str)]) -> Result<()> {
+    for (fault, message) in report {
         let text = format!(in alloc; "{fault}")?;
         ensure!(text.as_str() == *message, "{text}");
     }
@@ -93,14 +93,14 @@ fn faults_of_descriptions(rt: HostRuntime) -> Result<()> {
     let texts = "the strings are not those that the file names, or a language stands twice";
     let speed = "no device of this speed has such descriptors";
     let unwritable = "a set has no bytes, or the sets are not as declared";
-    let told = [
+    let report = [
         (DescriptionFault::Finding(finding), "V12 main 0 0 1"),
         (DescriptionFault::Texts, texts),
         (DescriptionFault::Speed, speed),
         (DescriptionFault::Memory, NO_MEMORY),
         (DescriptionFault::Unwritable, unwritable),
     ];
-    say(rt.alloc(), &told)
+    say(rt.alloc(), &report)
 }
 
 #[test]

@@ -85,7 +85,7 @@ impl<'d> Bench<'d> {
     }
 }
 
-/// The ACK of SET_ADDRESS is lost: the device hears nothing of the next three transactions, and there is a second attempt.
+/// The ACK of SET_ADDRESS is lost: the device receives nothing of the next three transactions, and there is a second attempt.
 #[test]
 fn an_observer_counts_transactions(rt: HostRuntime) -> Result<()> {
     let file = read_file(rt.alloc(), &MOUSE)?;
@@ -102,10 +102,10 @@ fn an_observer_counts_transactions(rt: HostRuntime) -> Result<()> {
     let mut bench = Bench::new(rt.alloc(), &description, limits);
     for _step in 0..60 {
         let before = bench.counter;
-        let is_due = matches!(bench.host.next(), Action::Send(_));
+        let comes_next = matches!(bench.host.next(), Action::Send(_));
         bench = bench.step(&fates);
         assert_eq!(rt; bench.counter.transactions, bench.transactions);
-        assert!(rt; is_due || bench.counter == before);
+        assert!(rt; comes_next || bench.counter == before);
     }
     assert_eq!(rt; bench.host.next(), Action::Ended);
     let counter = Counter {

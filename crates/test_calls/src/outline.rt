@@ -150,10 +150,10 @@ fn owners_are_of_a_part(rt: HostRuntime) {
 fn findings_stand_at_their_descriptors(rt: HostRuntime) -> Result<()> {
     let input = read_input(rt.alloc(), &FUNCTION)?;
     let found = found_in_order(rt.alloc(), &input)?;
-    let mut told = Vec::new(rt.alloc());
+    let mut report = Vec::new(rt.alloc());
     for descriptor in Outline::of(&FUNCTION, None, &found) {
         for one in descriptor.findings {
-            told.push((descriptor.at, one.finding.rule, one.cause))?;
+            report.push((descriptor.at, one.finding.rule, one.cause))?;
         }
     }
     let count = Cause::EndpointCount {
@@ -165,7 +165,7 @@ fn findings_stand_at_their_descriptors(rt: HostRuntime) -> Result<()> {
         reserved: false,
     };
     assert_eq!(rt;
-        told.as_slice(),
+        report.as_slice(),
         [(20, 5, count), (32, 6, address)].as_slice()
     );
     Ok(())
@@ -176,10 +176,10 @@ fn findings_stand_at_their_descriptors(rt: HostRuntime) -> Result<()> {
 fn findings_have_the_numbers_of_their_descriptors(rt: HostRuntime) -> Result<()> {
     let input = read_input(rt.alloc(), &NUMBERED)?;
     let found = found_in_order(rt.alloc(), &input)?;
-    let mut told = Vec::new(rt.alloc());
+    let mut report = Vec::new(rt.alloc());
     for descriptor in Outline::of(&NUMBERED, None, &found) {
         for one in descriptor.findings {
-            told.push((descriptor.at, one.descriptor, one.finding.rule))?;
+            report.push((descriptor.at, one.descriptor, one.finding.rule))?;
         }
     }
     let wanted = [
@@ -190,7 +190,7 @@ fn findings_have_the_numbers_of_their_descriptors(rt: HostRuntime) -> Result<()>
         (108, 15, 9),
         (126, 17, 13),
     ];
-    assert_eq!(rt; told.as_slice(), wanted.as_slice());
+    assert_eq!(rt; report.as_slice(), wanted.as_slice());
     Ok(())
 }
 

@@ -90,7 +90,7 @@ impl Bench {
         }
     }
 
-    /// A new transfer in place of what was in work, if the words say one.
+    /// A new transfer in place of what was current, if the words say one.
     fn begin_transfer(&mut self, alloc: Global, words: &[&str]) -> Result<Option<Outcome>> {
         let Some(transfer) = TransferInWork::read(alloc, words) else {
             return Ok(None);
@@ -100,7 +100,7 @@ impl Bench {
         Ok(Some(Outcome::Text(due)))
     }
 
-    /// A new host in place of what was in work, if the words say one and its limits are in their ranges.
+    /// A new host in place of what was current, if the words say one and its limits are in their ranges.
     fn begin_host(&mut self, alloc: Global, words: &[&str]) -> Result<Option<Outcome>> {
         let Some(host) = HostWords::read(words) else {
             return Ok(None);

@@ -62,8 +62,8 @@ impl<'d> Driven<'d> {
                 Outcome::Word("done")
             }
             "state" => Outcome::Text(state_text(alloc, &self.device.state())?),
-            "refused" => told(alloc, self.device.refused())?,
-            "carried" => told(alloc, self.device.carried_out())?,
+            "refused" => report(alloc, self.device.refused())?,
+            "carried" => report(alloc, self.device.carried_out())?,
             "accept" => taken(alloc, self.device.accept())?,
             "written" => self.written(alloc)?,
             "refuse" => {
@@ -129,7 +129,7 @@ fn set(number: &mut u8, word: &str) -> Option<Outcome> {
 }
 
 /// A request by its eight bytes, or `none`.
-fn told(alloc: Global, request: Option<Setup>) -> Result<Outcome> {
+fn report(alloc: Global, request: Option<Setup>) -> Result<Outcome> {
     Ok(match request {
         Some(request) => Outcome::Text(hex::encode(alloc, request.to_bytes())?),
         None => Outcome::Word("none"),

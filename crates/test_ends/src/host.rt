@@ -43,7 +43,7 @@ impl HostInWork {
                 let Some(said) = Said::read(alloc, words) else {
                     return Ok(None);
                 };
-                // An answer is counted where it answers a transaction that was due.
+                // An answer is counted where it answers a transaction that came next.
                 if matches!(self.host.next(), Action::Send(_)) {
                     self.transactions = self.transactions.saturating_add(1);
                 }
@@ -53,7 +53,7 @@ impl HostInWork {
         Ok(Some(self.due(alloc)?))
     }
 
-    /// What is due, or how the host ended.
+    /// What comes next, or how the host ended.
     pub fn due(&self, alloc: Global) -> Result<Outcome> {
         let (attempts, transactions) = (self.host.attempts(), self.transactions);
         Ok(match self.host.next() {
@@ -70,7 +70,7 @@ impl HostInWork {
     }
 
     /// What the host holds: its attempts, and of the current transfer the losses and the NAKs in a row, the bytes that
-    /// came, and the step; the last is `-` where none is in work.
+    /// came, and the step; the last is `-` where none is current.
     pub fn state(&self, alloc: Global) -> Result<String, AllocError> {
         let attempts = self.host.attempts();
         let (Some(transfer), Some(step)) = (self.host.transfer(), self.host.step()) else {

@@ -56,8 +56,8 @@ impl<'n> Score<'n> {
                 self.steps = self.steps.saturating_add(1);
                 self.differing = self.differing.saturating_add(1);
                 self.status = self.status.max(1);
-                let told = format!(in alloc; "line {number}: {came}, not {wanted}")?;
-                return self.tell(rt, told.as_str());
+                let report = format!(in alloc; "line {number}: {came}, not {wanted}")?;
+                return self.tell(rt, report.as_str());
             }
             (_, None) => {}
         }

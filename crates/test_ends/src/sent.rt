@@ -41,7 +41,7 @@ impl Sent {
     }
 }
 
-/// A transaction that is due, as in `send 5 in`: the address, and the words that [`Sent::read`] reads.
+/// The next transaction, as in `send 5 in`: the address, and the words that [`Sent::read`] reads.
 pub fn due_text(alloc: Global, transaction: &Transaction<'_>) -> Result<String, AllocError> {
     let address = transaction.address;
     match transaction.stage {

@@ -74,7 +74,7 @@ impl Bus {
     }
 
     /// The current talk, or a new one.
-    fn talk_in_work<'d>(&self, alloc: Global, target: &mut Target<'d>) -> Conversation<'d> {
+    fn current_talk<'d>(&self, alloc: Global, target: &mut Target<'d>) -> Conversation<'d> {
         match target.conversation.take() {
             Some(conversation) => conversation,
             None => Conversation::new(alloc, target.description, self.naks),
@@ -88,7 +88,7 @@ impl Bus {
         target: &mut Target<'_>,
         request: Setup,
     ) -> Result<Option<Outcome>> {
-        let mut conversation = self.talk_in_work(alloc, target);
+        let mut conversation = self.current_talk(alloc, target);
         let place = conversation.talk().replies.len();
         conversation.request(alloc, request, &self.fates)?;
         let outcome = reply_outcome(alloc, conversation.talk().replies.get(place))?;
@@ -98,7 +98,7 @@ impl Bus {
 
     /// The end of the talk, as in `5 transactions, address 0, configuration 0`; the reason goes first where it stopped.
     fn end(&mut self, alloc: Global, target: &mut Target<'_>) -> Result<Option<Outcome>> {
-        let talk = self.talk_in_work(alloc, target).into_talk();
+        let talk = self.current_talk(alloc, target).into_talk();
         self.reset();
         let transactions = talk.transactions;
         let (address, selected) = (talk.state.address, talk.state.selected);

@@ -9,7 +9,7 @@ use std::alloc::{AllocError, Global};
 use usb_fields::{Direction, Setup};
 use usb_host::{Heard, Transfer, Write};
 
-/// A transfer in work.
+/// A current transfer.
 #[derive(Drop)]
 pub enum TransferInWork {
     /// One without data for the device.
@@ -49,11 +49,11 @@ impl TransferInWork {
 
     /// What an answer means to the transfer.
     pub fn take(&mut self, alloc: Global, said: &Said) -> Result<Outcome> {
-        let heard = match self {
+        let received = match self {
             TransferInWork::Transfer(transfer) => transfer.take(said.answer()),
             TransferInWork::Write(write, _) => write.take(said.answer()),
         };
-        Ok(Outcome::Text(match heard {
+        Ok(Outcome::Text(match received {
             Heard::Again => self.due(alloc)?,
             Heard::Bytes(bytes) => {
                 let bytes = bytes_text(alloc, bytes)?;

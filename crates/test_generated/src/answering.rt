@@ -120,7 +120,7 @@ fn ask_one_at_length(
     answered.close(end, tally)
 }
 
-/// Which lies a host is given, and how often: once in so many times, or never at 0. And how often the device is ready for it.
+/// Which lies a host is given, and how often: once in this many times, or never at 0. And how often the device is ready for it.
 #[derive(Clone, Copy)]
 struct Lies {
     kind: usize,
@@ -132,15 +132,15 @@ struct Lies {
 #[derive(Drop, PartialEq, Eq)]
 struct End {
     kind: String,
-    told: String,
+    report: String,
 }
 
 impl End {
     /// The line of a host that has ended so.
     // Of what it has to say alone: a proof of a text made beside a host takes five minutes.
     fn line(&self, alloc: Global, attempts: u8, transactions: u64) -> Result<String> {
-        let (kind, told) = (&self.kind, &self.told);
-        Ok(format!(in alloc; "{kind} {told} attempts {attempts} transactions {transactions}\n")?)
+        let (kind, report) = (&self.kind, &self.report);
+        Ok(format!(in alloc; "{kind} {report} attempts {attempts} transactions {transactions}\n")?)
     }
 }
 
@@ -281,7 +281,7 @@ impl Answered {
         Ok(true)
     }
 
-    /// A transaction: the host gets the device's answer, or a lie. The device hears the ACK of a data packet whose
+    /// A transaction: the host gets the device's answer, or a lie. The device receives the ACK of a data packet whose
     /// toggle is its own.
     fn exchange(
         &mut self,
@@ -334,7 +334,7 @@ impl Answered {
         Ok(())
     }
 
-    /// Adds the line of this host, and whether it has ended as it had ended at first, if it had, within so many
+    /// Adds the line of this host, and whether it has ended as it had ended at first, if it had, within this many
     /// transactions as it may ask for.
     fn close(&self, first: Option<End>, tally: &mut Tally) -> Result<()> {
         let end = self.end()?;
@@ -378,17 +378,17 @@ impl Answered {
     }
 
     /// What it has read: the bytes of a file, or that there is none without the strings; and what it has passed over.
-    fn told(&self, file: &DescriptorFile) -> Result<String> {
+    fn report(&self, file: &DescriptorFile) -> Result<String> {
         let alloc = self.alloc;
-        let mut told = match write_file(alloc, file) {
+        let mut report = match write_file(alloc, file) {
             Ok(bytes) => hex::encode(alloc, bytes)?,
             Err(_) => format!(in alloc; "no file")?,
         };
         for trouble in self.host.forgiven() {
             let (why, step) = (trouble.why.number(), trouble.step);
-            told.push_str(&format!(in alloc; ", {why} {step}")?)?;
+            report.push_str(&format!(in alloc; ", {why} {step}")?)?;
         }
-        Ok(told)
+        Ok(report)
     }
 
     /// How it has ended, if it has.
@@ -397,17 +397,17 @@ impl Answered {
         match self.host.outcome() {
             None => Ok(End {
                 kind: format!(in alloc; "host, asking")?,
-                told: String::new(alloc),
+                report: String::new(alloc),
             }),
             Some(Ok(file)) => Ok(End {
                 kind: format!(in alloc; "host, success")?,
-                told: self.told(file)?,
+                report: self.report(file)?,
             }),
             Some(Err(trouble)) => {
-                let told = format!(in alloc; "{}", trouble.step)?;
-                let step = before(told.as_str(), " ");
+                let report = format!(in alloc; "{}", trouble.step)?;
+                let step = before(report.as_str(), " ");
                 let kind = format!(in alloc; "host, trouble {} {step}", trouble.why.number())?;
-                Ok(End { kind, told })
+                Ok(End { kind, report })
             }
         }
     }

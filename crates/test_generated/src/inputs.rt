@@ -14,7 +14,7 @@ const CHANGED: u32 = 300;
 /// What each byte of an example is set to.
 const VALUES: [u8; 5] = [0x00, 0x01, 0x7f, 0x80, 0xff];
 
-/// The example changed in one to three places, so many times over. Of descriptors every other input has its totals
+/// The example changed in one to three places, this many times over. Of descriptors every other input has its totals
 /// mended.
 pub(crate) fn changed(example: &Example, tally: &mut Tally) -> Result<()> {
     let mut numbers = Numbers(example.number);

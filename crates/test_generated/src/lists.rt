@@ -20,7 +20,7 @@ const COUNTS: [usize; 7] = [1, 5, 25, 125, 625, 3_125, 15_625];
 /// How many long lists there are.
 const LONG: usize = 5_000;
 
-/// At so many places, of the first transactions, something is lost or busy.
+/// At this many places, of the first transactions, something is lost or busy.
 const PLACES: usize = 24;
 
 /// How many losses of one transaction there are: of three kinds at each of the places.
@@ -32,15 +32,15 @@ const BUSY: usize = 16;
 /// How many lists an example gives at most.
 const GIVEN: usize = 64;
 
-/// Of so many fates one passes, in the list that is longer than 100,000.
+/// Of this many fates one passes, in the list that is longer than 100,000.
 const FAR: usize = 40_001;
 
 /// Lists of fates.
 #[derive(Clone, Copy)]
 pub(crate) enum Lists {
-    /// Every list of so many fates.
+    /// Every list of this many fates.
     Every(usize),
-    /// Lists of 7 to 64 fates. In one list one in so many is no Pass, from each to one in 16.
+    /// Lists of 7 to 64 fates. In one list one in this many is no Pass, from each to one in 16.
     Long,
     /// One loss, and two, at the first places.
     Losses,

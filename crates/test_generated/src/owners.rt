@@ -11,7 +11,7 @@ use usb_host::{Heard, Why};
 /// What the owner answers to each read, cut to its length.
 const OWNERS: &[u8] = b"The owner of a device answers what its table of requests refuses";
 
-/// Vendor requests: reads of so many bytes, and one without data.
+/// Vendor requests: reads of this many bytes, and one without data.
 const READS: [u8; 5] = [1, 8, 9, 63, 0];
 
 /// More transactions than a transfer takes under a list of six fates.
@@ -51,8 +51,8 @@ pub(crate) fn make_all(
             String::new(alloc)
         };
         let kind = format!(in alloc; "answered, trouble {why}")?;
-        let told = format!(in alloc; "{kind} transactions {transactions} bytes {digits}\n")?;
-        tally.begin(told.as_str())?;
+        let report = format!(in alloc; "{kind} transactions {transactions} bytes {digits}\n")?;
+        tally.begin(report.as_str())?;
         tally.count(kind)?;
     }
     Ok(())
@@ -93,7 +93,7 @@ fn make(
     Ok(came)
 }
 
-/// A transaction under its fate. Where a packet is lost, the transfer hears nothing.
+/// A transaction under its fate. Where a packet is lost, the transfer receives nothing.
 pub(crate) fn exchange(
     device: &mut Device<'_>,
     transfer: &mut HostEnd,

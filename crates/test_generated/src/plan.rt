@@ -30,7 +30,7 @@ impl Fault {
     }
 }
 
-/// When a fault comes: so many bytes go through a call, and so many calls are made before it.
+/// When a fault comes: this many bytes go through a call, and this many calls are made before it.
 #[derive(Clone, Copy)]
 pub(crate) struct Plan {
     /// How many bytes a call gives or takes at most.

@@ -30,7 +30,7 @@ impl<'a> Stream<'a> {
     }
 
     /// Counts a call of this kind, and says whether its fault comes now.
-    fn is_due(&mut self, is_flush: bool) -> bool {
+    fn comes_next(&mut self, is_flush: bool) -> bool {
         if self.has_failed {
             self.after = self.after.saturating_add(1);
             return false;
@@ -46,7 +46,7 @@ impl<'a> Stream<'a> {
 
 impl Read for Stream<'_> {
     fn read(&mut self, buf: &mut [u8]) -> Result<usize> {
-        if self.is_due(false) {
+        if self.comes_next(false) {
             return self.plan.fault.result();
         }
         let count = self.rest.len().min(buf.len()).min(self.plan.step);
@@ -61,7 +61,7 @@ impl Read for Stream<'_> {
 
 impl Write for Stream<'_> {
     fn write(&mut self, buf: &[u8]) -> Result<usize> {
-        if self.is_due(false) {
+        if self.comes_next(false) {
             return self.plan.fault.result();
         }
         let count = buf.len().min(self.plan.step);
@@ -73,7 +73,7 @@ impl Write for Stream<'_> {
     }
 
     fn flush(&mut self) -> Result<()> {
-        if self.is_due(true) {
+        if self.comes_next(true) {
             return Err(Error::from(ErrorKind::Other));
         }
         Ok(())

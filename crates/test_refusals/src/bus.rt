@@ -18,7 +18,7 @@ pub(crate) const LOSSES: [Fate; 5] = [
     Fate::LostUp,
 ];
 
-/// Makes the requests under these fates, in so many transactions more than they take without.
+/// Makes the requests under these fates, in this many transactions more than they take without.
 pub(crate) fn talk(alloc: Global, description: &Description, fates: &[Fate], more: u32) -> Answer {
     let requests = REQUESTS.map(|bytes| Setup::from_bytes(&bytes));
     match converse(alloc, description, NAKS, &requests, fates) {
@@ -27,7 +27,7 @@ pub(crate) fn talk(alloc: Global, description: &Description, fates: &[Fate], mor
     }
 }
 
-/// Whether each reply is the one that is wanted, after so many transactions.
+/// Whether each reply is the one that is wanted, after this many transactions.
 fn is_right(talk: &Talk, transactions: u32) -> bool {
     let mut holds = talk.replies.len() == WANTED.len();
     for (reply, wanted) in talk.replies.as_slice().iter().zip(&WANTED) {

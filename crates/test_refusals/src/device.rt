@@ -142,8 +142,8 @@ pub(crate) fn drive(description: &Description) -> Answer {
 fn end(device: &mut Device<'_>, transfer: &mut Transfer, wanted: Wanted) -> Option<u32> {
     for count in 1..=8u32 {
         let transaction = transfer.next()?;
-        let heard = transfer.take(device.serve(&transaction, true));
-        let goes_on = match (heard, wanted) {
+        let received = transfer.take(device.serve(&transaction, true));
+        let goes_on = match (received, wanted) {
             (Heard::Again, _) => true,
             (Heard::Bytes(bytes), Wanted::Bytes(two)) => bytes == two.as_slice(),
             (Heard::Complete, Wanted::Done | Wanted::Bytes(_)) => false,

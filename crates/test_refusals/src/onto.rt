@@ -19,9 +19,9 @@ pub(crate) fn add_twice(alloc: Global, added: Added<'_>, bytes: &[u8]) -> Answer
     let mut list = Vec::new(alloc);
     let mut answer = Answer::Right;
     for count in 0..2usize {
-        let told = add(added, &mut list);
-        if told != Answer::Right {
-            let stands = told == Answer::Memory && is_repeated(&list, bytes, count);
+        let report = add(added, &mut list);
+        if report != Answer::Right {
+            let stands = report == Answer::Memory && is_repeated(&list, bytes, count);
             answer = refused(stands && add(added, &mut list) == Answer::Right);
         }
         if answer == Answer::Wrong || !is_repeated(&list, bytes, count.saturating_add(1)) {
@@ -46,7 +46,7 @@ fn add(added: Added<'_>, list: &mut Vec<u8>) -> Answer {
     }
 }
 
-/// Whether a list is these bytes, so many times.
+/// Whether a list is these bytes, this many times.
 fn is_repeated(list: &[u8], bytes: &[u8], count: usize) -> bool {
     let mut rest = list;
     for _ in 0..count {

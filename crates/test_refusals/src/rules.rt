@@ -12,7 +12,7 @@ pub(crate) enum Checked<'a> {
     Set(&'a Configuration),
 }
 
-/// The findings, of which there are so many.
+/// The findings, of which there are this many.
 pub(crate) fn find(alloc: Global, checked: Checked<'_>, count: usize) -> Answer {
     let outcome = match checked {
         Checked::File(file) => check(alloc, file),

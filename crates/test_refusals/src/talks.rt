@@ -103,7 +103,7 @@ fn writes(alloc: Global, description: &Description) -> Result<bool, AllocError> 
     }
 }
 
-/// Whether each request has its reply, after so many transactions.
+/// Whether each request has its reply, after this many transactions.
 fn is_whole(talk: &Talk, transactions: u128) -> bool {
     talk.stopped.is_none() && talk.replies.len() == REQUESTS && talk.transactions == transactions
 }

@@ -13,12 +13,12 @@ struct Case {
     command: Vec<String>,
     input: Vec<u8>,
     written: Vec<u8>,
-    told: String,
+    report: String,
 }
 
 /// Runs the program with this command: the exit status, and the line of the fault if there is one. A call of its own, so
 /// that its callers are proved without the long contract of `run`.
-fn told<R: Read, W: Write>(
+fn report<R: Read, W: Write>(
     alloc: Global,
     command: &[String],
     r: &mut R,
@@ -31,8 +31,8 @@ fn told<R: Read, W: Write>(
     let mut errors = Vec::new(alloc);
     let status = run(alloc, &words, r, w, &mut errors);
     let fault = String::from_utf8(errors)?;
-    let told = format!(in alloc; "{status} {fault}")?;
-    Ok(String::from_str(alloc, told.as_str().trim_end())?)
+    let report = format!(in alloc; "{status} {fault}")?;
+    Ok(String::from_str(alloc, report.as_str().trim_end())?)
 }
 
 /// The command that the words begin with, with its option if there is one, and the words behind it.
@@ -57,18 +57,18 @@ fn case_of(alloc: Global, row: &Row) -> Result<(Case, usize)> {
     };
     let input = changed(alloc, row.lines.as_str(), words)?;
     let mut written = Vec::new(alloc);
-    let told = told(alloc, &command, &mut input.as_slice(), &mut written)?;
-    ensure!(told.len() == 1, "{told}");
+    let report = report(alloc, &command, &mut input.as_slice(), &mut written)?;
+    ensure!(report.len() == 1, "{report}");
     let case = Case {
         command,
         input,
         written,
-        told,
+        report,
     };
     Ok((case, number))
 }
 
-/// Reads with a reader that gives so many bytes a call, which fails once at each of its calls in turn and
+/// Reads with a reader that gives this many bytes a call, which fails once at each of its calls in turn and
 /// would go on. Says how many calls there are.
 pub(crate) fn failing_reads(alloc: Global, row: &Row) -> Result<String> {
     let (case, step) = case_of(alloc, row)?;
@@ -93,13 +93,16 @@ fn fails_to_read(alloc: Global, case: &Case, step: usize, calls: usize) -> Resul
         after: 0,
     };
     let mut text = Vec::new(alloc);
-    let told = told(alloc, &case.command, &mut reader, &mut text)?;
+    let report = report(alloc, &case.command, &mut reader, &mut text)?;
     if reader.failed == 0 {
-        ensure!(told == case.told, "a fault though no call failed: {told}");
+        ensure!(
+            report == case.report,
+            "a fault though no call failed: {report}"
+        );
         ensure!(text == case.written, "something else is written");
         return Ok(false);
     }
-    ensure!(told.as_str() == "3 usbdesc: read failed", "{told}");
+    ensure!(report.as_str() == "3 usbdesc: read failed", "{report}");
     ensure!(text.is_empty(), "something is written though a call fails");
     ensure!(
         reader.failed == 1 && reader.after == 0,
@@ -108,7 +111,7 @@ fn fails_to_read(alloc: Global, case: &Case, step: usize, calls: usize) -> Resul
     Ok(true)
 }
 
-/// Writes to a writer that takes so many bytes a call, and fails at each of its calls in turn, in two ways.
+/// Writes to a writer that takes this many bytes a call, and fails at each of its calls in turn, in two ways.
 /// Says how many calls there are.
 pub(crate) fn failing_writes(alloc: Global, row: &Row) -> Result<String> {
     let (case, step) = case_of(alloc, row)?;
@@ -122,15 +125,18 @@ pub(crate) fn failing_writes(alloc: Global, row: &Row) -> Result<String> {
 fn failing_writer(alloc: Global, case: &Case, step: usize, end: End) -> Result<usize> {
     for calls in 0..=case.written.len() {
         let mut sheet = sheet_of(alloc, step, calls, end);
-        let told = write_to(alloc, case, &mut sheet)?;
+        let report = write_to(alloc, case, &mut sheet)?;
         if !sheet.ended {
-            ensure!(told == case.told, "a fault though no call failed: {told}");
+            ensure!(
+                report == case.report,
+                "a fault though no call failed: {report}"
+            );
             ensure!(sheet.text == case.written, "less than all is written");
             return Ok(calls);
         }
         ensure!(
-            told.as_str() == "3 usbdesc: write failed",
-            "after {calls} calls: {told}"
+            report.as_str() == "3 usbdesc: write failed",
+            "after {calls} calls: {report}"
         );
         ensure!(
             sheet.text.len() <= calls.saturating_mul(step),
@@ -140,7 +146,7 @@ fn failing_writer(alloc: Global, case: &Case, step: usize, end: End) -> Result<u
     bail!("the writing does not end")
 }
 
-/// An empty sheet for so many calls, whose flush succeeds.
+/// An empty sheet for this many calls, whose flush succeeds.
 fn sheet_of(alloc: Global, step: usize, calls: usize, end: End) -> Sheet {
     Sheet {
         text: Vec::new(alloc),
@@ -154,21 +160,21 @@ fn sheet_of(alloc: Global, step: usize, calls: usize, end: End) -> Sheet {
 
 /// How a run with this writer ends, which then holds a prefix of the output.
 fn write_to(alloc: Global, case: &Case, sheet: &mut Sheet) -> Result<String> {
-    let told = told(alloc, &case.command, &mut case.input.as_slice(), sheet)?;
+    let report = report(alloc, &case.command, &mut case.input.as_slice(), sheet)?;
     ensure!(
         case.written.starts_with(&sheet.text),
         "no front of the output"
     );
-    Ok(told)
+    Ok(report)
 }
 
-/// What comes of a write that fails after so many calls that took a byte each: the fault of the run, and how much
+/// What comes of a write that fails after this many calls that took a byte each: the fault of the run, and how much
 /// of the output is written.
 pub(crate) fn failing_write(alloc: Global, row: &Row) -> Result<String> {
     let (case, calls) = case_of(alloc, row)?;
     let mut sheet = sheet_of(alloc, 1, calls, End::Fails);
-    let told = write_to(alloc, &case, &mut sheet)?;
-    Ok(format!(in alloc; "{told}, {} bytes written", sheet.text.len())?)
+    let report = write_to(alloc, &case, &mut sheet)?;
+    Ok(format!(in alloc; "{report}, {} bytes written", sheet.text.len())?)
 }
 
 /// What comes of a flush that fails: the fault of the run, after the whole output.
@@ -176,7 +182,7 @@ pub(crate) fn failing_flush(alloc: Global, row: &Row) -> Result<String> {
     let (case, step) = case_of(alloc, row)?;
     let mut sheet = sheet_of(alloc, step, usize::MAX, End::Fails);
     sheet.flushes = false;
-    let told = write_to(alloc, &case, &mut sheet)?;
+    let report = write_to(alloc, &case, &mut sheet)?;
     ensure!(sheet.text == case.written, "less than all is written");
-    Ok(told)
+    Ok(report)
 }

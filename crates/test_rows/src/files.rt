@@ -17,10 +17,10 @@ pub(crate) fn file(alloc: Global, words: &[String]) -> Result<String> {
         }
         Err(fault) => fault,
     };
-    let told = format!(in alloc; "fault {} at {}", fault.number(), fault.at)?;
+    let report = format!(in alloc; "fault {} at {}", fault.number(), fault.at)?;
     match fault.why {
-        FileWhy::Set(why) => Ok(format!(in alloc; "{told}, of the set {}", why.number())?),
-        _ => Ok(told),
+        FileWhy::Set(why) => Ok(format!(in alloc; "{report}, of the set {}", why.number())?),
+        _ => Ok(report),
     }
 }
 

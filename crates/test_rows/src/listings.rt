@@ -6,7 +6,7 @@ use std::alloc::Global;
 use usb_file::{DescriptorFile, ListFault, assemble, assemble_commented, read_file, write_file};
 
 /// The bytes of a file that was assembled, or the fault and its line.
-fn told(alloc: Global, answer: std::result::Result<DescriptorFile, ListFault>) -> Result<String> {
+fn report(alloc: Global, answer: std::result::Result<DescriptorFile, ListFault>) -> Result<String> {
     match answer {
         Ok(file) => Ok(hex::encode(alloc, &write_file(alloc, &file)?)?),
         Err(fault) => Ok(format!(in alloc; "fault {} line {}", fault.number(), fault.line)?),
@@ -16,8 +16,8 @@ fn told(alloc: Global, answer: std::result::Result<DescriptorFile, ListFault>) -
 /// What each call makes of the lines, once the words have changed them: as they stand, and with comments.
 pub(crate) fn assemblies(alloc: Global, row: &Row) -> Result<String> {
     let text = changed(alloc, row.lines.as_str(), row.words.as_slice())?;
-    let exact = told(alloc, assemble(alloc, &text))?;
-    let commented = told(alloc, assemble_commented(alloc, &text))?;
+    let exact = report(alloc, assemble(alloc, &text))?;
+    let commented = report(alloc, assemble_commented(alloc, &text))?;
     Ok(format!(in alloc; "exact {exact} commented {commented}")?)
 }
 

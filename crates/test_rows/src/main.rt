@@ -25,9 +25,9 @@ fn main(rt: HostRuntime) -> Result<()> {
         if line.is_empty() || line.starts_with('#') {
             continue;
         }
-        let told = go_through(&rt, line).context(format_args!("{line}"))?;
-        if !told.is_empty() {
-            println!(rt; "{line}: {told}")?;
+        let report = go_through(&rt, line).context(format_args!("{line}"))?;
+        if !report.is_empty() {
+            println!(rt; "{line}: {report}")?;
         }
     }
     Ok(())
@@ -37,7 +37,7 @@ fn main(rt: HostRuntime) -> Result<()> {
 fn go_through<R: Files + AllocGlobal>(rt: &R, line: &str) -> Result<String> {
     let alloc = rt.alloc();
     let (kind, name) = line.split_once(' ').context("a line of one word")?;
-    let told = match kind {
+    let report = match kind {
         "rows" => return rows(rt, name),
         "set" => {
             sets::go_round(alloc, &read(rt, name, "bin")?)?;
@@ -57,7 +57,7 @@ fn go_through<R: Files + AllocGlobal>(rt: &R, line: &str) -> Result<String> {
         "dump" | "broken" | "output" | "capture" => "",
         _ => bail!("neither rows nor an example"),
     };
-    Ok(String::from_str(alloc, told)?)
+    Ok(String::from_str(alloc, report)?)
 }
 
 /// The bytes that lie there under this name and ending.

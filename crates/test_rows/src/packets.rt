@@ -136,7 +136,7 @@ fn handshake_named(name: &str) -> Result<Handshake> {
     })
 }
 
-/// The 5-bit CRC of so many bits of a number.
+/// The 5-bit CRC of this many bits of a number.
 pub(crate) fn short_crc(alloc: Global, words: &[String]) -> Result<String> {
     let [width, number] = words else {
         bail!("not two numbers");

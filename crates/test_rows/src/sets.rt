@@ -38,7 +38,7 @@ pub(crate) fn set(alloc: Global, words: &[String]) -> Result<String> {
             );
             Ok(format!(in alloc; "done {length}")?)
         }
-        Err(fault) => told_fault(alloc, *fault),
+        Err(fault) => reported_fault(alloc, *fault),
     }
 }
 
@@ -53,7 +53,7 @@ fn cut_everywhere(alloc: Global, bytes: &[u8], whole: &Read) -> Result<()> {
     Ok(())
 }
 
-/// What is read of the bytes in a first piece of so many, and the rest in pieces of this length.
+/// What is read of the bytes in a first piece of this many, and the rest in pieces of this length.
 fn read(alloc: Global, bytes: &[u8], first: usize, length: usize) -> Result<Read> {
     let (front, rest) = bytes.split_at(first.min(bytes.len()));
     let mut reading = Reading {
@@ -69,7 +69,7 @@ fn read(alloc: Global, bytes: &[u8], first: usize, length: usize) -> Result<Read
 }
 
 /// A fault and its place.
-fn told_fault(alloc: Global, fault: SetFault) -> Result<String> {
+fn reported_fault(alloc: Global, fault: SetFault) -> Result<String> {
     Ok(format!(in alloc; "fault {} at {}", fault.why.number(), fault.at)?)
 }
 
@@ -164,7 +164,7 @@ pub(crate) fn feed(alloc: Global, words: &[String]) -> Result<String> {
         let answer = match decoder.feed(piece) {
             Ok(Progress::More) => String::from_str(alloc, "more")?,
             Ok(Progress::Done { used }) => format!(in alloc; "done {used}")?,
-            Err(fault) => told_fault(alloc, fault)?,
+            Err(fault) => reported_fault(alloc, fault)?,
         };
         answers.push_str(answer.as_str())?;
         answers.push_str("\n")?;

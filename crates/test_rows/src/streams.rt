@@ -1,7 +1,7 @@
 //! Readers and writers that fail.
 use std::io::{Error, ErrorKind, Read, Result, Write};
 
-/// A reader that gives at most `step` bytes a call, and fails once, at the call after so many.
+/// A reader that gives at most `step` bytes a call, and fails once, at the call after this many.
 #[derive(Drop)]
 pub(crate) struct Pieces<'a> {
     pub(crate) rest: &'a [u8],

@@ -11,7 +11,7 @@ use Rattle.usb_host.specs.declared.step.Trouble.{Trouble}
 use Rattle.usb_host.specs.Order.{asks, refused_leads, spared}
 use Rattle.usb_host.specs.Place.{Place, First, Address, Device, Header, Set, Qualifier, Languages, Text, Configure, Reported, Stopped}
 use Rattle.usb_host.specs.Plan.{Plan, Begin, Success, GivesUp}
-use Rattle.usb_host.specs.Steps.{HostPhase, HostView, ResetDue, Reading, Ended, WantsSent, TakesIn, Takes, TakesHeard, blames_bus, completed_leads, enter, entered, goes_on, reset, reset_in, sends, settled, wanted, terms_of}
+use Rattle.usb_host.specs.Steps.{HostPhase, HostView, ResetDue, Reading, Ended, WantsSent, TakesIn, Takes, TakesReceived, blames_bus, completed_leads, enter, entered, goes_on, reset, reset_in, sends, settled, wanted, terms_of}
 use Rattle.usb_host.specs.Transfer.{Taken, TransferView, addressed, delayed, failed, kept_packet, struck, taken, taken_at, taken_data, taken_status, token_due, packet_due}
 use Rattle.usb_host.specs.declared.transfer.TransferStage.{TransferStage}
 use Rattle.usb_host.specs.declared.transfer.TransferStage.TheVariants as stages
@@ -117,10 +117,10 @@ goes_fits limits terms place t k stages.DataOut below low = low
 goes_fits limits terms place t k stages.StatusOut below low = low
 goes_fits limits terms place t k stages.StatusIn below low = low
 
-heard_fits : (limits : LimitView) (terms : Terms) (place : Place) (old : Kept) (by : Taken) (new : HostPhase) (before after : List Trouble) → limits.address < 128
-    → by.transfer.address < 128 → TakesHeard limits terms place old by new before after → AddressFits new
-heard_fits limits terms place old by new b a below low (result, k, keeps, inl (lacks, e, same)) = subst AddressFits (sym e) tt
-heard_fits limits terms place old by new b a below low (result, k, keeps, inr (lacks, e, adds)) =
+received_fits_in : (limits : LimitView) (terms : Terms) (place : Place) (old : Kept) (by : Taken) (new : HostPhase) (before after : List Trouble) → limits.address < 128
+    → by.transfer.address < 128 → TakesReceived limits terms place old by new before after → AddressFits new
+received_fits_in limits terms place old by new b a below low (result, k, keeps, inl (lacks, e, same)) = subst AddressFits (sym e) tt
+received_fits_in limits terms place old by new b a below low (result, k, keeps, inr (lacks, e, adds)) =
     subst AddressFits (sym e) (goes_fits limits terms place by.transfer k by.transfer.stage below low)
 
 either_phase : (c : Bool) (x y : HostPhase) → AddressFits x → AddressFits y → AddressFits (if c then x else y)
@@ -146,13 +146,13 @@ settled_fits attempts resets (Ended (Stopped trouble)) h =
 takes_fits : (v w : HostView) (phase : HostPhase) (reply : Reply) → v.phase ≡ phase → AsksWithin v → AddressFits phase → TakesIn v phase reply w → AsksWithin w
 takes_fits v w ResetDue reply at h low e = subst AsksWithin (sym e) h
 takes_fits v w (Ended place) reply at h low e = subst AsksWithin (sym e) h
-takes_fits v w (Reading place t k) reply at h low (phase, heard, e) =
+takes_fits v w (Reading place t k) reply at h low (phase, received, e) =
     let keeps = taken_address t t.stage reply in
     let there : (taken t reply).transfer.address < 128 = subst (λ n. n < 128) (sym keeps) low in
     subst AsksWithin (sym e)
     (record {
       limits = h.limits;
-      phase = settled_fits v.limits.attempts v.resets phase (heard_fits v.limits (terms_of v) place k (taken t reply) phase v.forgiven w.forgiven h.limits there heard);
+      phase = settled_fits v.limits.attempts v.resets phase (received_fits_in v.limits (terms_of v) place k (taken t reply) phase v.forgiven w.forgiven h.limits there received);
     })
 
 pub take_within : (v w : HostView) (reply : Reply) → AsksWithin v → Takes v reply w → AsksWithin w

@@ -15,7 +15,7 @@ use Rattle.usb_device.specs.Step.{DeviceStage, DeviceView, Served, acked, acked_
 use Rattle.usb_device.specs.Step as device
 use Rattle.usb_bus.specs.declared.fate.Fate.{Fate}
 use Rattle.usb_bus.specs.declared.fate.Fate.TheVariants.{Pass, Busy, LostDown, LostUp, LostAck}
-use Rattle.usb_bus.specs.Bus.{Ends, carried, exchanged, has_data, hears, is_data, readiness, step_of, taken_by}
+use Rattle.usb_bus.specs.Bus.{Ends, carried, exchanged, has_data, receives_reply, is_data, readiness, step_of, taken_by}
 use Rattle.usb_bus.specs.Arrivals.{arrival_at, arrival_in, arrivals, awaits_data, takes_data}
 
 -- ---- the host
@@ -191,9 +191,9 @@ module _ (answer : State → SetupPacket → Outcome) (packet : ℕ) where
     less_later : (fate : Fate) (e : Ends) (sent : Sent) → due_of e.host.transfer bytes ≡ Some sent → IsLater sent.token → is_setup e.host.transfer.stage ≡ false → Less fate e (Some sent)
     less_later fate e sent is later past =
         let r = carried answer packet e.device sent fate in
-        let after : next fate e ≡ record { host = hears (has_data bytes) e.host r.reply; device = r.device } = ap (λ o. exchanged answer packet (has_data bytes) e.host e.device o fate) is in
+        let after : next fate e ≡ record { host = receives_reply (has_data bytes) e.host r.reply; device = r.device } = ap (λ o. exchanged answer packet (has_data bytes) e.host e.device o fate) is in
         let still = stays_past (has_data bytes) e.host.transfer e.host.transfer.stage r.reply refl past in
-        let there : left_at (hears (has_data bytes) e.host r.reply).transfer.stage r.device.stage ≡ one_if (awaits_data r.device.stage) = left_past _ r.device.stage still in
+        let there : left_at (receives_reply (has_data bytes) e.host r.reply).transfer.stage r.device.stage ≡ one_if (awaits_data r.device.stage) = left_past _ r.device.stage still in
         let here = left_past e.host.transfer.stage e.device.stage past in
         let fall = falls e.device sent fate later in
         rw (after, there, here) fall
@@ -225,7 +225,7 @@ module _ (answer : State → SetupPacket → Outcome) (packet : ℕ) where
     abbrev due_at : Ends → TransferStage → Option Sent
     due_at e stage = addressed e.host.transfer.address (token_due e.host.transfer bytes stage)
 
-    -- a transaction that is due at this stage
+    -- the next transaction at this stage
     at_stage : (fate : Fate) (e : Ends) (stage : TransferStage) (sent : Sent) → e.host.transfer.stage ≡ stage → due_at e stage ≡ Some sent → IsLater sent.token →
         is_setup stage ≡ false → Less fate e (due_of e.host.transfer bytes)
     at_stage fate e stage sent at is later past =

@@ -16,7 +16,7 @@ use Rattle.usb_device.specs.Step.{DeviceStage, DeviceView, Served, acked, awaite
 use Rattle.usb_device.specs.Step as device
 use Rattle.usb_bus.specs.declared.fate.Fate.{Fate}
 use Rattle.usb_bus.specs.declared.fate.Fate.TheVariants.{Pass, Busy, LostDown, LostUp, LostAck}
-use Rattle.usb_bus.specs.Bus.{lost, busy, ack_lost, Ends, acknowledged, carried, exchanged, has_data, hears, is_data, readiness, run_of, step_of, taken_by}
+use Rattle.usb_bus.specs.Bus.{lost, busy, ack_lost, Ends, acknowledged, carried, exchanged, has_data, receives_reply, is_data, readiness, run_of, step_of, taken_by}
 use Rattle.usb_bus.specs.Beside.{IsAnswering, SizesAlike}
 use Rattle.usb_bus.specs.Attempt.{begins}
 use Rattle.usb_bus.specs.Together.{Stages, AreInStages}
@@ -56,12 +56,12 @@ module _ (sends : Bool) (t : TransferView) (at : t.stage ≡ DataOut) (refused :
   dooms (DataReply toggle bytes) e = tt
   dooms NakReply e = by_naks (nat_lt t.nak_count t.naks)
     where
-      by_naks : (few : Bool) → (let x : Taken = if few then record { heard = Goes; transfer = record t { nak_count = suc t.nak_count } } else failed t whys.Busy in Dooms x.transfer.stage)
+      by_naks : (few : Bool) → (let x : Taken = if few then record { received = Goes; transfer = record t { nak_count = suc t.nak_count } } else failed t whys.Busy in Dooms x.transfer.stage)
       by_naks true = subst (λ s. Dooms s) (sym at) tt
       by_naks false = tt
   dooms NoReply e = by_strikes (nat_lt t.strikes 2)
     where
-      by_strikes : (few : Bool) → (let x : Taken = if few then record { heard = Goes; transfer = record t { strikes = suc t.strikes } } else failed t whys.NoAnswer in Dooms x.transfer.stage)
+      by_strikes : (few : Bool) → (let x : Taken = if few then record { received = Goes; transfer = record t { strikes = suc t.strikes } } else failed t whys.NoAnswer in Dooms x.transfer.stage)
       by_strikes true = subst (λ s. Dooms s) (sym at) tt
       by_strikes false = tt
 
@@ -223,13 +223,13 @@ module _ (answer : State → SetupPacket → Outcome) (packet : ℕ) where
 
     -- what the host makes of a refusal in the data stage
     refusal_dooms : (e : Ends) (c : Served) → e.host.transfer.stage ≡ DataOut → is_halted c.device.stage ≡ true → is_ack c.reply ≡ false →
-        IsDoomed (hears (has_data bytes) e.host c.reply).transfer.stage c.device.stage
+        IsDoomed (receives_reply (has_data bytes) e.host c.reply).transfer.stage c.device.stage
     refusal_dooms e c at halts other =
-        halts_doomed (hears (has_data bytes) e.host c.reply).transfer.stage c.device.stage halts
+        halts_doomed (receives_reply (has_data bytes) e.host c.reply).transfer.stage c.device.stage halts
         (subst (λ st. IsDoomed (taken_by (has_data bytes) e.host.transfer st c.reply).transfer.stage (device.Halted None)) (sym at) (dooms (has_data bytes) e.host.transfer at None c.reply other))
 
     after_out : (fate : Fate) (e : Ends) → e.host.transfer.stage ≡ DataOut →
-        (let c = carried answer packet e.device (out_of e) fate in next fate e ≡ record { host = hears (has_data bytes) e.host c.reply; device = c.device })
+        (let c = carried answer packet e.device (out_of e) fate in next fate e ≡ record { host = receives_reply (has_data bytes) e.host c.reply; device = c.device })
     after_out fate e at = ap (λ o. exchanged answer packet (has_data bytes) e.host e.device o fate) (out_due e at)
 
     doomed_on : (fate : Fate) (e : Ends) (stage : TransferStage) (at : DeviceStage) → e.host.transfer.stage ≡ stage → e.device.stage ≡ at → IsDoomed stage at → Dooms_of (next fate e)
@@ -303,7 +303,7 @@ module _ (answer : State → SetupPacket → Outcome) (packet : ℕ) where
         came = carried answer packet e.device (out_of e) fate
 
         abbrev after : Ends
-        after = record { host = hears (has_data bytes) e.host came.reply; device = came.device }
+        after = record { host = receives_reply (has_data bytes) e.host came.reply; device = came.device }
 
         one_here : needed e.host.transfer.stage e.device.stage ≡ 1
         one_here = ap (λ st. needed st e.device.stage) is ∙ ap (λ x. needed DataOut x) here
@@ -344,7 +344,7 @@ module _ (answer : State → SetupPacket → Outcome) (packet : ℕ) where
         in_state = (subst (λ st. Stages answer packet s q size naks bytes l b a st e.device.stage e.host.transfer.awaited e.host.got e.host.transfer.kept e.host.transfer.strikes e.device.state) is c.stages).0
 
         abbrev Needs : Served → Type 0
-        Needs r = (needed (hears (has_data bytes) e.host r.reply).transfer.stage r.device.stage ≡ 1) ⊎ IsDoomed (hears (has_data bytes) e.host r.reply).transfer.stage r.device.stage
+        Needs r = (needed (receives_reply (has_data bytes) e.host r.reply).transfer.stage r.device.stage ≡ 1) ⊎ IsDoomed (receives_reply (has_data bytes) e.host r.reply).transfer.stage r.device.stage
 
         asks : (0 < q.length) × (stage_after_setup q ≡ DataOut)
         asks = (let o = w.takes judge takes in (o.0, stage_after_setup-out q o.0 o.1))
@@ -354,21 +354,21 @@ module _ (answer : State → SetupPacket → Outcome) (packet : ℕ) where
             ap (λ x. begun x (answer e.device.state x)) (setup_of-setup_bytes e.host.transfer.request ∙ c.request)
             ∙ ap (λ x. begun q (answer x q)) in_state ∙ ap (begun q) takes
 
-        -- an ACK of it that is heard
-        begins_data : (stage : DeviceStage) → stage ≡ device.Receiving q [] → needed (hears (has_data bytes) e.host AckReply).transfer.stage stage ≡ 1
+        -- an ACK of it that is received
+        begins_data : (stage : DeviceStage) → stage ≡ device.Receiving q [] → needed (receives_reply (has_data bytes) e.host AckReply).transfer.stage stage ≡ 1
         begins_data stage i =
             ap (λ x. needed (taken_by (has_data bytes) e.host.transfer x AckReply).transfer.stage stage) is
             ∙ ap (λ x. needed (stage_after_setup x) stage) c.request ∙ ap (λ x. needed x stage) asks.1 ∙ ap (λ x. needed DataOut x) i
 
         abbrev struck_to : Bool → TransferStage
         struck_to few =
-            let x : Taken = if few then record { heard = Goes; transfer = record e.host.transfer { strikes = suc e.host.transfer.strikes } } else failed e.host.transfer whys.NoAnswer in x.transfer.stage
+            let x : Taken = if few then record { received = Goes; transfer = record e.host.transfer { strikes = suc e.host.transfer.strikes } } else failed e.host.transfer whys.NoAnswer in x.transfer.stage
 
         by_strikes : (few : Bool) (stage : DeviceStage) → (needed (struck_to few) stage ≡ 1) ⊎ IsDoomed (struck_to few) stage
         by_strikes true stage = inl (ap (λ st. needed st stage) is)
         by_strikes false stage = inr tt
 
-        silent : (stage : DeviceStage) → (needed (hears (has_data bytes) e.host NoReply).transfer.stage stage ≡ 1) ⊎ IsDoomed (hears (has_data bytes) e.host NoReply).transfer.stage stage
+        silent : (stage : DeviceStage) → (needed (receives_reply (has_data bytes) e.host NoReply).transfer.stage stage ≡ 1) ⊎ IsDoomed (receives_reply (has_data bytes) e.host NoReply).transfer.stage stage
         silent stage =
             subst (λ st. (needed (taken_by (has_data bytes) e.host.transfer st NoReply).transfer.stage stage ≡ 1) ⊎ IsDoomed (taken_by (has_data bytes) e.host.transfer st NoReply).transfer.stage stage) (sym is)
             (by_strikes (nat_lt e.host.transfer.strikes 2) stage)
@@ -388,7 +388,7 @@ module _ (answer : State → SetupPacket → Outcome) (packet : ℕ) where
         setup_needs LostUp = silent (served answer packet e.device setup_sent true).device.stage
         setup_needs LostAck = (setup_at true (e.host.transfer.address == e.device.state.address)).0
 
-        after_setup : next fate e ≡ (let r = carried answer packet e.device setup_sent fate in record { host = hears (has_data bytes) e.host r.reply; device = r.device })
+        after_setup : next fate e ≡ (let r = carried answer packet e.device setup_sent fate in record { host = receives_reply (has_data bytes) e.host r.reply; device = r.device })
         after_setup = ap (λ o. exchanged answer packet (has_data bytes) e.host e.device o fate) setup_due
 
         setup_one : needed e.host.transfer.stage e.device.stage ≡ 1

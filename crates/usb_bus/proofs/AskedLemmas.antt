@@ -50,7 +50,7 @@ use Rattle.usb_bus.proofs.Attempts.{attempts_sound, sound_ends, sound_stays}
 use Rattle.usb_bus.proofs.BesideLemmas.{AreClosed, script_closed}
 use Rattle.usb_bus.proofs.DescribeLemmas.{described}
 use Rattle.usb_bus.proofs.FollowLemmas.{follows}
-use Rattle.usb_bus.proofs.RunLemmas.{Matches, after, is_due, runs_match}
+use Rattle.usb_bus.proofs.RunLemmas.{Matches, after, comes_next, runs_match}
 use Rattle.usb_bus.proofs.SeriesLemmas.{series_stands}
 use Rattle.usb_bus.proofs.ServeLemmas.{serves_script}
 use Rattle.usb_bus.proofs.TableLemmas.{table_kept}
@@ -101,7 +101,7 @@ module _ (set_of : List ℕ → Option Configuration) (speed : Speed) (address :
       (tails y x.reply (came ++ (r ∷ todo)) (replies_in xs) e)
       (subst (λ z. asks address (reached set_of (all_of speed) (next set_of (all_of speed) place z) came) ≡ Begin other size q) same begins) refused
 
--- ---- where a transaction of a transfer is due after its SETUP
+-- ---- where a transaction of a transfer comes next after its SETUP
 
 no_setup : (t : TransferView) (stage : TransferStage) (token : Token) (has : Answer) → stage ≡ Setup → token_due t [] stage ≡ Some token →
     is_in_transfer token has ≡ true → ⊥
@@ -271,12 +271,12 @@ module _ (set_of : List ℕ → Option Configuration) (exact : ReadsSets set_of)
   same_phase : (used : List Fate) (resets : ℕ) (phase : HostPhase) (d : DeviceView) (forgiven : List Trouble) (series : Series) (t : TransferView) (sent : Sent) (open_transfer : OpenTransfer) (came has : Answer) →
       IsSound used series.attempt → Matches set_of limits (all_of speed) resets phase d forgiven series → transfer_in phase ≡ Some t → wanted phase ≡ WantsSent sent →
       IsAllowed (is_free f d t.request) t.request size open_transfer sent.token came has → came ≡ has
-  same_phase used resets ResetDue d forgiven series t sent open_transfer came has sounds matches in_work is allowed = absurd (cc)
-  same_phase used resets (Ended place) d forgiven series t sent open_transfer came has sounds matches in_work is allowed = absurd (cc)
-  same_phase used resets (Reading place u k) d forgiven series t sent open_transfer came has sounds (few, attempts, image, device_is, passed) in_work is allowed =
+  same_phase used resets ResetDue d forgiven series t sent open_transfer came has sounds matches is_current is allowed = absurd (cc)
+  same_phase used resets (Ended place) d forgiven series t sent open_transfer came has sounds matches is_current is allowed = absurd (cc)
+  same_phase used resets (Reading place u k) d forgiven series t sent open_transfer came has sounds (few, attempts, image, device_is, passed) is_current is allowed =
       let same : t ≡ u = cc in
       let x = series.attempt in
-      same_image used x.replies x.phase x.device place u k sent open_transfer came has sounds image (is_due (due u) sent is)
+      same_image used x.replies x.phase x.device place u k sent open_transfer came has sounds image (comes_next (due u) sent is)
       (subst (λ e. IsAllowed (is_free f e u.request) u.request size open_transfer sent.token came has) (sym device_is)
       (subst (λ z. IsAllowed (is_free f d z.request) z.request size open_transfer sent.token came has) same allowed))
 
@@ -284,10 +284,10 @@ module _ (set_of : List ℕ → Option Configuration) (exact : ReadsSets set_of)
   pub same_run : (fates : List Fate) (earlier : List Pair) (n : ℕ) (x : Pair) → RunsAt (answer f) size fates (new_pair limits speed) earlier n x →
       (t : TransferView) → transfer_in x.host.phase ≡ Some t → (sent : Sent) → wanted x.host.phase ≡ WantsSent sent → (open_transfer : OpenTransfer) (came has : Answer) →
       IsAllowed (is_free f x.device t.request) t.request size open_transfer sent.token came has → came ≡ has
-  same_run fates earlier n x runs t in_work sent is open_transfer came has allowed =
+  same_run fates earlier n x runs t is_current sent is open_transfer came has allowed =
       elim (runs_match set_of limits (all_of speed) stays f (answer f) range.attempts_from fates earlier n x runs) [
-        | inl (wanting, heard) ↦ absurd (let ended = ap transfer_in wanting.1 in cc)
+        | inl (wanting, received) ↦ absurd (let ended = ap transfer_in wanting.1 in cc)
         | inr m ↦
             let (used, sounds) = sound_after (fates_used fates n) in
-            same_phase used x.host.resets x.host.phase x.device x.host.forgiven (after set_of limits (all_of speed) stays f (answer f) fates n) t sent open_transfer came has sounds m.matches in_work is allowed
+            same_phase used x.host.resets x.host.phase x.device x.host.forgiven (after set_of limits (all_of speed) stays f (answer f) fates n) t sent open_transfer came has sounds m.matches is_current is allowed
       ]

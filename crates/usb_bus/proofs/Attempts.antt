@@ -241,12 +241,12 @@ module _ (plan : List Reply → Plan) (naks : ℕ) (sends : List Reply → List 
   away_step fate replies Succeeded d away = absurd away
   away_step fate replies (Broken why) d away = tt
 
-  hears_nothing : (d : DeviceView) (sent : Sent) (fate : Fate) → sent.address ≢ d.state.address → (carried answer cut d sent fate).reply ≡ NoReply
-  hears_nothing d sent fates.Pass ne = grind (arith, nat_tests)
-  hears_nothing d sent fates.Busy ne = grind (arith, nat_tests)
-  hears_nothing d sent fates.LostDown ne = refl
-  hears_nothing d sent fates.LostUp ne = refl
-  hears_nothing d sent fates.LostAck ne = grind (arith, nat_tests)
+  receives_nothing : (d : DeviceView) (sent : Sent) (fate : Fate) → sent.address ≢ d.state.address → (carried answer cut d sent fate).reply ≡ NoReply
+  receives_nothing d sent fates.Pass ne = grind (arith, nat_tests)
+  receives_nothing d sent fates.Busy ne = grind (arith, nat_tests)
+  receives_nothing d sent fates.LostDown ne = refl
+  receives_nothing d sent fates.LostUp ne = refl
+  receives_nothing d sent fates.LostAck ne = grind (arith, nat_tests)
 
   goes_to : (address : ℕ) (o : Option Token) (sent : Sent) → addressed address o ≡ Some sent → sent.address ≡ address
   goes_to address None sent e = absurd (cc)
@@ -256,7 +256,7 @@ module _ (plan : List Reply → Plan) (naks : ℕ) (sends : List Reply → List 
       (carried answer cut d sent fate).reply ≡ NoReply
   silent_now bytes (Running h) d (is, ne) sent fate e =
       let there = goes_to h.transfer.address (token_due h.transfer bytes h.transfer.stage) sent e in
-      hears_nothing d sent fate (rw there ne)
+      receives_nothing d sent fate (rw there ne)
   silent_now bytes Succeeded d away sent fate e = absurd away
   silent_now bytes (Broken why) d away sent fate e = absurd (cc)
 
@@ -349,27 +349,27 @@ module _ (plan : List Reply → Plan) (naks : ℕ) (sends : List Reply → List 
   -- a SET_ADDRESS that comes last is reported
   moves_last : (replies todo : List Reply) (r : Reply) (address packet : ℕ) (q : SetupPacket) → plan replies ≡ Begin address packet q →
       (is_moved_last plan replies (r ∷ todo) ≡ true → loose ≡ true) → is_set_address q ≡ true → todo ≡ [] → loose ≡ true
-  moves_last replies [] r address packet q begins told is none = told (ap is_moving begins ∙ is)
-  moves_last replies (x ∷ todo) r address packet q begins told is none =
+  moves_last replies [] r address packet q begins report is none = report (ap is_moving begins ∙ is)
+  moves_last replies (x ∷ todo) r address packet q begins report is none =
       absurd (let longer : suc (length todo) ≡ 0 = ap length none in omega arith)
 
   tells_on : (replies todo : List Reply) (r : Reply) → (is_moved_last plan replies (r ∷ todo) ≡ true → loose ≡ true) →
       is_moved_last plan (replies ++ r ∷ []) todo ≡ true → loose ≡ true
-  tells_on replies [] r told is = absurd (grind arith)
-  tells_on replies (x ∷ todo) r told is = told is
+  tells_on replies [] r report is = absurd (grind arith)
+  tells_on replies (x ∷ todo) r report is = report is
 
   pub answers_follow : (s : State) (replies todo : List Reply) → Answers plan naks sends answer cut last replies s todo → replies ++ todo ≡ all →
       (is_moved_last plan replies todo ≡ true → loose ≡ true) → Follows plan naks sends answer cut loose all last s replies todo
-  answers_follow s replies [] (success, end) whole told = (success, end, sym (append-nil replies) ∙ whole)
-  answers_follow s replies (r ∷ todo) (packet, q, planned, more) whole told = (
+  answers_follow s replies [] (success, end) whole report = (success, end, sym (append-nil replies) ∙ whole)
+  answers_follow s replies (r ∷ todo) (packet, q, planned, more) whole report = (
     packet,
     (
       q,
       (
         planned,
         whole,
-        moves_last replies todo r s.address packet q planned.begins told,
-        answers_follow (carried_out s (answer s q)) (replies ++ r ∷ []) todo more (rw append_assoc whole) (tells_on replies todo r told),
+        moves_last replies todo r s.address packet q planned.begins report,
+        answers_follow (carried_out s (answer s q)) (replies ++ r ∷ []) todo more (rw append_assoc whole) (tells_on replies todo r report),
       ),
     ),
   )

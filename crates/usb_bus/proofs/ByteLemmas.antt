@@ -215,8 +215,8 @@ module _ (f : DescriptorFile) (bytes : AreBytes (file_bytes f)) (s : State) (sta
       when_fits (is_device (recipient_of q.request_type)) (gives s q there)
       (λ e. gives_fits s q there state (descriptor_fit f (q.value / 256) (q.value % 256) q.index bytes))
 
-  configuration_told : IsOfBytes (get_configuration (offer_of f) s q)
-  configuration_told =
+  configuration_reported : IsOfBytes (get_configuration (offer_of f) s q)
+  configuration_reported =
       when_fits (is_device (recipient_of q.request_type) && has_address s && (q.value == 0) && (q.index == 0)) (tells q (s.selected ∷ []))
       (λ e. tells_fits q (s.selected ∷ []) (state.0, tt))
 
@@ -228,8 +228,8 @@ module _ (f : DescriptorFile) (bytes : AreBytes (file_bytes f)) (s : State) (sta
       (λ e. does_fits q next
       (value_small (is_device (recipient_of q.request_type)) (has_address s) (q.index == 0) q.value known e, first_fit))
 
-  interface_told : IsOfBytes (get_interface (offer_of f) s q)
-  interface_told =
+  interface_reported : IsOfBytes (get_interface (offer_of f) s q)
+  interface_reported =
       let setting = slice_index s.alternates q.index in
       when_fits (is_interface (recipient_of q.request_type) && is_configured s && (q.value == 0) && names_interface (offer_of f) s q.index) (tells q (setting ∷ []))
       (λ e. tells_fits q (setting ∷ []) (byte_at s.alternates q.index state.1, tt))
@@ -256,9 +256,9 @@ module _ (f : DescriptorFile) (bytes : AreBytes (file_bytes f)) (s : State) (sta
       (if_fits (q.request == 3) _ _ (feature_fits true (recipient_of q.request_type))
       (if_fits (q.request == 5) _ _ address_fits
       (if_fits (q.request == 6) _ _ descriptor_fits
-      (if_fits (q.request == 8) _ _ configuration_told
+      (if_fits (q.request == 8) _ _ configuration_reported
       (if_fits (q.request == 9) _ _ configuration_fits
-      (if_fits (q.request == 10) _ _ interface_told
+      (if_fits (q.request == 10) _ _ interface_reported
       (if_fits (q.request == 11) _ Refused interface_fits tt))))))))
 
   answer_of_fits : (c : Class) → IsOfBytes (answer_of c (offer_of f) s q)

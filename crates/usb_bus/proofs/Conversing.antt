@@ -57,7 +57,7 @@ module _ (f : DescriptorFile) (naks : ℕ) (qs : List AskedView) (fates : List F
   abbrev sends : List Reply → List ℕ
   sends = talk_data (first_place qs)
 
-  -- so many transactions lead from the start to x
+  -- this many transactions lead from the start to x
   abbrev pub StandsAt : ℕ → Attempt → Type 0
   StandsAt now x =
       (ps : List Attempt) × (length ps ≡ now) × Steps plan naks sends (answer f) f.device.packet fates 0 (talk_start f.device.packet naks qs) ps x
@@ -250,11 +250,11 @@ module _ (requests : List AskedView) (fates : List Fate) (v : TalkView) (a : Ask
       }
 
 -- a talk for which no reason to stop is reported goes on
-pub none_told : (stopped : Option Why) → is_some stopped ≡ false → stopped ≡ None
-none_told None e = refl
-none_told (Some why) e = absurd (cc)
+pub nothing_reported : (stopped : Option Why) → is_some stopped ≡ false → stopped ≡ None
+nothing_reported None e = refl
+nothing_reported (Some why) e = absurd (cc)
 
--- where a talk has ended nothing is due
+-- where a talk has ended nothing comes next
 none_due : (bytes : List ℕ) (stopped : Option Why) → due_in bytes (end_of stopped) ≡ None
 none_due bytes None = refl
 none_due bytes (Some why) = refl

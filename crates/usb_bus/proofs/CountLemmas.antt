@@ -11,7 +11,7 @@ use Rattle.usb_host.specs.Transfer.{TransferView, Taken, Goes, data_stage, delay
 use Rattle.usb_host.specs.declared.transfer.TransferStage.{TransferStage}
 use Rattle.usb_host.specs.declared.transfer.TransferStage.TheVariants.{Setup, DataIn, DataOut, StatusOut, StatusIn, Completed, Failed}
 use Rattle.usb_device.specs.Beside.{brings_bytes, is_in}
-use Rattle.usb_bus.specs.Bus.{HostEnd, hears, taken_by, with_heard}
+use Rattle.usb_bus.specs.Bus.{HostEnd, receives_reply, taken_by, with_received}
 use Rattle.usb_bus.specs.Together.{HasCounted}
 
 abbrev is_data_out : TransferStage → Bool
@@ -36,7 +36,7 @@ after_setup false directions.In e = refl
 after_setup false directions.Out e = absurd (cc)
 
 abbrev Counted : List ℕ → Taken → Type 0
-Counted got x = (is_data_out x.transfer.stage ≡ false) × (x.transfer.kept ≡ length (with_heard got x.heard))
+Counted got x = (is_data_out x.transfer.stage ≡ false) × (x.transfer.kept ≡ length (with_received got x.received))
 
 if_counted : (got : List ℕ) (c : Bool) (x y : Taken) → Counted got x → Counted got y → Counted got (if c then x else y)
 if_counted got true x y p q = p
@@ -48,10 +48,10 @@ after_data false = refl
 
 module _ (sends : Bool) (t : TransferView) (got : List ℕ) (other : is_data_out t.stage ≡ false) (count : t.kept ≡ length got) where
   struck_counted : Counted got (struck t)
-  struck_counted = if_counted got (nat_lt t.strikes 2) (record { heard = Goes; transfer = record t { strikes = suc t.strikes } }) (failed t whys.NoAnswer) (other, count) (refl, count)
+  struck_counted = if_counted got (nat_lt t.strikes 2) (record { received = Goes; transfer = record t { strikes = suc t.strikes } }) (failed t whys.NoAnswer) (other, count) (refl, count)
 
   delayed_counted : Counted got (delayed t)
-  delayed_counted = if_counted got (nat_lt t.nak_count t.naks) (record { heard = Goes; transfer = record t { nak_count = suc t.nak_count } }) (failed t whys.Busy) (other, count) (refl, count)
+  delayed_counted = if_counted got (nat_lt t.nak_count t.naks) (record { received = Goes; transfer = record t { nak_count = suc t.nak_count } }) (failed t whys.Busy) (other, count) (refl, count)
 
   data_counted : (toggle : Toggle) (bytes : List ℕ) → Counted got (taken_data t toggle bytes)
   data_counted toggle bytes =
@@ -95,8 +95,8 @@ module _ (sends : Bool) (t : TransferView) (got : List ℕ) (other : is_data_out
   counted (Failed why) reply e none = (other, count)
 
 -- whatever comes back
-pub counts_on : (sends : Bool) (h : HostEnd) (reply : Reply) → brings_bytes h.transfer.request ≡ false → HasCounted h → HasCounted (hears sends h reply)
+pub counts_on : (sends : Bool) (h : HostEnd) (reply : Reply) → brings_bytes h.transfer.request ≡ false → HasCounted h → HasCounted (receives_reply sends h reply)
 counts_on sends h reply none (there, count) =
     let other = elsewhere h.transfer.stage there in
     let c = counted sends h.transfer h.got other count h.transfer.stage reply other none in
-    (not_there (hears sends h reply).transfer.stage c.0, c.1)
+    (not_there (receives_reply sends h reply).transfer.stage c.0, c.1)

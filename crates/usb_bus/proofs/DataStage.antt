@@ -26,7 +26,7 @@ module _ (answer : State → SetupPacket → Outcome) (cut : ℕ) (s : State) (q
   abbrev pub IsRead : ℕ → ℕ → Toggle → List ℕ → ℕ → Type 0
   IsRead l k awaited got strikes = IsReading answer cut s q size naks data_out l q bytes k awaited got (length got) strikes s
 
-  -- what the ends keep in the data stage, the host so many packets and the device so many of them as acknowledged
+  -- what the ends keep in the data stage, the host this many packets and the device this many of them as acknowledged
   abbrev pub Reads : ℕ → ℕ → List ℕ → Type 0
   Reads k kept got = (l strikes : ℕ) → strikes + (kept - k) ≤ l → IsRead l k (toggle_of kept) got strikes
 
@@ -49,9 +49,9 @@ module _ (answer : State → SetupPacket → Outcome) (cut : ℕ) (s : State) (q
     abbrev pub Step : Fate → Toggle → Type 0
     Step fate awaited = Goes answer cut s q size naks data_out fate s DataIn (Sending q bytes k) (record m { awaited = awaited; count = length m.got })
 
-    -- one where this packet is due
+    -- one where this packet comes next
     module _ (p : List ℕ) where
-      -- the last packet is due and not yet acknowledged
+      -- the last packet comes next, and is not acknowledged yet
       pub last : (fate : Fate) → m.strikes ≤ m.l → drop k all ≡ p ∷ [] → drop (suc k) all ≡ [] → length all ≡ suc k → Due size q.length (length m.got) (p ∷ []) →
           Reads k k m.got → length (m.got ++ p) ≡ length m.got + length p → m.got ++ p ≡ bytes → is_same_toggle (toggle_of k) (toggle_of k) ≡ true →
           Step fate (toggle_of k)
@@ -61,7 +61,7 @@ module _ (answer : State → SetupPacket → Outcome) (cut : ℕ) (s : State) (q
           grind (arith, nat_tests)
 
       module _ (second : List ℕ) (rest : List (List ℕ)) (at : drop k all ≡ p ∷ (second ∷ rest)) (after : drop (suc k) all ≡ second ∷ rest) where
-        -- another packet is due after p
+        -- another packet comes next after p
         pub inner : (fate : Fate) → m.strikes ≤ m.l → Due size q.length (length m.got) (p ∷ (second ∷ rest)) →
             Reads k k m.got → Reads (suc k) (suc k) (m.got ++ p) → Reads k (suc k) (m.got ++ p) →
             length (m.got ++ p) ≡ length m.got + length p → is_same_toggle (toggle_of k) (toggle_of k) ≡ true → Step fate (toggle_of k)

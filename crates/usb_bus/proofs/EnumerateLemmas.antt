@@ -31,12 +31,12 @@ runs_on f fates new earlier x y n now runs (inr (t, e)) = inr (n, e, t, runs)
 takes_resets : (v w : HostView) (p : HostPhase) (answer : Answer) → TakesIn v p answer w → w.resets ≡ v.resets
 takes_resets v w ResetDue answer e = ap (λ h. h.resets) e
 takes_resets v w (Ended place) answer e = ap (λ h. h.resets) e
-takes_resets v w (Reading place t k) answer (phase, heard, e) = ap (λ h. h.resets) e
+takes_resets v w (Reading place t k) answer (phase, received, e) = ap (λ h. h.resets) e
 
 takes_limits : (v w : HostView) (p : HostPhase) (answer : Answer) → TakesIn v p answer w → w.limits ≡ v.limits
 takes_limits v w ResetDue answer e = ap (λ h. h.limits) e
 takes_limits v w (Ended place) answer e = ap (λ h. h.limits) e
-takes_limits v w (Reading place t k) answer (phase, heard, e) = ap (λ h. h.limits) e
+takes_limits v w (Reading place t k) answer (phase, received, e) = ap (λ h. h.limits) e
 
 -- each step falls: a transaction in what may be asked for, a reset in the attempts that are left
 pub take_falls : (v w : HostView) (answer : Answer) → Takes v answer w → left_to_ask w < left_to_ask v → measure w < measure v
@@ -84,7 +84,7 @@ says f limits used attempts s forgiven (Ended place) o good e = says_at f limits
 pub all_used : (limits : LimitView) (used : List Fate) (attempts : ℕ) (o : Result DescriptorFile Trouble) →
     IfErr o (λ trouble. HasCause limits used attempts trouble.why) → IfErr o (λ trouble. blames_bus trouble.why ≡ true → attempts ≡ limits.attempts)
 all_used limits used attempts (Ok g) h = tt
-all_used limits used attempts (Err trouble) (inl (e, heard)) = λ blamed. absurd (let wrong = sym (ap blames_bus e) ∙ blamed in cc)
+all_used limits used attempts (Err trouble) (inl (e, received)) = λ blamed. absurd (let wrong = sym (ap blames_bus e) ∙ blamed in cc)
 all_used limits used attempts (Err trouble) (inr (blamed, all, bad)) = λ again. all
 
 -- fewer Busy have no more whole measures
@@ -93,7 +93,7 @@ fewer_measures a b naks few = le-div (a / suc naks) b (suc naks) (omega arith) (
 
 only_memory : (limits : LimitView) (fates : List Fate) (n attempts : ℕ) (why : Why) → HasCause limits (fates_used fates n) attempts why →
     losses fates + busies fates / suc limits.naks < limits.attempts → why ≡ Memory
-only_memory limits fates n attempts why (inl (e, heard)) few = e
+only_memory limits fates n attempts why (inl (e, received)) few = e
 only_memory limits fates n attempts why (inr (blamed, all, bad)) few =
     absurd (let l = losses-fates_used fates n in let b = fewer_measures (busies (fates_used fates n)) (busies fates) limits.naks (busies-fates_used fates n) in omega arith)
 

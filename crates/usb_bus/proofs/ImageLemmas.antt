@@ -13,12 +13,12 @@ use Rattle.usb_host.specs.declared.why.Why.{Why}
 use Rattle.usb_host.specs.declared.why.Why.TheVariants.{NoAnswer, Busy, Stalled, TooLong, Unexpected, Malformed, Memory}
 use Rattle.usb_host.specs.declared.transfer.TransferStage.{TransferStage}
 use Rattle.usb_host.specs.declared.transfer.TransferStage.TheVariants.{Setup, DataIn, DataOut, StatusOut, StatusIn, Completed, Failed as TheFailed}
-use Rattle.usb_host.specs.Transfer.{TransferView, Hearing, Goes, Brings, Completes, Fails, Taken, taken, taken_at, taken_data, taken_status, kept_packet, struck, delayed, failed, completed, data_stage}
+use Rattle.usb_host.specs.Transfer.{TransferView, HeardView, Goes, Brings, Completes, Fails, Taken, taken, taken_at, taken_data, taken_status, kept_packet, struck, delayed, failed, completed, data_stage}
 use Rattle.usb_device.specs.Step.{DeviceView}
 use Rattle.usb_host.specs.declared.reply.Reply.{Reply}
 use Rattle.usb_host.specs.declared.reply.Reply.TheVariants as replied
 use Rattle.usb_bus.proofs.TakenLemmas.{taken_plain}
-use Rattle.usb_bus.specs.Bus.{HostEnd, hears, host_after, with_heard}
+use Rattle.usb_bus.specs.Bus.{HostEnd, receives_reply, host_after, with_received}
 use Rattle.usb_host.specs.Plan.{Plan}
 use Rattle.usb_bus.specs.Attempt.{no_data, Phase, Running, phase_of, reply_from, advance}
 use Rattle.usb_set.specs.declared.tree.Configuration.{Configuration}
@@ -28,7 +28,7 @@ use Rattle.usb_host.specs.Keeping as kept
 use Rattle.usb_host.specs.Order.{asks, forgiven_by, leads, next, spared, stopped, bytes_lead, set_leads, done_leads, refused_leads}
 use Rattle.usb_host.specs.Keeping.{Kept, nothing_kept, set_kept}
 use Rattle.usb_host.specs.Gathered.{reached}
-use Rattle.usb_host.specs.Steps.{HostPhase, Reading, Ended, Grows, KeepsHeard, LacksMemory, TakesHeard, enter, read_leads, completed_leads, goes_on, passes_over}
+use Rattle.usb_host.specs.Steps.{HostPhase, Reading, Ended, Grows, KeepsReceived, LacksMemory, TakesReceived, enter, read_leads, completed_leads, goes_on, passes_over}
 use Rattle.usb_host.specs.inside.Sound.{FitsPlace}
 use Rattle.usb_bus.specs.inside.Image.{KeptFrom, IsInWork, IsRead, IsTransfer, IsImage, passed_over, plan_of, ReadsSets}
 use Rattle.std.proofs.lemmas.List.{append-nil}
@@ -41,7 +41,7 @@ nothing_from : (place : Place) → KeptFrom [] (nothing_kept place)
 nothing_from (Set kind f total) = (refl, nothing_is_open, refl)
 nothing_from place = refl
 
--- a request for so many bytes from the device sends it none
+-- a request for this many bytes from the device sends it none
 in_reads : (z : Bool) → (if z then StatusIn else data_stage directions.In) ≡ DataOut → ⊥
 in_reads true e = cc
 in_reads false e = cc
@@ -51,7 +51,7 @@ begun_reads n = (λ e. cc, λ e. in_reads (n == 0) e)
 
 -- the count of bytes stays that of the bytes, and no data go to the device
 abbrev Counts : List ℕ → Taken → Type 0
-Counts got x = (x.transfer.kept ≡ length (with_heard got x.heard)) × IsRead x.transfer
+Counts got x = (x.transfer.kept ≡ length (with_received got x.received)) × IsRead x.transfer
 
 if_counts : (got : List ℕ) (b : Bool) (x y : Taken) → Counts got x → Counts got y → Counts got (if b then x else y)
 if_counts got true x y p q = p
@@ -242,8 +242,8 @@ module _ (laws : SetLaws) (set_of : List ℕ → Option Configuration) (limits :
   advanced replies e StatusIn d place t k here open_ fits is = (here, open_, fits, is)
 
   -- what is kept goes with the bytes
-  keeps : (place : Place) (got : List ℕ) (old new : Kept) (heard : Hearing) (result : Result Progress SetFault) → FitsPlace place old → KeptFrom got old →
-      KeepsHeard old heard result new → (LacksMemory heard old result → ⊥) → FitsPlace place new × KeptFrom (with_heard got heard) new
+  keeps : (place : Place) (got : List ℕ) (old new : Kept) (received : HeardView) (result : Result Progress SetFault) → FitsPlace place old → KeptFrom got old →
+      KeepsReceived old received result new → (LacksMemory received old result → ⊥) → FitsPlace place new × KeptFrom (with_received got received) new
   keeps place got old new Goes result fits is e fine = (subst (λ w. FitsPlace place w) (sym e) fits, subst (λ w. KeptFrom got w) (sym e) is)
   keeps place got old new Completes result fits is e fine = (subst (λ w. FitsPlace place w) (sym e) fits, subst (λ w. KeptFrom got w) (sym e) is)
   keeps place got old new (Fails why) result fits is e fine = (subst (λ w. FitsPlace place w) (sym e) fits, subst (λ w. KeptFrom got w) (sym e) is)
@@ -256,10 +256,10 @@ module _ (laws : SetLaws) (set_of : List ℕ → Option Configuration) (limits :
 
   pub stays : (replies : List Reply) (h : HostEnd) (d : DeviceView) (place : Place) (t : TransferView) (k : Kept) (packet : Packet) (new : HostPhase)
       (before after : List Trouble) → Image replies (Running h) (Reading place t k) →
-      TakesHeard limits terms place k (taken t packet) new before after →
-      ((result : Result Progress SetFault) × (LacksMemory (taken t packet).heard k result ⊎ Grows terms.choice.strings (taken t packet).heard place)
+      TakesReceived limits terms place k (taken t packet) new before after →
+      ((result : Result Progress SetFault) × (LacksMemory (taken t packet).received k result ⊎ Grows terms.choice.strings (taken t packet).received place)
       × (new ≡ Ended (stopped place Memory)))
-      ⊎ (let e = hears false h packet in let x = advance plan limits.naks no_data replies e e.transfer.stage d in
+      ⊎ (let e = receives_reply false h packet in let x = advance plan limits.naks no_data replies e e.transfer.stage d in
       Image x.replies x.phase new × (Passes replies before → Passes x.replies after))
   stays replies h d place t k packet new b a (here, open_, fits, is) (result, after, works, inl (wants, e, same)) =
       inl (result, elim wants [ inl lacks ↦ inl lacks | inr grows ↦ inr grows.0 ], e)
@@ -267,13 +267,13 @@ module _ (laws : SetLaws) (set_of : List ℕ → Option Configuration) (limits :
       let by = taken t packet in
       let end : HostEnd = host_after h.got by in
       let c = counts h.got t t.stage packet refl is.is_count is.is_read in
-      let w = keeps place h.got k after by.heard result fits is.is_kept works fine in
+      let w = keeps place h.got k after by.received result fits is.is_kept works fine in
       let moved : IsTransfer end by.transfer after = record { is_transfer = refl; is_read = c.1; is_count = c.0; is_kept = w.1 } in
       let image = advanced replies end by.transfer.stage d place by.transfer after here open_ w.0 moved in
       let passes : Passes replies b → Passes (advance plan limits.naks no_data replies end by.transfer.stage d).replies a = λ p.
       subst (λ ts. Passes (advance plan limits.naks no_data replies end by.transfer.stage d).replies ts) (sym adds)
       (passed replies end by.transfer.stage d place by.transfer after b here open_ w.0 moved p) in
-      let same : hears false h packet ≡ end =
+      let same : receives_reply false h packet ≡ end =
       ap (λ x. host_after h.got x) (taken_plain h.transfer h.transfer.stage packet) ∙ ap (λ x. host_after h.got (taken x packet)) is.is_transfer in
       inr (subst (λ z. (let x = advance plan limits.naks no_data replies z z.transfer.stage d in Image x.replies x.phase new × (Passes replies b → Passes x.replies a))) (sym same)
       (subst (λ s. Image (advance plan limits.naks no_data replies end by.transfer.stage d).replies (advance plan limits.naks no_data replies end by.transfer.stage d).phase s) (sym e) image, passes))

@@ -6,7 +6,7 @@ use Rattle.usb_fields.specs.declared.setup.Setup.{Setup as SetupPacket}
 use Rattle.usb_host.specs.declared.why.Why.{Why}
 use Rattle.usb_host.specs.declared.transfer.TransferStage.{TransferStage}
 use Rattle.usb_host.specs.declared.transfer.TransferStage.TheVariants.{Setup, DataIn, DataOut, StatusOut, StatusIn, Completed, Failed}
-use Rattle.usb_host.specs.Transfer.{TransferView, Hearing, Goes, Brings, Completes, Fails, due_of, addressed, token_due}
+use Rattle.usb_host.specs.Transfer.{TransferView, HeardView, Goes, Brings, Completes, Fails, due_of, addressed, token_due}
 use Rattle.usb_device.specs.declared.state.State.{State}
 use Rattle.usb_device.specs.Requests.{Outcome}
 use Rattle.usb_device.specs.Step.{DeviceView}
@@ -20,7 +20,7 @@ use Rattle.usb_bus.specs.inside.Running.{failure_of, point, LeadsTo}
 use Rattle.usb_bus.proofs.Runs.{AreDue-more}
 
 -- why a transfer fails, as it tells its caller
-abbrev pub failure_in : Hearing → Option Why
+abbrev pub failure_in : HeardView → Option Why
 failure_in Goes = None
 failure_in (Brings bytes) = None
 failure_in Completes = None
@@ -28,7 +28,7 @@ failure_in (Fails why) = Some why
 
 -- what is reported to the caller is what the stage says
 pub failure_in-taken : (sends : Bool) (t : TransferView) (stage : TransferStage) (r : PacketReply) → t.stage ≡ stage →
-    failure_in (taken_by sends t stage r).heard ≡ failure_of (taken_by sends t stage r).transfer.stage
+    failure_in (taken_by sends t stage r).received ≡ failure_of (taken_by sends t stage r).transfer.stage
 failure_in-taken sends t Setup r e = grind (arith, nat_tests)
 failure_in-taken sends t DataIn r e = grind (arith, nat_tests)
 failure_in-taken true t DataOut r e = grind (arith, nat_tests)
@@ -38,7 +38,7 @@ failure_in-taken sends t StatusIn r e = grind (arith, nat_tests)
 failure_in-taken sends t Completed r e = grind (arith, nat_tests)
 failure_in-taken sends t (Failed why) r e = grind (arith, nat_tests)
 
--- what is due has its data, and is due without them
+-- what comes next has its data, and comes next without them
 pub still_due : (t : TransferView) (bytes : List ℕ) (stage : TransferStage) (sent : Sent) → addressed t.address (token_due t bytes stage) ≡ Some sent →
     IsSome (addressed t.address (token_due t [] stage))
 still_due t bytes Setup sent e = refl

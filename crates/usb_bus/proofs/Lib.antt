@@ -35,7 +35,7 @@ mod DescribeLemmas
 mod ReaderLemmas
 mod SeriesLemmas
 mod ImageLemmas
-mod HeardLemmas
+mod ReceivedLemmas
 mod RunLemmas
 mod AskedLemmas
 mod TestedRuns

@@ -86,9 +86,9 @@ pub step_put : (brief : Bool) (f : DescriptorFile) (fates : List Fate) (x y : Pa
     → HasSeen brief number fate step transfer (answered f x.device sent (fate_at fates n)) (carried (answer f) f.device.packet x.device sent (fate_at fates n)).reply y.host.phase old lines packet why)
     → text ≡ done_lines size is lines packet why y.host y.device → is ≡ is_some (transfer_in x.host.phase) → old ≡ [] → size ≡ f.device.packet → fate ≡ fate_at fates n
     → (now ≡ suc n → number ≡ now) → step ≡ step_in x.host.phase → transfer ≡ transfer_in x.host.phase → text ≡ step_lines brief f fates now x y
-step_put brief f fates x y n now number size fate is step transfer old lines packet why text (inl (r, e)) seen put kind none of at count in_work before =
+step_put brief f fates x y n now number size fate is step transfer old lines packet why text (inl (r, e)) seen put kind none of at count is_current before =
     put ∙ rw (of, kind) (lines_at brief f fates x.device y x.host.phase n now lines packet why (inl r.due))
-step_put brief f fates x y n now number size fate is step transfer old lines packet why text (inr (t, e)) seen put kind none of at count in_work before =
+step_put brief f fates x y n now number size fate is step transfer old lines packet why text (inr (t, e)) seen put kind none of at count is_current before =
     let was = seen t.sent t.due in
     let counted = count e in
     put ∙ rw (of, kind) (lines_at brief f fates x.device y x.host.phase n now lines packet why
@@ -96,7 +96,7 @@ step_put brief f fates x y n now number size fate is step transfer old lines pac
       t.sent,
       t.due,
       e,
-      rw (sym counted, sym at, sym none, sym in_work, sym before)
+      rw (sym counted, sym at, sym none, sym is_current, sym before)
           (subst (λ u. HasSeen brief number fate step transfer (answered f x.device t.sent u) (brought u (answered f x.device t.sent u)) y.host.phase old lines packet why) (sym at)
           (subst (λ came. HasSeen brief number fate step transfer (answered f x.device t.sent (fate_at fates n)) came y.host.phase old lines packet why) (came_is f x.device t.sent (fate_at fates n)) was)),
     )))

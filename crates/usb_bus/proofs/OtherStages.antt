@@ -16,7 +16,7 @@ use Rattle.usb_device.specs.Step.{DeviceStage, Served, replies, begun}
 use Rattle.usb_device.specs.Step as device
 use Rattle.usb_bus.specs.declared.fate.Fate.{Fate}
 use Rattle.usb_bus.specs.declared.fate.Fate.TheVariants.{Pass, Busy, LostDown, LostUp, LostAck}
-use Rattle.usb_bus.specs.Bus.{lost, busy, ack_lost, has_data, Ends, HostEnd, step_of, hears, acknowledged}
+use Rattle.usb_bus.specs.Bus.{lost, busy, ack_lost, has_data, Ends, HostEnd, step_of, receives_reply, acknowledged}
 use Rattle.usb_bus.specs.Together.{Stages, IsReading, IsWriting, AreInStages}
 use Rattle.usb_bus.specs.inside.Sound.{IsCut}
 use Rattle.usb_bus.proofs.Fronts.{some_due}
@@ -140,7 +140,7 @@ module _ (answer : State → SetupPacket → Outcome) (cut : ℕ) (s : State) (q
     abbrev GoesBy : Fate → SetupPacket → Type 0
     GoesBy fate x =
         let r = carried_setup x fate in
-        After fate m (record { host = hears (has_data data_out) (host_at Setup asking) r.reply; device = r.device })
+        After fate m (record { host = receives_reply (has_data data_out) (host_at Setup asking) r.reply; device = r.device })
 
     by_outcome : (fate : Fate) (outcome : Outcome) → answer s q ≡ outcome → GoesBy fate q
     by_outcome fate (Bytes bytes) e =

@@ -19,7 +19,7 @@ use Rattle.usb_device.specs.Step as device
 use Rattle.usb_device.specs.Beside.{Response, beside}
 use Rattle.usb_bus.specs.declared.fate.Fate.{Fate}
 use Rattle.usb_bus.specs.declared.fate.Fate.TheVariants.{Pass, Busy, LostDown, LostUp, LostAck}
-use Rattle.usb_bus.specs.Bus.{lost, busy, ack_lost, losses, busies, acks_lost, HostEnd, Ends, has_data, is_data, hears, host_after, acknowledged, carried, exchanged, step_of, taken_by}
+use Rattle.usb_bus.specs.Bus.{lost, busy, ack_lost, losses, busies, acks_lost, HostEnd, Ends, has_data, is_data, receives_reply, host_after, acknowledged, carried, exchanged, step_of, taken_by}
 use Rattle.usb_bus.specs.Beside.{IsTable, Moment, asked_to_judge, fates_of, IsAmong, run_moments}
 use Rattle.usb_bus.specs.Attempt.{begins}
 use Rattle.usb_bus.specs.Together.{Stages, AreInStages, IsRefused, IsWriting}
@@ -85,7 +85,7 @@ module _ (room : ℕ) (table : State → SetupPacket → Outcome) (packet : ℕ)
       ((ready : Bool) → served (both r') packet d sent ready ≡ served (both r) packet d sent ready) →
       exchanged (both r') packet sends h d (Some sent) fate ≡ exchanged (both r) packet sends h d (Some sent) fate
   exchanged_alike r r' sends h d sent fate same =
-      ap (λ x. record { host = hears sends h x.reply; device = x.device }) (carries_alike r r' d sent same fate)
+      ap (λ x. record { host = receives_reply sends h x.reply; device = x.device }) (carries_alike r r' d sent same fate)
 
   -- The last packet of a write, where the responder refuses the request by now, is acknowledged and not judged. At any other OUT in
   -- the data stage of a write nothing depends on the responder.
@@ -234,8 +234,8 @@ module _ (room : ℕ) (table : State → SetupPacket → Outcome) (packet : ℕ)
           abbrev Then : ℕ → HostEnd → Type 0
           Then l' h = (b' a' : ℕ) → b ≤ b' → Both m.respond l' b' a' (record { host = h; device = done })
 
-          hears_ack : has_data data_out ≡ true → (l' : ℕ) → Then l' (hears (has_data data_out) e.host AckReply)
-          hears_ack sends l' b' a' few =
+          receives_ack : has_data data_out ≡ true → (l' : ℕ) → Then l' (receives_reply (has_data data_out) e.host AckReply)
+          receives_ack sends l' b' a' few =
               subst (λ st. Both m.respond l' b' a' (record { host = host_after e.host.got (taken_by (has_data data_out) e.host.transfer st AckReply); device = done })) (sym at)
               (subst (λ x. Both m.respond l' b' a' (record { host = host_after e.host.got (if x then write.acknowledged e.host.transfer else failed e.host.transfer Unexpected); device = done })) (sym sends)
               (record {
@@ -252,14 +252,14 @@ module _ (room : ℕ) (table : State → SetupPacket → Outcome) (packet : ℕ)
               by_count true t n = refused l' 0 (omega arith)
               by_count false t n = (refused l' 0 (omega arith), sends)
 
-          hears_none : has_data data_out ≡ true → (l' : ℕ) → l + 1 ≤ l' → Then l' (hears (has_data data_out) e.host NoReply)
-          hears_none sends l' more b' a' few =
+          receives_none : has_data data_out ≡ true → (l' : ℕ) → l + 1 ≤ l' → Then l' (receives_reply (has_data data_out) e.host NoReply)
+          receives_none sends l' more b' a' few =
               subst (λ st. Both m.respond l' b' a' (record { host = host_after e.host.got (taken_by (has_data data_out) e.host.transfer st NoReply); device = done })) (sym at)
               (by_strikes (nat_lt e.host.transfer.strikes 2) refl)
             where
               by_strikes : (few : Bool) → nat_lt e.host.transfer.strikes 2 ≡ few →
                   Both m.respond l' b' a' (record {
-                    host = host_after e.host.got (if few then record { heard = Goes; transfer = record e.host.transfer { strikes = suc e.host.transfer.strikes } } else failed e.host.transfer NoAnswer);
+                    host = host_after e.host.got (if few then record { received = Goes; transfer = record e.host.transfer { strikes = suc e.host.transfer.strikes } } else failed e.host.transfer NoAnswer);
                     device = done;
                   })
               by_strikes true i =
@@ -308,7 +308,7 @@ module _ (room : ℕ) (table : State → SetupPacket → Outcome) (packet : ℕ)
           abbrev IsDue_now : Type 0
           IsDue_now = (length (packet_due e.host.transfer data_out) == min packet (asked.length - length came)) ≡ true
 
-          -- a packet that is due has data
+          -- the next packet has data
           sends_data : IsDue_now → has_data data_out ≡ true
           sends_data due =
               let right : length (packet_due e.host.transfer data_out) ≡ min packet (asked.length - length came) = grind (arith, nat_tests) in
@@ -327,24 +327,24 @@ module _ (room : ℕ) (table : State → SetupPacket → Outcome) (packet : ℕ)
           by_case Pass (inr (last, due)) = (
             m.respond,
             inr refl,
-            subst (λ x. Both m.respond (l + 0) (b + 0) (a + 0) (let y = acknowledged (both m.respond) packet Pass x in record { host = hears (has_data data_out) e.host y.reply; device = y.device })) (sym last)
-                (hears_ack (sends_data due) (l + 0) (b + 0) (a + 0) (omega arith)),
+            subst (λ x. Both m.respond (l + 0) (b + 0) (a + 0) (let y = acknowledged (both m.respond) packet Pass x in record { host = receives_reply (has_data data_out) e.host y.reply; device = y.device })) (sym last)
+                (receives_ack (sends_data due) (l + 0) (b + 0) (a + 0) (omega arith)),
           )
           by_case LostAck (inr (last, due)) = (
             m.respond,
             inr refl,
-            subst (λ x. Both m.respond (l + 1) (b + 0) (a + 1) (record { host = hears (has_data data_out) e.host x.reply; device = x.device })) (sym last)
-                (hears_ack (sends_data due) (l + 1) (b + 0) (a + 1) (omega arith)),
+            subst (λ x. Both m.respond (l + 1) (b + 0) (a + 1) (record { host = receives_reply (has_data data_out) e.host x.reply; device = x.device })) (sym last)
+                (receives_ack (sends_data due) (l + 1) (b + 0) (a + 1) (omega arith)),
           )
           by_case LostUp (inr (last, due)) = (
             m.respond,
             inr refl,
-            subst (λ x. Both m.respond (l + 1) (b + 0) (a + 0) (record { host = hears (has_data data_out) e.host NoReply; device = x.device })) (sym last)
-                (hears_none (sends_data due) (l + 1) (omega arith) (b + 0) (a + 0) (omega arith)),
+            subst (λ x. Both m.respond (l + 1) (b + 0) (a + 0) (record { host = receives_reply (has_data data_out) e.host NoReply; device = x.device })) (sym last)
+                (receives_none (sends_data due) (l + 1) (omega arith) (b + 0) (a + 0) (omega arith)),
           )
           by_case LostDown (inr last) = same_now LostDown refl
           by_case Busy (inr last) =
-              same_now Busy (ap (λ x. record { host = hears (has_data data_out) e.host x.reply; device = x.device }) (acks_alike r m.respond (served (both r) packet e.device sent false)))
+              same_now Busy (ap (λ x. record { host = receives_reply (has_data data_out) e.host x.reply; device = x.device }) (acks_alike r m.respond (served (both r) packet e.device sent false)))
 
           declines : After
           declines =

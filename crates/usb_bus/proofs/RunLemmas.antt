@@ -19,7 +19,7 @@ use Rattle.usb_device.specs.Requests.{Outcome}
 use Rattle.usb_device.specs.Step.{DeviceView, new_device}
 use Rattle.usb_bus.specs.declared.fate.Fate.{Fate}
 use Rattle.usb_bus.specs.declared.fate.Fate.TheVariants.{Pass}
-use Rattle.usb_bus.specs.Bus.{losses, busies, HostEnd, carried, exchanged, hears}
+use Rattle.usb_bus.specs.Bus.{losses, busies, HostEnd, carried, exchanged, receives_reply}
 use Rattle.usb_bus.specs.Attempt.{no_data, Phase, Running, Succeeded, Broken, Attempt, proceed, advance, attempt_step}
 use Rattle.usb_bus.specs.Run.{fate_at, fates_used}
 use Rattle.usb_host.specs.declared.step.Step.{Step}
@@ -28,15 +28,15 @@ use Rattle.usb_host.specs.Place.{Place, First, Reported, Stopped}
 use Rattle.usb_host.specs.Keeping.{Kept}
 use Rattle.usb_host.specs.Order.{stopped}
 use Rattle.usb_host.specs.Gathered.{reached}
-use Rattle.usb_host.specs.Steps.{HostPhase, ResetDue, Reading, Ended, HostView, WantsReset, WantsSent, wanted, sends, enter, settled, blames_bus, terms_of, TakesHeard, TakesIn}
+use Rattle.usb_host.specs.Steps.{HostPhase, ResetDue, Reading, Ended, HostView, WantsReset, WantsSent, wanted, sends, enter, settled, blames_bus, terms_of, TakesReceived, TakesIn}
 use Rattle.usb_bus.specs.Asked.{asked_of}
-use Rattle.usb_bus.specs.Enumerate.{brings, chosen_pair, configured_state, ends_heard, Pair, IsReset, IsTransactionAt, RunsAt}
+use Rattle.usb_bus.specs.Enumerate.{brings, chosen_pair, configured_state, ends_received, Pair, IsReset, IsTransactionAt, RunsAt}
 use Rattle.usb_host.proofs.AskingLemmas.{wants_reset, reset_is}
 use Rattle.usb_bus.specs.Series.{Series, fresh, settle, series_step, series_run}
 use Rattle.usb_bus.specs.inside.Laws.{Verdict}
 use Rattle.usb_bus.specs.inside.Image.{passed_over, plan_of, IsImage, StaysImage}
 use Rattle.usb_bus.specs.inside.Running.{PlaceEndsWell, GoesWell}
-use Rattle.usb_bus.proofs.HeardLemmas.{wanting_heard}
+use Rattle.usb_bus.proofs.ReceivedLemmas.{wanting_received}
 
 -- one transaction more
 fates_used-more : (fates : List Fate) (n : ℕ) → fates_used fates (suc n) ≡ fates_used fates n ++ fate_at fates n ∷ []
@@ -45,19 +45,19 @@ fates_used-more (f ∷ fates) zero = refl
 fates_used-more [] (suc n) = ap (λ fs. Pass ∷ fs) (fates_used-more [] n)
 fates_used-more (f ∷ fates) (suc n) = ap (λ fs. f ∷ fs) (fates_used-more fates n)
 
--- what is sent is due
-pub is_due : (o : Option Sent) (sent : Sent) → sends o ≡ WantsSent sent → o ≡ Some sent
-is_due None sent e = absurd (cc)
-is_due (Some other) sent e = cc
+-- what is sent comes next
+pub comes_next : (o : Option Sent) (sent : Sent) → sends o ≡ WantsSent sent → o ≡ Some sent
+comes_next None sent e = absurd (cc)
+comes_next (Some other) sent e = cc
 
-ends_with : (fates : List Fate) (fate : Fate) → ends_heard (fates ++ fate ∷ []) ≡ brings fate
+ends_with : (fates : List Fate) (fate : Fate) → ends_received (fates ++ fate ∷ []) ≡ brings fate
 ends_with [] fate = refl
 ends_with (f ∷ []) fate = refl
 ends_with (f ∷ g ∷ fates) fate = ends_with (g ∷ fates) fate
 
-last_heard : (fates : List Fate) (m n : ℕ) → n ≡ suc m → brings (fate_at fates m) ≡ true → ends_heard (fates_used fates n) ≡ true
-last_heard fates m n count arrived =
-    ap (λ k. ends_heard (fates_used fates k)) count ∙ ap ends_heard (fates_used-more fates m) ∙ ends_with (fates_used fates m) (fate_at fates m) ∙ arrived
+last_received : (fates : List Fate) (m n : ℕ) → n ≡ suc m → brings (fate_at fates m) ≡ true → ends_received (fates_used fates n) ≡ true
+last_received fates m n count arrived =
+    ap (λ k. ends_received (fates_used fates k)) count ∙ ap ends_received (fates_used-more fates m) ∙ ends_with (fates_used fates m) (fate_at fates m) ∙ arrived
 
 module _ (set_of : List ℕ → Option Configuration) (limits : LimitView) (terms : Terms) where
   abbrev pub plan : List Reply → Plan
@@ -178,16 +178,16 @@ module _ (set_of : List ℕ → Option Configuration) (limits : LimitView) (term
 
     attempt_matches : (fate : Fate) (replies : List Reply) (p : Phase) (d : DeviceView) (place : Place) (t : TransferView) (k : Kept) (sent : Sent) (new : HostPhase)
         (before after : List Trouble) → Image replies p (Reading place t k) → due t ≡ Some sent →
-        TakesHeard limits terms place k (taken t (carried table f.device.packet d sent fate).reply) new before after →
+        TakesReceived limits terms place k (taken t (carried table f.device.packet d sent fate).reply) new before after →
         ((new ≡ Ended (stopped place Memory)) × (brings fate ≡ true)) ⊎ Stepped fate replies p d sent new before after
     attempt_matches fate replies (Running h) d place t k sent new b a image asks takes =
         let r = carried table f.device.packet d sent fate in
-        let z = hears false h r.reply in
+        let z = receives_reply false h r.reply in
         let asked : due h.transfer ≡ Some sent = ap due image.3.is_transfer ∙ asks in
         let there : exchanged table f.device.packet false h d (due h.transfer) fate ≡ record { host = z; device = r.device } =
         ap (λ o. exchanged table f.device.packet false h d o fate) asked in
         elim (stays replies h r.device place t k r.reply new b a image takes) [
-          | inl (result, wants, e) ↦ inl (e, wanting_heard terms.choice.strings table f.device.packet t k place sent fate d result asks wants)
+          | inl (result, wants, e) ↦ inl (e, wanting_received terms.choice.strings table f.device.packet t k place sent fate d result asks wants)
           | inr ok ↦
               inr (subst (λ e. (let y = advance plan limits.naks no_data replies e.host e.host.transfer.stage e.device in
               (Image y.replies y.phase new × (b ≡ passed_over set_of terms First replies → a ≡ passed_over set_of terms First y.replies)) × (y.device ≡ r.device)))
@@ -203,19 +203,19 @@ module _ (set_of : List ℕ → Option Configuration) (limits : LimitView) (term
         (IsWanting y.host × (brings fate ≡ true)) ⊎ Follows y (stepped fate s)
     reading_matches fate x y s sent ResetDue asks m before takes device = absurd (cc)
     reading_matches fate x y s sent (Ended place) asks m before takes device = absurd (cc)
-    reading_matches fate x y s sent (Reading place t k) asks m (few, attempts_are, image, device_is, passed) (phase, heard, host_is) device =
+    reading_matches fate x y s sent (Reading place t k) asks m (few, attempts_are, image, device_is, passed) (phase, received, host_is) device =
         let a = s.attempt in
         let answered : DeviceView → Answer = λ d. (carried table f.device.packet d sent fate).reply in
         let before = x.host.forgiven in
         let after = y.host.forgiven in
-        let heard_here : TakesHeard limits terms place k (taken t (answered a.device)) phase before after =
-        subst (λ d. TakesHeard limits terms place k (taken t (answered d)) phase before after) (sym device_is)
-        (subst (λ c. TakesHeard limits (record { speed = terms.speed; choice = c }) place k (taken t (answered x.device)) phase before after) m.choice_is
-        (subst (λ v. TakesHeard limits (record { speed = v; choice = x.host.choice }) place k (taken t (answered x.device)) phase before after) m.speed_is
-        (subst (λ l. TakesHeard l (terms_of x.host) place k (taken t (answered x.device)) phase before after) m.limits_are heard))) in
+        let received_here : TakesReceived limits terms place k (taken t (answered a.device)) phase before after =
+        subst (λ d. TakesReceived limits terms place k (taken t (answered d)) phase before after) (sym device_is)
+        (subst (λ c. TakesReceived limits (record { speed = terms.speed; choice = c }) place k (taken t (answered x.device)) phase before after) m.choice_is
+        (subst (λ v. TakesReceived limits (record { speed = v; choice = x.host.choice }) place k (taken t (answered x.device)) phase before after) m.speed_is
+        (subst (λ l. TakesReceived l (terms_of x.host) place k (taken t (answered x.device)) phase before after) m.limits_are received))) in
         let phase_is : y.host.phase ≡ settled limits.attempts x.host.resets phase =
         ap (λ h. h.phase) host_is ∙ ap (λ l. settled l.attempts x.host.resets phase) m.limits_are in
-        elim (attempt_matches fate a.replies a.phase a.device place t k sent phase before after image (is_due (due t) sent asks) heard_here) [
+        elim (attempt_matches fate a.replies a.phase a.device place t k sent phase before after image (comes_next (due t) sent asks) received_here) [
           | inl (wants, arrived) ↦ inl ((place, phase_is ∙ ap (λ z. settled limits.attempts x.host.resets z) wants), arrived)
           | inr ok ↦
               let z = attempt_step plan limits.naks no_data table f.device.packet fate a.replies a.phase a.device in
@@ -253,25 +253,25 @@ module _ (set_of : List ℕ → Option Configuration) (limits : LimitView) (term
     after fates n = series_run plan limits.naks limits.attempts no_data table f.device.packet (fates_used fates n) (begin 1)
 
     pub runs_match : (some : 0 < limits.attempts) (fates : List Fate) (earlier : List Pair) (n : ℕ) (last : Pair) → RunsAt table f.device.packet fates (chosen_pair limits terms.speed terms.choice) earlier n last →
-        (IsWanting last.host × (ends_heard (fates_used fates n) ≡ true)) ⊎ Follows last (after fates n)
+        (IsWanting last.host × (ends_received (fates_used fates n) ≡ true)) ⊎ Follows last (after fates n)
     runs_match some fates [] n last (e, none) =
         let new : Follows (chosen_pair limits terms.speed terms.choice) (begin 1) = record { limits_are = refl; speed_is = refl; choice_is = refl; matches = (some, refl) } in
         inr (subst (λ m. Follows last (after fates m)) (sym none) (subst (λ y. Follows y (begin 1)) (sym e) new))
     runs_match some fates (x ∷ earlier) n last (inl (r, more)) =
         elim (runs_match some fates earlier n x more) [
-          | inl (wants, heard) ↦ absurd (wants_no_reset x.host wants r.due)
+          | inl (wants, received) ↦ absurd (wants_no_reset x.host wants r.due)
           | inr m ↦ inr (resets_match x last (after fates n) r m)
         ]
     runs_match some fates (x ∷ earlier) n last (inr (m, count, t, more)) =
         elim (runs_match some fates earlier m x more) [
-          | inl (wants, heard) ↦ absurd (sends_nothing x.host t.sent wants t.due)
+          | inl (wants, received) ↦ absurd (sends_nothing x.host t.sent wants t.due)
           | inr ok ↦
               let same : stepped (fate_at fates m) (after fates m) ≡ after fates n =
               sym (series_more (fates_used fates m) (fate_at fates m) (begin 1))
               ∙ ap (λ used. series_run plan limits.naks limits.attempts no_data table f.device.packet used (begin 1)) (sym (fates_used-more fates m))
               ∙ ap (λ k. after fates k) (sym count) in
               elim (transaction_matches (fate_at fates m) x last (after fates m) t ok) [
-                | inl (wants, arrived) ↦ inl (wants, last_heard fates m n count arrived)
+                | inl (wants, arrived) ↦ inl (wants, last_received fates m n count arrived)
                 | inr there ↦ inr (subst (λ s. Follows last s) same there)
               ]
         ]
@@ -320,6 +320,6 @@ module _ (set_of : List ℕ → Option Configuration) (limits : LimitView) (term
         GoesWell asked limits (fates_used fates n) last.host.resets last.device.state last.host.forgiven last.host.phase
     run_ends some all reads passes fates earlier n last r v =
         elim (runs_match some fates earlier n last r) [
-          | inl (wants, heard) ↦ subst (λ p. GoesWell asked limits (fates_used fates n) last.host.resets last.device.state last.host.forgiven p) (sym wants.1) (inl (refl, heard))
+          | inl (wants, received) ↦ subst (λ p. GoesWell asked limits (fates_used fates n) last.host.resets last.device.state last.host.forgiven p) (sym wants.1) (inl (refl, received))
           | inr m ↦ goes all reads passes (fates_used fates n) (after fates n) last.host.resets last.host.phase last.device last.host.forgiven m.matches v
         ]

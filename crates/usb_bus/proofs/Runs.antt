@@ -50,11 +50,11 @@ module _ (plan : List Reply → Plan) (naks : ℕ) (sends : List Reply → List 
   length-points k zero x = refl
   length-points k (suc n) x = ap suc (length-points (suc k) n (next k x))
 
-  -- a transaction is due at point n from x on
+  -- a transaction comes next at point n from x on
   abbrev pub IsDue : ℕ → Attempt → ℕ → Type 0
   IsDue k x n = (sent : Sent) × (let y = point plan naks sends answer cut fates k n x in due_in (sends y.replies) y.phase ≡ Some sent)
 
-  -- one point more at which a transaction is due
+  -- one point more at which a transaction comes next
   pub AreDue-more : (k n : ℕ) (x : Attempt) → AreDue plan naks sends answer cut fates k n x → IsDue k x n → AreDue plan naks sends answer cut fates k (suc n) x
   AreDue-more k n x due last i less =
       elim (cases_lt i n) [
@@ -62,14 +62,14 @@ module _ (plan : List Reply → Plan) (naks : ℕ) (sends : List Reply → List 
         | inr from ↦ (let same : n ≡ i = omega arith in subst (λ j. IsDue k x j) same last)
       ]
 
-  -- the points are steps, where a transaction is due at each
+  -- the points are steps, where a transaction comes next at each
   pub Steps-points : (k n : ℕ) (x : Attempt) → AreDue plan naks sends answer cut fates k n x →
       Steps plan naks sends answer cut fates k x (points k n x) (point plan naks sends answer cut fates k n x)
   unfolding points
   Steps-points k zero x due = refl
   Steps-points k (suc n) x due =
       let first = due 0 (omega arith) in (
-        record { sent = first.0; is_due = first.1; next = refl },
+        record { sent = first.0; comes_next = first.1; next = refl },
         Steps-points (suc k) n (next k x) (λ i less. due (suc i) (omega arith)),
       )
 
@@ -90,14 +90,14 @@ module _ (plan : List Reply → Plan) (naks : ℕ) (sends : List Reply → List 
       ∙ ap (λ x. attempt_run plan naks sends answer cut (fates_used (drop (suc k) fates) (length ps)) x) a.0.next
       ∙ sym (ap (λ fs. attempt_run plan naks sends answer cut fs start) (fates_used-drop k fates (length ps)))
 
-  -- two runs from one point that both end where nothing is due are as long as each other, and end alike
+  -- two runs from one point that both end where nothing comes next are as long as each other, and end alike
   pub Steps-same : (k : ℕ) (start : Attempt) (ps qs : List Attempt) (x y : Attempt) → Steps plan naks sends answer cut fates k start ps x →
       Steps plan naks sends answer cut fates k start qs y → due_in (sends x.replies) x.phase ≡ None → due_in (sends y.replies) y.phase ≡ None → (length ps ≡ length qs) × (x ≡ y)
   Steps-same k start [] [] x y a b ends over = (refl, a ∙ sym b)
   Steps-same k start [] (q ∷ qs) x y a b ends over =
-      let clash : None ≡ Some b.0.sent = sym ends ∙ ap (λ z. due_in (sends z.replies) z.phase) a ∙ b.0.is_due in absurd (cc)
+      let clash : None ≡ Some b.0.sent = sym ends ∙ ap (λ z. due_in (sends z.replies) z.phase) a ∙ b.0.comes_next in absurd (cc)
   Steps-same k start (p ∷ ps) [] x y a b ends over =
-      let clash : None ≡ Some a.0.sent = sym over ∙ ap (λ z. due_in (sends z.replies) z.phase) b ∙ a.0.is_due in absurd (cc)
+      let clash : None ≡ Some a.0.sent = sym over ∙ ap (λ z. due_in (sends z.replies) z.phase) b ∙ a.0.comes_next in absurd (cc)
   Steps-same k start (p ∷ ps) (q ∷ qs) x y a b ends over =
       let same : q ≡ p = b.0.next ∙ sym a.0.next in
       let rest = Steps-same (suc k) p ps qs x y a.1 (subst (λ z. Steps plan naks sends answer cut fates (suc k) z qs y) same b.1) ends over in

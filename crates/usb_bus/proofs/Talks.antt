@@ -58,20 +58,20 @@ module _ (answer : State → SetupPacket → Outcome) (table : IsTable answer) (
   -- a SET_ADDRESS that comes last is reported
   moves_last : (q : AskedView) (qs : List AskedView) (s : State) → (ends_with_address (q ∷ qs) ≡ true → loose ≡ true) →
       is_set_address q.setup ≡ true → replies_to answer s qs ≡ [] → loose ≡ true
-  moves_last q [] s told is none = told is
-  moves_last q (x ∷ qs) s told is none =
+  moves_last q [] s report is none = report is
+  moves_last q (x ∷ qs) s report is none =
       absurd (let longer : suc (length (replies_to answer (carried_out s (answer s x.setup)) qs)) ≡ 0 = ap length none in omega arith)
 
   tells_on : (q : AskedView) (qs : List AskedView) → (ends_with_address (q ∷ qs) ≡ true → loose ≡ true) → ends_with_address qs ≡ true → loose ≡ true
-  tells_on q [] told is = absurd (grind arith)
-  tells_on q (x ∷ qs) told is = told is
+  tells_on q [] report is = absurd (grind arith)
+  tells_on q (x ∷ qs) report is = report is
 
   pub talk_follows : (qs : List AskedView) (s : State) (replies : List Reply) →
       reached start replies ≡ record { left = qs; address = s.address } → replies ++ replies_to answer s qs ≡ all → state_after answer s qs ≡ last →
       (ends_with_address qs ≡ true → loose ≡ true) → Follows (talk_plan n start) naks (talk_data start) answer n loose all last s replies (replies_to answer s qs)
-  talk_follows [] s replies at whole end told =
+  talk_follows [] s replies at whole end report =
       (ap (λ p. asked_at n p.address p.left) at, end, sym (append-nil replies) ∙ whole)
-  talk_follows (a ∷ qs) s replies at whole end told =
+  talk_follows (a ∷ qs) s replies at whole end report =
       let q = a.setup in
       let sent : talk_data start replies ≡ data_sent a = ap (λ p. sent_at p.left) at in
       let r = reply_to (data_sent a) (answer s q) in
@@ -92,8 +92,8 @@ module _ (answer : State → SetupPacket → Outcome) (table : IsTable answer) (
               address = λ t e i. (let g = (table.goes s q t e i).1 in rw g refl);
             },
             whole,
-            moves_last a qs (carried_out s (answer s q)) told,
-            talk_follows qs (carried_out s (answer s q)) (replies ++ r ∷ []) on (rw append_assoc whole) end (tells_on a qs told),
+            moves_last a qs (carried_out s (answer s q)) report,
+            talk_follows qs (carried_out s (answer s q)) (replies ++ r ∷ []) on (rw append_assoc whole) end (tells_on a qs report),
           ),
         ),
       )

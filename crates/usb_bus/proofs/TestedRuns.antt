@@ -1,4 +1,4 @@
--- A run with a device under test, each of whose answers is the one that is due, as a run with a device of the descriptors.
+-- A run with a device under test, each of whose answers is the one that comes next, as a run with a device of the descriptors.
 use Rattle.std.proofs.Common.{◌≡◌, ℕ, zero, suc, ◌≤◌, ◌==◌, Bool, true, false, if◌then◌else◌, List, [], ◌∷◌, Some, inl, inr, refl, ap, sym, ◌∙◌, subst, arith}
 use Rattle.std.specs.Prelude.{map, slice_get}
 use Rattle.usb_fields.specs.declared.packet.Speed.{Speed}
@@ -93,15 +93,15 @@ module _ (table : State → Setup → Outcome) (packet : ℕ) where
   -- a device of the descriptors answers so under its fate
   carries_known : (fate : Fate) (came : Reply) (d : DeviceView) (sent : Sent) (ready : Bool) → readiness fate ≡ Some ready →
       came ≡ (served table packet d sent (is_ready came)).reply → Carries fate came d sent
-  carries_known LostDown came d sent ready hears e = absurd (cc)
-  carries_known LostUp NakReply d sent ready hears e = (refl, (let a = nak_alike d sent (sym e) in record { state = sym a.state; stage = sym a.stage }))
-  carries_known LostUp came d sent ready hears e = alike_at LostUp (served table packet d sent true) came NoReply refl e
-  carries_known LostAck NakReply d sent ready hears e = alike_at Busy (served table packet d sent false) NakReply NakReply refl e
-  carries_known LostAck came d sent ready hears e = alike_at LostAck (served table packet d sent true) came came refl e
-  carries_known Pass NakReply d sent ready hears e = alike_at Busy (served table packet d sent false) NakReply NakReply refl e
-  carries_known Pass came d sent ready hears e = alike_at Pass (served table packet d sent true) came came refl e
-  carries_known Busy NakReply d sent ready hears e = alike_at Busy (served table packet d sent false) NakReply NakReply refl e
-  carries_known Busy came d sent ready hears e = alike_at Pass (served table packet d sent true) came came refl e
+  carries_known LostDown came d sent ready receives_reply e = absurd (cc)
+  carries_known LostUp NakReply d sent ready receives_reply e = (refl, (let a = nak_alike d sent (sym e) in record { state = sym a.state; stage = sym a.stage }))
+  carries_known LostUp came d sent ready receives_reply e = alike_at LostUp (served table packet d sent true) came NoReply refl e
+  carries_known LostAck NakReply d sent ready receives_reply e = alike_at Busy (served table packet d sent false) NakReply NakReply refl e
+  carries_known LostAck came d sent ready receives_reply e = alike_at LostAck (served table packet d sent true) came came refl e
+  carries_known Pass NakReply d sent ready receives_reply e = alike_at Busy (served table packet d sent false) NakReply NakReply refl e
+  carries_known Pass came d sent ready receives_reply e = alike_at Pass (served table packet d sent true) came came refl e
+  carries_known Busy NakReply d sent ready receives_reply e = alike_at Busy (served table packet d sent false) NakReply NakReply refl e
+  carries_known Busy came d sent ready receives_reply e = alike_at Pass (served table packet d sent true) came came refl e
 
   -- what follows of a pair, and of one that is alike
   record Follows (fate : Fate) (x last : Pair) : Type 0 where
@@ -133,9 +133,9 @@ module _ (table : State → Setup → Outcome) (packet : ℕ) where
             device = device;
           }
 
-      hears : (fate : Fate) (came : Reply) (ready : Bool) → readiness fate ≡ Some ready → Compares table packet free (record { fate = fate; came = came }) transfer sent y last (Some ready) →
+      receives_reply : (fate : Fate) (came : Reply) (ready : Bool) → readiness fate ≡ Some ready → Compares table packet free (record { fate = fate; came = came }) transfer sent y last (Some ready) →
           Follows (fate_by fate came) x last
-      hears fate came ready can ((open_transfer, allowed), takes, device) =
+      receives_reply fate came ready can ((open_transfer, allowed), takes, device) =
           let r = served table packet x.device sent (is_ready came) in
           let same : served table packet y.device sent (is_ready came) ≡ r = sym (served_alike x.device y.device sent (is_ready came) alike) in
           let came_is : came ≡ r.reply = agrees open_transfer came r.reply
@@ -147,10 +147,10 @@ module _ (table : State → Setup → Outcome) (packet : ℕ) where
 
       one_step : (fate : Fate) (came : Reply) → Compares table packet free (record { fate = fate; came = came }) transfer sent y last (readiness fate) → Follows (fate_by fate came) x last
       one_step LostDown came (takes, device) = follows_as LostDown NoReply refl takes (subst (λ d. IsAlike x.device d) (sym device) alike)
-      one_step LostUp came compares = hears LostUp came true refl compares
-      one_step LostAck came compares = hears LostAck came true refl compares
-      one_step Pass came compares = hears Pass came true refl compares
-      one_step Busy came compares = hears Busy came false refl compares
+      one_step LostUp came compares = receives_reply LostUp came true refl compares
+      one_step LostAck came compares = receives_reply LostAck came true refl compares
+      one_step Pass came compares = receives_reply Pass came true refl compares
+      one_step Busy came compares = receives_reply Busy came false refl compares
 
     -- ---- runs
 
@@ -172,7 +172,7 @@ module _ (table : State → Setup → Outcome) (packet : ℕ) where
       more_known m x last t agrees at step k =
           let y = k.known in
           let next = one_step y x last step.transfer step.sent step.due k.host k.alike
-          (agrees k.earlier m y k.runs step.transfer (ap (λ h. transfer_in h.phase) k.host ∙ step.in_work) step.sent (ap (λ h. wanted h.phase) k.host ∙ step.due))
+          (agrees k.earlier m y k.runs step.transfer (ap (λ h. transfer_in h.phase) k.host ∙ step.is_current) step.sent (ap (λ h. wanted h.phase) k.host ∙ step.due))
           t.fate t.came step.compares in
           record {
             earlier = y ∷ k.earlier;

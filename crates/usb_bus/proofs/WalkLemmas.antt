@@ -118,7 +118,7 @@ module _ (set_of : List ℕ → Option Configuration) (terms : Terms) (address :
       if_false (λ c. W f c (string_script address g.device.packet (Some s) (named_indices g) (last_script address g.device.packet f)))
       (skips g) (Configure g) (Languages g (named_indices g)) asked here
 
-  -- the sets of a kind, where `at` is the file with so many of them
+  -- the sets of a kind, where `at` is the file with this many of them
   module _ (f : DescriptorFile) (kind : SetKind) (n total : ℕ) (at : List Configuration → DescriptorFile)
       (is_packet : (done : List Configuration) → (at done).device.packet ≡ n)
       (are_sets : (done : List Configuration) → sets_of kind (at done) ≡ done)

@@ -18,11 +18,11 @@ use Rattle.usb_bus.specs.DamagedRuns.{AreSlight, DamagedRunsAt, IsDamagedRunFrom
 use Rattle.usb_bus.specs.Enumerate.{Pair}
 use Rattle.usb_bus.specs.Exchanges.{is_lost_ack, is_lost_down, is_lost_up}
 use Rattle.usb_bus.specs.Run.{fate_at}
-use Rattle.usb_bus.specs.Wire.{Arrives, IsReceivedOf, IsWhole, OnWire, Receives, ack_packet, data_packet, heard_reply, heard_sent, is_ack, reply_packet, served_from, served_heard, token_packet}
+use Rattle.usb_bus.specs.Wire.{Arrives, IsReceivedOf, IsWhole, OnWire, Receives, ack_packet, data_packet, received_reply, received_sent, is_ack, reply_packet, served_from, served_received, token_packet}
 use Rattle.usb_bus.specs.WireRuns.{IsWireRunFrom, WireRunsAt}
 use Rattle.usb_bus.proofs.AddressLemmas.{legal_due, reset_within, take_within}
 use Rattle.usb_bus.proofs.WireArrivals.{none_is_not_some, received_or_lost}
-use Rattle.usb_bus.proofs.WireFates.{sent_heard}
+use Rattle.usb_bus.proofs.WireFates.{sent_received}
 use Rattle.usb_bus.specs.inside.Addresses.{AsksWithin}
 
 -- ---- one packet
@@ -95,9 +95,9 @@ fits_legal (OutToken toggle bytes) legal = refl
 fitting_sent : (sent : Sent) → fits sent.token ≡ true → fitting (Some sent) ≡ Some sent
 fitting_sent sent is = ap (λ c. if c then Some sent else None) is
 
-fitting_heard : (sent : Sent) (heard : Option Sent) → fits sent.token ≡ true → (heard ≡ Some sent) ⊎ (heard ≡ None) → fitting heard ≡ heard
-fitting_heard sent heard is (inl whole) = ap fitting whole ∙ fitting_sent sent is ∙ sym whole
-fitting_heard sent heard is (inr none) = ap fitting none ∙ sym none
+fitting_received : (sent : Sent) (arrived : Option Sent) → fits sent.token ≡ true → (arrived ≡ Some sent) ⊎ (arrived ≡ None) → fitting arrived ≡ arrived
+fitting_received sent arrived is (inl whole) = ap fitting whole ∙ fitting_sent sent is ∙ sym whole
+fitting_received sent arrived is (inr none) = ap fitting none ∙ sym none
 
 module _ (table : State → SetupPacket → Outcome) (packet : ℕ) where
   on_wire : (d : DeviceView) (sent : Sent) (fate : Fate) (changes : List BitChange) (n : ℕ) (answered : Reply) (r : Served) → IsLegalSent sent
@@ -112,10 +112,10 @@ module _ (table : State → SetupPacket → Outcome) (packet : ℕ) where
         token_is = token_is;
         after_is = after_is;
         reply_is = subst (λ q. IsReceivedOf (reply_packet q) x.rest.reply) answers (taken_received (is_lost_up fate) (bits (reply_number sent.token)) (reply_packet answered) x.rest.reply (slight (reply_number sent.token)) x.rest.reply_is);
-        ack_is = taken_received (is_lost_ack fate) (bits (reply_number sent.token + 1)) (ack_packet (heard_reply x.rest.reply)) x.rest.ack (slight (reply_number sent.token + 1)) x.rest.ack_is;
+        ack_is = taken_received (is_lost_ack fate) (bits (reply_number sent.token + 1)) (ack_packet (received_reply x.rest.reply)) x.rest.ack (slight (reply_number sent.token + 1)) x.rest.ack_is;
         whole = λ e. whole (loses_none fate (or_left (is_lossy fate) (is_changed changes (suc n)) e)) (λ number. unchanged changes (suc n) number (or_right (is_lossy fate) (is_changed changes (suc n)) e));
-        hears = x.rest.hears;
-        device = x.rest.device ∙ ap (λ h. let y = (served_heard table packet d h (is_ready fate)).device in if is_ack x.rest.ack then acked table packet y else y) same;
+        receives_reply = x.rest.receives_reply;
+        device = x.rest.device ∙ ap (λ h. let y = (served_received table packet d h (is_ready fate)).device in if is_ack x.rest.ack then acked table packet y else y) same;
       }
     where
       bits : ℕ → List ℕ
@@ -127,12 +127,12 @@ module _ (table : State → SetupPacket → Outcome) (packet : ℕ) where
       after_is : IsReceivedOf (data_packet sent.token) x.after
       after_is = taken_received (is_lost_down fate) (bits 2) (data_packet sent.token) x.after (slight 2) x.after_is
 
-      same : fitting (heard_sent x.token x.after) ≡ heard_sent x.token x.after
-      same = fitting_heard sent (heard_sent x.token x.after) (fits_legal sent.token legal.bytes)
-          (sent_heard sent x.token x.after (received_or_lost _ _ token_is) (received_or_lost _ _ after_is))
+      same : fitting (received_sent x.token x.after) ≡ received_sent x.token x.after
+      same = fitting_received sent (received_sent x.token x.after) (fits_legal sent.token legal.bytes)
+          (sent_received sent x.token x.after (received_or_lost _ _ token_is) (received_or_lost _ _ after_is))
 
       answers : answered ≡ (served_from table packet d x.token x.after (is_ready fate)).reply
-      answers = x.rest.answers ∙ ap (λ h. (served_heard table packet d h (is_ready fate)).reply) same
+      answers = x.rest.answers ∙ ap (λ h. (served_received table packet d h (is_ready fate)).reply) same
 
       whole : LosesNone fate → ((number : ℕ) → bits number ≡ []) → IsWhole table packet d sent (is_ready fate) x.token x.after x.rest.reply x.rest.ack
       whole kept none =
@@ -141,7 +141,7 @@ module _ (table : State → SetupPacket → Outcome) (packet : ℕ) where
             data_whole = taken_whole (is_lost_down fate) (bits 2) (data_packet sent.token) x.after kept.down (none 2) x.after_is;
             reply_whole = taken_whole (is_lost_up fate) (bits (reply_number sent.token)) (reply_packet answered) x.rest.reply kept.up (none (reply_number sent.token)) x.rest.reply_is
                 ∙ ap reply_packet answers;
-            ack_whole = taken_whole (is_lost_ack fate) (bits (reply_number sent.token + 1)) (ack_packet (heard_reply x.rest.reply)) x.rest.ack kept.ack (none (reply_number sent.token + 1)) x.rest.ack_is;
+            ack_whole = taken_whole (is_lost_ack fate) (bits (reply_number sent.token + 1)) (ack_packet (received_reply x.rest.reply)) x.rest.ack kept.ack (none (reply_number sent.token + 1)) x.rest.ack_is;
           }
 
   -- ---- transactions one after another

@@ -12,46 +12,46 @@ use Rattle.usb_device.specs.Step.{DeviceView, Served, served, acked, replies}
 use Rattle.usb_host.specs.Transfer.{due_of}
 use Rattle.usb_bus.specs.declared.fate.Fate.{Fate}
 use Rattle.usb_bus.specs.declared.fate.Fate.TheVariants.{Pass, Busy, LostAck, LostDown, LostUp}
-use Rattle.usb_bus.specs.Bus.{lost, busy, Ends, HostEnd, has_data, hears, is_data, carried, exchanged, run_of}
-use Rattle.usb_bus.specs.Wire.{token_kind, token_packet, data_packet, reply_packet, ack_packet, IsReceivedOf, heard_token, heard_sent, heard_reply, is_ack, served_heard, Event, one_if, OnWire}
+use Rattle.usb_bus.specs.Bus.{lost, busy, Ends, HostEnd, has_data, receives_reply, is_data, carried, exchanged, run_of}
+use Rattle.usb_bus.specs.Wire.{token_kind, token_packet, data_packet, reply_packet, ack_packet, IsReceivedOf, received_token, received_sent, received_reply, is_ack, served_received, Event, one_if, OnWire}
 use Rattle.usb_bus.specs.WireRuns.{WireStep, WireRun}
 use Rattle.usb_bus.specs.WireLaws.{IsAlike, IsFate, AreFates}
 use Rattle.usb_bus.proofs.TestedRuns.{same_alike, served_alike}
 use Rattle.usb_bus.proofs.WireArrivals.{received_or_lost}
 
--- ---- what is heard
+-- ---- what is received
 
-heard_back : (reply : Reply) → heard_reply (reply_packet reply) ≡ reply
-heard_back AckReply = refl
-heard_back NakReply = refl
-heard_back StallReply = refl
-heard_back (DataReply toggles.Data0 bytes) = refl
-heard_back (DataReply toggles.Data1 bytes) = refl
-heard_back NoReply = refl
+received_back : (reply : Reply) → received_reply (reply_packet reply) ≡ reply
+received_back AckReply = refl
+received_back NakReply = refl
+received_back StallReply = refl
+received_back (DataReply toggles.Data0 bytes) = refl
+received_back (DataReply toggles.Data1 bytes) = refl
+received_back NoReply = refl
 
-token_heard : (t : Token) (a : ℕ) → heard_token (token_kind t) a (data_packet t) ≡ Some (record { address = a; token = t })
-token_heard InToken a = refl
-token_heard (SetupToken bytes) a = refl
-token_heard (OutToken toggles.Data0 bytes) a = refl
-token_heard (OutToken toggles.Data1 bytes) a = refl
+token_received : (t : Token) (a : ℕ) → received_token (token_kind t) a (data_packet t) ≡ Some (record { address = a; token = t })
+token_received InToken a = refl
+token_received (SetupToken bytes) a = refl
+token_received (OutToken toggles.Data0 bytes) a = refl
+token_received (OutToken toggles.Data1 bytes) a = refl
 
-all_heard : (sent : Sent) (token got : Option PacketView) → token ≡ Some (token_packet sent) → got ≡ data_packet sent.token → heard_sent token got ≡ Some sent
-all_heard sent token got token_whole data_whole =
-    ap (λ t. heard_sent t got) token_whole ∙ ap (λ g. heard_token (token_kind sent.token) sent.address g) data_whole ∙ token_heard sent.token sent.address
+all_received : (sent : Sent) (token got : Option PacketView) → token ≡ Some (token_packet sent) → got ≡ data_packet sent.token → received_sent token got ≡ Some sent
+all_received sent token got token_whole data_whole =
+    ap (λ t. received_sent t got) token_whole ∙ ap (λ g. received_token (token_kind sent.token) sent.address g) data_whole ∙ token_received sent.token sent.address
 
--- without its data a transaction isn't heard, but for an IN, which has none
-none_heard : (t : Token) (a : ℕ) (got : Option PacketView) → got ≡ None → (got ≡ data_packet t → ⊥) → heard_token (token_kind t) a got ≡ None
-none_heard InToken a got none other = absurd (other none)
-none_heard (SetupToken bytes) a got none other = ap (λ g. heard_token (token_kind (SetupToken bytes)) a g) none
-none_heard (OutToken toggle bytes) a got none other = ap (λ g. heard_token (token_kind (OutToken toggle bytes)) a g) none
+-- without its data a transaction isn't received, but for an IN, which has none
+none_received : (t : Token) (a : ℕ) (got : Option PacketView) → got ≡ None → (got ≡ data_packet t → ⊥) → received_token (token_kind t) a got ≡ None
+none_received InToken a got none other = absurd (other none)
+none_received (SetupToken bytes) a got none other = ap (λ g. received_token (token_kind (SetupToken bytes)) a g) none
+none_received (OutToken toggle bytes) a got none other = ap (λ g. received_token (token_kind (OutToken toggle bytes)) a g) none
 
-pub sent_heard : (sent : Sent) (token got : Option PacketView) → (token ≡ Some (token_packet sent)) ⊎ ((token ≡ None) × (token ≡ Some (token_packet sent) → ⊥))
+pub sent_received : (sent : Sent) (token got : Option PacketView) → (token ≡ Some (token_packet sent)) ⊎ ((token ≡ None) × (token ≡ Some (token_packet sent) → ⊥))
     → (got ≡ data_packet sent.token) ⊎ ((got ≡ None) × (got ≡ data_packet sent.token → ⊥))
-    → (heard_sent token got ≡ Some sent) ⊎ (heard_sent token got ≡ None)
-sent_heard sent token got (inr lost) data_case = inr (ap (λ t. heard_sent t got) lost.0)
-sent_heard sent token got (inl whole) (inl all) = inl (all_heard sent token got whole all)
-sent_heard sent token got (inl whole) (inr lost) =
-    inr (ap (λ t. heard_sent t got) whole ∙ none_heard sent.token sent.address got lost.0 lost.1)
+    → (received_sent token got ≡ Some sent) ⊎ (received_sent token got ≡ None)
+sent_received sent token got (inr lost) data_case = inr (ap (λ t. received_sent t got) lost.0)
+sent_received sent token got (inl whole) (inl all) = inl (all_received sent token got whole all)
+sent_received sent token got (inl whole) (inr lost) =
+    inr (ap (λ t. received_sent t got) whole ∙ none_received sent.token sent.address got lost.0 lost.1)
 
 is_damaged : (h : Bool) → (h ≡ false → ⊥) → 1 ≤ one_if h
 is_damaged true not_false = omega arith
@@ -122,19 +122,19 @@ module _ (answer : State → Setup → Outcome) (packet : ℕ) where
   abbrev Fated : DeviceView → Sent → Event → Served → Type 0
   Fated d sent v r = (fate : Fate) × IsFate answer packet d sent v r fate
 
-  -- an answer that isn't heard
-  unheard : (d : DeviceView) (a : ℕ) (t : Token) (ready damaged : Bool) (r : Served) → 1 ≤ one_if damaged → r.reply ≡ NoReply
+  -- an answer that isn't received
+  unreceived : (d : DeviceView) (a : ℕ) (t : Token) (ready damaged : Bool) (r : Served) → 1 ≤ one_if damaged → r.reply ≡ NoReply
       → r.device ≡ (served answer packet d (record { address = a; token = t }) ready).device → Fated d (record { address = a; token = t }) (record { ready = ready; damaged = damaged }) r
-  unheard d a t true damaged r harm reply device =
+  unreceived d a t true damaged r harm reply device =
       (LostUp, record { reply = reply; device = same_alike _ _ device; loses = harm; delays = omega arith })
-  unheard d a (SetupToken b) false damaged r harm reply device =
+  unreceived d a (SetupToken b) false damaged r harm reply device =
       (LostUp, record { reply = reply; device = same_alike _ _ device; loses = harm; delays = omega arith })
-  unheard d a InToken false damaged r harm reply device =
+  unreceived d a InToken false damaged r harm reply device =
       (LostDown, record { reply = reply; device = alike_then _ _ _ (same_alike _ _ device) (unready_alike d a InToken (λ b e. in_is_no_setup b e)); loses = harm; delays = omega arith })
-  unheard d a (OutToken toggle bytes) false damaged r harm reply device =
+  unreceived d a (OutToken toggle bytes) false damaged r harm reply device =
       (LostDown, record { reply = reply; device = alike_then _ _ _ (same_alike _ _ device) (unready_alike d a (OutToken toggle bytes) (λ b e. out_is_no_setup toggle bytes b e)); loses = harm; delays = omega arith })
 
-  -- an answer that is no data, or whose ACK is heard
+  -- an answer that is no data, or whose ACK is received
   settled : (d : DeviceView) (sent : Sent) (ready damaged : Bool) (r : Served) (c : Bool) → is_data (served answer packet d sent ready).reply ≡ c
       → r.reply ≡ (served answer packet d sent ready).reply
       → r.device ≡ (if c then acked answer packet (served answer packet d sent ready).device else (served answer packet d sent ready).device)
@@ -158,7 +158,7 @@ module _ (answer : State → Setup → Outcome) (packet : ℕ) where
     },
   )
 
-  -- data whose ACK isn't heard
+  -- data whose ACK isn't received
   unacked : (d : DeviceView) (sent : Sent) (ready damaged : Bool) (r : Served) → 1 ≤ one_if damaged → is_data (served answer packet d sent ready).reply ≡ true
       → r.reply ≡ (served answer packet d sent ready).reply → r.device ≡ (served answer packet d sent ready).device → Fated d sent (record { ready = ready; damaged = damaged }) r
   unacked d sent true damaged r harm with_data reply device =
@@ -170,31 +170,31 @@ module _ (answer : State → Setup → Outcome) (packet : ℕ) where
       both e = cc
 
   -- by what the host has received of the answer, and the device of the ACK
-  of_heard : (d : DeviceView) (sent : Sent) (ready damaged : Bool) (r : Served) (got ack : Option PacketView)
+  of_what_was_received : (d : DeviceView) (sent : Sent) (ready damaged : Bool) (r : Served) (got ack : Option PacketView)
       → (got ≡ reply_packet (served answer packet d sent ready).reply) ⊎ ((got ≡ None) × (damaged ≡ false → ⊥))
-      → IsReceivedOf (ack_packet (heard_reply got)) ack
-      → (damaged ≡ false → ack ≡ ack_packet (heard_reply got))
-      → r.reply ≡ heard_reply got
+      → IsReceivedOf (ack_packet (received_reply got)) ack
+      → (damaged ≡ false → ack ≡ ack_packet (received_reply got))
+      → r.reply ≡ received_reply got
       → r.device ≡ (if is_ack ack then acked answer packet (served answer packet d sent ready).device else (served answer packet d sent ready).device)
       → Fated d sent (record { ready = ready; damaged = damaged }) r
-  of_heard d sent ready damaged r got ack (inr lost) acks whole reply device =
-      unheard d sent.address sent.token ready damaged r (is_damaged damaged lost.1) (reply ∙ ap heard_reply lost.0)
+  of_what_was_received d sent ready damaged r got ack (inr lost) acks whole reply device =
+      unreceived d sent.address sent.token ready damaged r (is_damaged damaged lost.1) (reply ∙ ap received_reply lost.0)
       (device ∙ ap (λ o. if is_ack o then acked answer packet x.device else x.device) no_ack)
     where
       x : Served
       x = served answer packet d sent ready
 
       no_ack : ack ≡ None
-      no_ack = subst (λ o. IsReceivedOf (ack_packet (heard_reply o)) ack) lost.0 acks
-  of_heard d sent ready damaged r got ack (inl all) acks whole reply device = by_data (is_data x.reply) refl
+      no_ack = subst (λ o. IsReceivedOf (ack_packet (received_reply o)) ack) lost.0 acks
+  of_what_was_received d sent ready damaged r got ack (inl all) acks whole reply device = by_data (is_data x.reply) refl
     where
       x : Served
       x = served answer packet d sent ready
 
-      same : heard_reply got ≡ x.reply
-      same = ap heard_reply all ∙ heard_back x.reply
+      same : received_reply got ≡ x.reply
+      same = ap received_reply all ∙ received_back x.reply
 
-      due : (c : Bool) → is_data x.reply ≡ c → ack_packet (heard_reply got) ≡ (if c then Some (HandshakePacket handshakes.Ack) else None)
+      due : (c : Bool) → is_data x.reply ≡ c → ack_packet (received_reply got) ≡ (if c then Some (HandshakePacket handshakes.Ack) else None)
       due c is = ap ack_packet same ∙ ap (λ b. if b then Some (HandshakePacket handshakes.Ack) else None) is
 
       after : Option PacketView → DeviceView
@@ -205,19 +205,19 @@ module _ (answer : State → Setup → Outcome) (packet : ℕ) where
           settled d sent ready damaged r false is (reply ∙ same) (device ∙ ap after (subst (λ q. IsReceivedOf q ack) (due false is) acks))
       by_data true is = by_ack (received_or_lost _ _ acks)
         where
-          by_ack : (ack ≡ ack_packet (heard_reply got)) ⊎ ((ack ≡ None) × (ack ≡ ack_packet (heard_reply got) → ⊥)) → Fated d sent (record { ready = ready; damaged = damaged }) r
+          by_ack : (ack ≡ ack_packet (received_reply got)) ⊎ ((ack ≡ None) × (ack ≡ ack_packet (received_reply got) → ⊥)) → Fated d sent (record { ready = ready; damaged = damaged }) r
           by_ack (inl came) = settled d sent ready damaged r true is (reply ∙ same) (device ∙ ap after (came ∙ due true is))
           by_ack (inr gone) =
               unacked d sent ready damaged r (is_damaged damaged (λ undamaged. gone.1 (whole undamaged))) is (reply ∙ same) (device ∙ ap after gone.0)
 
-  -- a transaction that the device has not heard
-  not_heard : (d : DeviceView) (sent : Sent) (ready damaged : Bool) (r : Served) (got ack : Option PacketView) → 1 ≤ one_if damaged → got ≡ None → IsReceivedOf (ack_packet (heard_reply got)) ack
-      → r.reply ≡ heard_reply got → r.device ≡ (if is_ack ack then acked answer packet d else d) → Fated d sent (record { ready = ready; damaged = damaged }) r
-  not_heard d sent ready damaged r got ack harm none acks reply device =
-      let no_ack : ack ≡ None = subst (λ o. IsReceivedOf (ack_packet (heard_reply o)) ack) none acks in (
+  -- a transaction that the device has not received
+  not_received : (d : DeviceView) (sent : Sent) (ready damaged : Bool) (r : Served) (got ack : Option PacketView) → 1 ≤ one_if damaged → got ≡ None → IsReceivedOf (ack_packet (received_reply got)) ack
+      → r.reply ≡ received_reply got → r.device ≡ (if is_ack ack then acked answer packet d else d) → Fated d sent (record { ready = ready; damaged = damaged }) r
+  not_received d sent ready damaged r got ack harm none acks reply device =
+      let no_ack : ack ≡ None = subst (λ o. IsReceivedOf (ack_packet (received_reply o)) ack) none acks in (
         LostDown,
         record {
-          reply = reply ∙ ap heard_reply none;
+          reply = reply ∙ ap received_reply none;
           device = same_alike _ _ (device ∙ ap (λ o. if is_ack o then acked answer packet d else d) no_ack);
           loses = harm;
           delays = omega arith;
@@ -226,31 +226,31 @@ module _ (answer : State → Setup → Outcome) (packet : ℕ) where
 
   fated_here : (d : DeviceView) (sent : Sent) (v : Event) (r : Served) → OnWire answer packet d sent v r → Fated d sent v r
   fated_here d sent v r w =
-      by_sent (sent_heard sent w.token w.after (received_or_lost _ _ w.token_is) (received_or_lost _ _ w.after_is))
+      by_sent (sent_received sent w.token w.after (received_or_lost _ _ w.token_is) (received_or_lost _ _ w.after_is))
     where
-      answered : (o : Option Sent) → heard_sent w.token w.after ≡ o → IsReceivedOf (reply_packet (served_heard answer packet d o v.ready).reply) w.reply
-      answered o is = subst (λ q. IsReceivedOf (reply_packet (served_heard answer packet d q v.ready).reply) w.reply) is w.reply_is
+      answered : (o : Option Sent) → received_sent w.token w.after ≡ o → IsReceivedOf (reply_packet (served_received answer packet d o v.ready).reply) w.reply
+      answered o is = subst (λ q. IsReceivedOf (reply_packet (served_received answer packet d q v.ready).reply) w.reply) is w.reply_is
 
-      moved : (o : Option Sent) → heard_sent w.token w.after ≡ o
-          → r.device ≡ (if is_ack w.ack then acked answer packet (served_heard answer packet d o v.ready).device else (served_heard answer packet d o v.ready).device)
-      moved o is = w.device ∙ ap (λ q. if is_ack w.ack then acked answer packet (served_heard answer packet d q v.ready).device else (served_heard answer packet d q v.ready).device) is
+      moved : (o : Option Sent) → received_sent w.token w.after ≡ o
+          → r.device ≡ (if is_ack w.ack then acked answer packet (served_received answer packet d o v.ready).device else (served_received answer packet d o v.ready).device)
+      moved o is = w.device ∙ ap (λ q. if is_ack w.ack then acked answer packet (served_received answer packet d q v.ready).device else (served_received answer packet d q v.ready).device) is
 
-      by_answer : heard_sent w.token w.after ≡ Some sent
+      by_answer : received_sent w.token w.after ≡ Some sent
           → (w.reply ≡ reply_packet (served answer packet d sent v.ready).reply) ⊎ ((w.reply ≡ None) × (w.reply ≡ reply_packet (served answer packet d sent v.ready).reply → ⊥))
           → Fated d sent v r
       by_answer some (inl whole) =
-          of_heard d sent v.ready v.damaged r w.reply w.ack (inl whole) w.ack_is (λ undamaged. (w.whole undamaged).ack_whole) w.hears (moved (Some sent) some)
+          of_what_was_received d sent v.ready v.damaged r w.reply w.ack (inl whole) w.ack_is (λ undamaged. (w.whole undamaged).ack_whole) w.receives_reply (moved (Some sent) some)
       by_answer some (inr gone) =
-          of_heard d sent v.ready v.damaged r w.reply w.ack
-          (inr (gone.0, λ undamaged. gone.1 ((w.whole undamaged).reply_whole ∙ ap (λ q. reply_packet (served_heard answer packet d q v.ready).reply) some)))
-          w.ack_is (λ undamaged. (w.whole undamaged).ack_whole) w.hears (moved (Some sent) some)
+          of_what_was_received d sent v.ready v.damaged r w.reply w.ack
+          (inr (gone.0, λ undamaged. gone.1 ((w.whole undamaged).reply_whole ∙ ap (λ q. reply_packet (served_received answer packet d q v.ready).reply) some)))
+          w.ack_is (λ undamaged. (w.whole undamaged).ack_whole) w.receives_reply (moved (Some sent) some)
 
-      by_sent : (heard_sent w.token w.after ≡ Some sent) ⊎ (heard_sent w.token w.after ≡ None) → Fated d sent v r
+      by_sent : (received_sent w.token w.after ≡ Some sent) ⊎ (received_sent w.token w.after ≡ None) → Fated d sent v r
       by_sent (inl some) = by_answer some (received_or_lost _ _ (answered (Some sent) some))
       by_sent (inr none) =
-          not_heard d sent v.ready v.damaged r w.reply w.ack
-          (is_damaged v.damaged (λ undamaged. nothing_is_not_some sent (sym none ∙ all_heard sent w.token w.after (w.whole undamaged).token_whole (w.whole undamaged).data_whole)))
-          (answered None none) w.ack_is w.hears (moved None none)
+          not_received d sent v.ready v.damaged r w.reply w.ack
+          (is_damaged v.damaged (λ undamaged. nothing_is_not_some sent (sym none ∙ all_received sent w.token w.after (w.whole undamaged).token_whole (w.whole undamaged).data_whole)))
+          (answered None none) w.ack_is w.receives_reply (moved None none)
 
   -- ---- one transaction after another
 
@@ -270,7 +270,7 @@ module _ (answer : State → Setup → Outcome) (packet : ℕ) where
       let moved = carried_alike d e sent found.0 like in (
         found.0,
         record {
-          host = ap (λ z. z.host) step.2 ∙ ap (λ q. hears sends h q) (found.1.reply ∙ moved.reply);
+          host = ap (λ z. z.host) step.2 ∙ ap (λ q. receives_reply sends h q) (found.1.reply ∙ moved.reply);
           device = alike_then _ _ _ (same_alike _ _ (ap (λ z. z.device) step.2)) (alike_then _ _ _ found.1.device moved.device);
           loses = found.1.loses;
           delays = found.1.delays;

@@ -37,16 +37,16 @@ use Rattle.usb_bus.specs.Log.{answered_part, exchange_lines, transfer_part}
 use Rattle.usb_bus.specs.LogOnWire.{LoggedMoves, LoggedRuns, WritesWireLogFrom, wire_lines}
 use Rattle.usb_bus.specs.PacketLines.{packets_below}
 use Rattle.usb_bus.specs.Run.{fate_at, fates_used}
-use Rattle.usb_bus.specs.Wire.{served_heard}
+use Rattle.usb_bus.specs.Wire.{served_received}
 use Rattle.usb_bus.specs.inside.Addresses.{AsksWithin}
 use Rattle.usb_bus.specs.inside.Seeing.{AreLegal, HasSeenPackets, LeadsLogged, LogsStep, WalksLogged, done_lines}
 use Rattle.usb_bus.proofs.AddressLemmas.{legal_due}
 use Rattle.usb_bus.proofs.LogLemmas.{lines_joined, no_reset}
 
--- ---- a transaction that is due is legal, and so is its answer
+-- ---- the next transaction is legal, and so is its answer
 
-answer_fits : (f : DescriptorFile) (speed : Speed) (d : DeviceView) (heard : Option Sent) (ready : Bool) (answered : Reply) → Accepted f speed
-    → answered ≡ (served_heard (answer f) f.device.packet d heard ready).reply → HasRoom answered
+answer_fits : (f : DescriptorFile) (speed : Speed) (d : DeviceView) (received : Option Sent) (ready : Bool) (answered : Reply) → Accepted f speed
+    → answered ≡ (served_received (answer f) f.device.packet d received ready).reply → HasRoom answered
 answer_fits f speed d None ready answered accepted is = subst HasRoom (sym is) tt
 answer_fits f speed d (Some sent) ready answered accepted is = reply_has_room f speed d sent ready answered accepted is
 
@@ -98,9 +98,9 @@ module _ (brief all : Bool) (f : DescriptorFile) (fates : List Fate) (changes : 
       × HasSeenPackets brief all number fate changes step transfer t.answered t.brings.reply y.host.phase old lines below why)
       → text ≡ done_lines size is lines below why y.host y.device → is ≡ is_some (transfer_in x.host.phase) → old ≡ [] → size ≡ f.device.packet → fate ≡ fate_at fates n
       → (now ≡ suc n → number ≡ now) → step ≡ step_in x.host.phase → transfer ≡ transfer_in x.host.phase → LoggedMoves brief all f fates changes x n y now text
-  step_put speed x y n now number size fate is step transfer old lines below why text accepted within (inl (r, e)) put kind none of at count in_work before =
+  step_put speed x y n now number size fate is step transfer old lines below why text accepted within (inl (r, e)) put kind none of at count is_current before =
       inl (r, e, put ∙ ap (λ c. done_lines size c lines below why y.host y.device) kind ∙ reset_at y x.host.phase size lines below why r.due)
-  step_put speed x y n now number size fate is step transfer old lines below why text accepted within (inr (t, e, seen)) put kind none of at count in_work before =
+  step_put speed x y n now number size fate is step transfer old lines below why text accepted within (inr (t, e, seen)) put kind none of at count is_current before =
       inr (
         record {
           made = t;
@@ -108,7 +108,7 @@ module _ (brief all : Bool) (f : DescriptorFile) (fates : List Fate) (changes : 
               ∙ lines_at y x.host.phase (fate_at fates n) now t.sent t.answered t.brings.reply lines below why t.due (legal_due x.host t.sent within t.due)
               (answer_fits f speed x.device _ _ t.answered accepted t.carries.rest.answers)
               (same_seen number now fate (fate_at fates n) step (step_in x.host.phase) transfer (transfer_in x.host.phase) t.answered t.brings.reply y.host.phase old lines below why seen
-              (count e) at none in_work before);
+              (count e) at none is_current before);
         },
         e,
       )

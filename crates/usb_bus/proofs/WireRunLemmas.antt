@@ -193,8 +193,8 @@ module _ (table : State → Setup → Outcome) (packet : ℕ) where
       let moved = carried_alike table packet x.device was.device step.sent fate is.device in
       let ends : Pair = record { host = last.host; device = (carried table packet was.device step.sent fate).device } in
       let here : fate_at (fates ++ fate ∷ []) m.transactions ≡ fate = ap (λ k. fate_at (fates ++ fate ∷ []) k) (sym is.count) ∙ at_end fates fate in
-      let heard = found.1.reply ∙ moved.reply in
-      let took = subst (λ q. Takes x.host q last.host) heard step.host in
+      let received = found.1.reply ∙ moved.reply in
+      let took = subst (λ q. Takes x.host q last.host) received step.host in
       let taken = subst (λ h. Takes h (carried table packet was.device step.sent fate).reply last.host) (sym is.host) took in
       let by_fate : IsTransactionAt table packet fate was ends =
       record { sent = step.sent; due = ap (λ h. wanted h.phase) is.host ∙ step.due; host = taken; device = refl } in (

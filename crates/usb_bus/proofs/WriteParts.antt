@@ -45,7 +45,7 @@ module _ (answer : State → SetupPacket → Outcome) (s : State) (q : SetupPack
     abbrev EndsHere : Bool → Type 0
     EndsHere c = (k * size + min size (q.length - k * size) == q.length) ≡ c
 
-    -- there are data in a packet that is due
+    -- there are data in the next packet
     sends : IsDue true → has_data data_out ≡ true
     sends right =
         let n : length p ≡ min size (q.length - length came) = grind (arith, nat_tests) in

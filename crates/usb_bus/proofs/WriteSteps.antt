@@ -20,7 +20,7 @@ module _ (answer : State → SetupPacket → Outcome) (s : State) (q : SetupPack
   abbrev IsWritten : ℕ → List ℕ → Toggle → ℕ → ℕ → Type 0
   IsWritten l came next count strikes = IsWriting answer size s q size naks data_out l q came next count strikes s
 
-  -- what the ends keep, the host so many packets acknowledged and the device so many of them
+  -- what the ends keep, the host this many packets acknowledged and the device this many of them
   abbrev pub Writes : ℕ → ℕ → List ℕ → ℕ → Type 0
   Writes k kept came count =
       (l strikes : ℕ) → strikes ≤ l → (kept ≡ k) ⊎ ((kept ≡ suc k) × (0 < strikes)) → IsWritten l came (toggle_of k) count strikes
@@ -51,7 +51,7 @@ module _ (answer : State → SetupPacket → Outcome) (s : State) (q : SetupPack
     abbrev further : ℕ
     further = m.count + min size (q.length - m.count)
 
-    -- one where this packet is due
+    -- one where this packet comes next
     module _ (p : List ℕ) (o : m.strikes ≤ m.l) (due : take size (drop m.count data_out) ≡ p) where
       abbrev IsNext : Bool → Type 0
       IsNext c = is_same_toggle (toggle_of k) (awaited size (length came)) ≡ c
@@ -103,7 +103,7 @@ module _ (answer : State → SetupPacket → Outcome) (s : State) (q : SetupPack
           let lost = then (m.l + 1) 0 (omega arith) in
           grind (arith, nat_tests)
 
-      -- a packet that is not the one that is due
+      -- a packet that is not the one that comes next
       pub wrong : IsNext true → IsDue false → Writes k k came m.count → IsDeclined (answer s q) q data_out → Step
       wrong sm right now is =
           let still = now (m.l + 0) m.strikes (omega arith) (inl refl) in

@@ -28,12 +28,12 @@ arrival token before reply after = if awaits_data before && not (awaits_data aft
 
 -- for any answers to requests, and any packet size of the device
 module _ (answer : State → Setup → Outcome) (packet : ℕ) where
-  -- in a transaction that a device hears, being ready or not, or does not hear
+  -- in a transaction that a device receives, being ready or not, or does not receive
   abbrev pub arrival_at : DeviceView → Sent → Option Bool → ℕ
   arrival_at d sent None = 0
   arrival_at d sent (Some ready) = let r = served answer packet d sent ready in arrival sent.token d.stage r.reply r.device.stage
 
-  -- in a transaction, if one is due
+  -- in a transaction, if one comes next
   abbrev pub arrival_in : DeviceView → Option Sent → Fate → ℕ
   arrival_in d None fate = 0
   arrival_in d (Some sent) fate = arrival_at d sent (readiness fate)

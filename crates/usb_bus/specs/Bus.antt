@@ -7,7 +7,7 @@ use Rattle.usb_fields.specs.Packets.{Sent, Reply, DataReply, NoReply}
 use Rattle.usb_fields.specs.Packets.{AckReply}
 use Rattle.usb_host.specs.declared.transfer.TransferStage.{TransferStage}
 use Rattle.usb_host.specs.declared.transfer.TransferStage.TheVariants.{DataOut}
-use Rattle.usb_host.specs.Transfer.{TransferView, Hearing, Brings, Taken, taken_at, due_of}
+use Rattle.usb_host.specs.Transfer.{TransferView, HeardView, Brings, Taken, taken_at, due_of}
 use Rattle.usb_host.specs.Write.{written_at}
 use Rattle.usb_device.specs.declared.state.State.{State}
 use Rattle.usb_device.specs.Requests.{Outcome}
@@ -63,7 +63,7 @@ abbrev pub is_data : Reply → Bool
 is_data (DataReply toggle bytes) = true
 is_data reply = false
 
--- The table of fates, column by column: whether a device hears what is sent, and is ready then,
+-- The table of fates, column by column: whether a device receives what is sent, and is ready then,
 abbrev pub readiness : Fate → Option Bool
 readiness LostDown = None
 readiness Busy = Some false
@@ -81,13 +81,13 @@ acknowledges LostAck reply = false
 acknowledges fate reply = is_data reply
 
 -- the bytes, and those that came
-abbrev pub with_heard : List ℕ → Hearing → List ℕ
-with_heard got (Brings bytes) = got ++ bytes
-with_heard got heard = got
+abbrev pub with_received : List ℕ → HeardView → List ℕ
+with_received got (Brings bytes) = got ++ bytes
+with_received got received = got
 
 -- the host's end, where these bytes had come before the reply
 abbrev pub host_after : List ℕ → Taken → HostEnd
-host_after got t = record { transfer = t.transfer; got = with_heard got t.heard }
+host_after got t = record { transfer = t.transfer; got = with_received got t.received }
 
 -- whether there are data
 abbrev pub has_data : List ℕ → Bool
@@ -100,9 +100,9 @@ abbrev pub taken_by : Bool → TransferView → TransferStage → Reply → Take
 taken_by sends t DataOut AckReply = if sends then written_at t DataOut AckReply else taken_at t DataOut AckReply
 taken_by sends t stage reply = taken_at t stage reply
 
--- the host hears a reply
-abbrev pub hears : Bool → HostEnd → Reply → HostEnd
-hears sends h reply = host_after h.got (taken_by sends h.transfer h.transfer.stage reply)
+-- the host receives a reply
+abbrev pub receives_reply : Bool → HostEnd → Reply → HostEnd
+receives_reply sends h reply = host_after h.got (taken_by sends h.transfer h.transfer.stage reply)
 
 -- for any answers to requests, and any packet size of the device
 module _ (answer : State → Setup → Outcome) (packet : ℕ) where
@@ -110,7 +110,7 @@ module _ (answer : State → Setup → Outcome) (packet : ℕ) where
   abbrev pub acknowledged : Fate → Served → Served
   acknowledged fate r = record { reply = r.reply; device = if acknowledges fate r.reply then acked answer packet r.device else r.device }
 
-  -- a device that hears nothing, or that hears and is ready or not
+  -- a device that receives nothing, or that receives and is ready or not
   abbrev pub carried_to : DeviceView → Sent → Fate → Option Bool → Served
   carried_to d sent fate None = record { reply = NoReply; device = d }
   carried_to d sent fate (Some ready) =
@@ -120,13 +120,13 @@ module _ (answer : State → Setup → Outcome) (packet : ℕ) where
   abbrev pub carried : DeviceView → Sent → Fate → Served
   carried d sent fate = carried_to d sent fate (readiness fate)
 
-  -- a transaction, if one is due
+  -- a transaction, if one comes next
   abbrev pub exchanged : Bool → HostEnd → DeviceView → Option Sent → Fate → Ends
   exchanged sends h d None fate = record { host = h; device = d }
   exchanged sends h d (Some sent) fate =
-      let r = carried d sent fate in record { host = hears sends h r.reply; device = r.device }
+      let r = carried d sent fate in record { host = receives_reply sends h r.reply; device = r.device }
 
-  -- the transaction that the transfer is due, where these are the data to the device
+  -- the next transaction of the transfer, where these are the data to the device
   abbrev pub step_of : List ℕ → Fate → Ends → Ends
   step_of bytes fate e = exchanged (has_data bytes) e.host e.device (due_of e.host.transfer bytes) fate
 

@@ -11,7 +11,7 @@ use Rattle.usb_bus.specs.declared.fate.Fate.{Fate}
 use Rattle.usb_bus.specs.declared.fate.Fate.TheVariants.{Busy}
 use Rattle.usb_bus.specs.declared.wire.change.BitChange.{BitChange}
 use Rattle.usb_bus.specs.Exchanges.{is_lost_ack, is_lost_down, is_lost_up}
-use Rattle.usb_bus.specs.Wire.{Receives, ack_packet, data_packet, heard_reply, heard_sent, is_ack, reply_packet, served_heard, token_packet}
+use Rattle.usb_bus.specs.Wire.{Receives, ack_packet, data_packet, received_reply, received_sent, is_ack, reply_packet, served_received, token_packet}
 
 -- the bits that change in a packet of a transaction, both counted from 1
 abbrev pub bits_of : List BitChange → ℕ → ℕ → List ℕ
@@ -65,7 +65,7 @@ abbrev pub reply_number : Token → ℕ
 reply_number InToken = 2
 reply_number token = 3
 
--- whether a device that hears is ready
+-- whether a device that receives is ready
 abbrev pub is_ready : Fate → Bool
 is_ready Busy = false
 is_ready fate = true
@@ -73,21 +73,21 @@ is_ready fate = true
 -- For any answers to requests, and any packet size of the device. Of the packets of the transaction these bits change, by the
 -- packet's number.
 module _ (answer : State → Setup → Outcome) (packet : ℕ) where
-  -- A device hears this, if anything, and answers; its answer has this number. The host hears what it receives of it, and
+  -- A device receives this, if anything, and answers; its answer has this number. The host takes what it receives of it, and
   -- acknowledges data.
-  pub record IsAnswered (d : DeviceView) (heard : Option Sent) (number : ℕ) (fate : Fate) (bits : ℕ → List ℕ) (answered : Reply) (r : Served) : Type 0 where
+  pub record IsAnswered (d : DeviceView) (arrived : Option Sent) (number : ℕ) (fate : Fate) (bits : ℕ → List ℕ) (answered : Reply) (r : Served) : Type 0 where
     pub reply : Option PacketView
     pub ack : Option PacketView
-    pub answers : answered ≡ (served_heard answer packet d heard (is_ready fate)).reply
+    pub answers : answered ≡ (served_received answer packet d arrived (is_ready fate)).reply
     pub reply_is : IsTakenOf (is_lost_up fate) (bits number) (reply_packet answered) reply
-    pub ack_is : IsTakenOf (is_lost_ack fate) (bits (number + 1)) (ack_packet (heard_reply reply)) ack
-    pub hears : r.reply ≡ heard_reply reply
-    pub device : r.device ≡ (let x = (served_heard answer packet d heard (is_ready fate)).device in if is_ack ack then acked answer packet x else x)
+    pub ack_is : IsTakenOf (is_lost_ack fate) (bits (number + 1)) (ack_packet (received_reply reply)) ack
+    pub receives_reply : r.reply ≡ received_reply reply
+    pub device : r.device ≡ (let x = (served_received answer packet d arrived (is_ready fate)).device in if is_ack ack then acked answer packet x else x)
 
-  -- One transaction: the device answers what it has heard, and this comes of it.
+  -- One transaction: the device answers what it has received, and this comes of it.
   pub record IsExchanged (d : DeviceView) (sent : Sent) (fate : Fate) (bits : ℕ → List ℕ) (answered : Reply) (r : Served) : Type 0 where
     pub token : Option PacketView
     pub after : Option PacketView
     pub token_is : IsTakenOf (is_lost_down fate) (bits 1) (Some (token_packet sent)) token
     pub after_is : IsTakenOf (is_lost_down fate) (bits 2) (data_packet sent.token) after
-    pub rest : IsAnswered d (fitting (heard_sent token after)) (reply_number sent.token) fate bits answered r
+    pub rest : IsAnswered d (fitting (received_sent token after)) (reply_number sent.token) fate bits answered r

@@ -76,7 +76,7 @@ Runs f fates new earlier n last = RunsAt (answer f) f.device.packet fates new ea
 abbrev pub both : HostView → DeviceView → Pair
 both host device = record { host = host; device = device }
 
--- what a device with these descriptors answers where it hears and is ready or not: nothing where it hears nothing
+-- what a device with these descriptors answers where it receives and is ready or not: nothing where it receives nothing
 abbrev pub answered_to : DescriptorFile → DeviceView → Sent → Option Bool → Reply
 answered_to f d sent None = NoReply
 answered_to f d sent (Some ready) = (served_by f d sent ready).reply
@@ -109,7 +109,7 @@ pub record NoneIsLeft (x y : Pair) : Type 0 where
 
 -- What an enumeration promises.
 
--- The enumeration is a run of both ends, from a new host and a new device on. Each step is a reset, where one is due, or a
+-- The enumeration is a run of both ends, from a new host and a new device on. Each step is a reset, where one comes next, or a
 -- transaction, where the host asks for one, under the fates in their order. The run has as many transactions and resets, and
 -- its last pair has this outcome and this state.
 abbrev pub IsRunFrom : Pair → (State → SetupPacket → Outcome) → ℕ → List Fate → Run → Type 0
@@ -146,17 +146,17 @@ brings LostAck = true
 brings fate = false
 
 -- whether what the device answered under the last of these fates reaches the host, and is no NAK
-abbrev pub ends_heard : List Fate → Bool
-ends_heard [] = false
-ends_heard (fate ∷ []) = brings fate
-ends_heard (fate ∷ next ∷ more) = ends_heard (next ∷ more)
+abbrev pub ends_received : List Fate → Bool
+ends_received [] = false
+ends_received (fate ∷ []) = brings fate
+ends_received (fate ∷ next ∷ more) = ends_received (next ∷ more)
 
 -- Why an enumeration of a device that keeps to the standard ends without success, after these fates: out of memory, at an
 -- answer that reached the host; or it used all attempts, and each cost a loss of its own, or one busy transaction more than
 -- the limit of NAKs.
 abbrev pub HasCause : LimitView → List Fate → ℕ → Why → Type 0
 HasCause limits used attempts why =
-    ((why ≡ Memory) × (ends_heard used ≡ true))
+    ((why ≡ Memory) × (ends_received used ≡ true))
     ⊎ ((blames_bus why ≡ true) × (attempts ≡ limits.attempts) × (limits.attempts ≤ losses used + busies used / suc limits.naks))
 
 -- What holds of every enumeration of a device with these accepted descriptors, whatever the bus does to it.

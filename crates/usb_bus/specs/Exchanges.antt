@@ -3,7 +3,7 @@ use Rattle.std.specs.Prelude.{Bool, true, false, Option, Some, None, Result, Err
 use Rattle.usb_fields.specs.Packets.{Reply, NoReply}
 use Rattle.usb_file_data.specs.declared.file.DescriptorFile.{DescriptorFile}
 use Rattle.usb_host.specs.declared.why.Why.{Why}
-use Rattle.usb_host.specs.Transfer.{Fails, Hearing, TransferView, taken}
+use Rattle.usb_host.specs.Transfer.{Fails, HeardView, TransferView, taken}
 use Rattle.usb_device.specs.Step.{DeviceView}
 use Rattle.usb_bus.specs.declared.fate.Fate.{Fate}
 use Rattle.usb_bus.specs.declared.fate.Fate.TheVariants.{LostDown, LostUp, LostAck}
@@ -36,12 +36,12 @@ abbrev pub trouble_why : Option (Result DescriptorFile Trouble) → Option Why
 trouble_why (Some (Err trouble)) = Some trouble.why
 trouble_why outcome = None
 
--- Why an attempt is given up after a transaction, if it is: its transfer has failed so and a reset is due, or the host has
+-- Why an attempt is given up after a transaction, if it is: its transfer has failed so and a reset is requested, or the host has
 -- ended for this reason.
-abbrev pub given_up : Hearing → Wanted → Option Why → Option Why
+abbrev pub given_up : HeardView → Wanted → Option Why → Option Why
 given_up (Fails why) WantsReset trouble = Some why
-given_up heard wants trouble = trouble
+given_up received wants trouble = trouble
 
 -- the same of a transfer, of what came of the answer to it, and of the host then
 abbrev pub cause_of : TransferView → Reply → HostPhase → Option Why
-cause_of t reply phase = given_up (taken t reply).heard (wanted phase) (trouble_why (outcome_of phase))
+cause_of t reply phase = given_up (taken t reply).received (wanted phase) (trouble_why (outcome_of phase))

@@ -11,7 +11,7 @@ use Rattle.usb_text.specs.Lines.{column}
 use Rattle.usb_host.specs.declared.why.Why.{Why}
 use Rattle.usb_host.specs.declared.why.Why.TheVariants.{NoAnswer, Busy, Stalled, TooLong, Unexpected, Malformed, Memory}
 use Rattle.usb_host.specs.Why.{why_message, step_text}
-use Rattle.usb_host.specs.Transfer.{TransferView, Hearing, Goes, Brings, Completes, Fails, due}
+use Rattle.usb_host.specs.Transfer.{TransferView, HeardView, Goes, Brings, Completes, Fails, due}
 use Rattle.usb_device.specs.declared.stage.Stage.{Stage}
 use Rattle.usb_device.specs.declared.stage.Stage.TheVariants as stages
 use Rattle.usb_device.specs.Stages.{stage_kind}
@@ -177,18 +177,18 @@ failure_words t Malformed = codes "malformed"
 failure_words t Memory = codes "out of memory"
 
 -- what a transfer has made of a reply, where this is the transfer after it
-abbrev pub heard_words : TransferView → Reply → Hearing → List ℕ
-heard_words t reply Goes = going_words t reply
-heard_words t reply (Brings bytes) = codes "has " ++ decimal t.kept ++ codes " of " ++ decimal t.request.length
-heard_words t reply Completes = codes "complete"
-heard_words t reply (Fails why) = failure_words t why
+abbrev pub received_words : TransferView → Reply → HeardView → List ℕ
+received_words t reply Goes = going_words t reply
+received_words t reply (Brings bytes) = codes "has " ++ decimal t.kept ++ codes " of " ++ decimal t.request.length
+received_words t reply Completes = codes "complete"
+received_words t reply (Fails why) = failure_words t why
 
 -- What the host has: what its transfer has made of the reply. A transfer that completes may end the enumeration, by what
 -- it brought, and out of memory ends it anywhere.
-abbrev pub host_words : TransferView → Reply → Hearing → Option Why → List ℕ
-host_words t reply heard (Some Memory) = codes "out of memory"
-host_words t reply heard (Some Malformed) = heard_words t reply heard ++ codes ": malformed"
-host_words t reply heard why = heard_words t reply heard
+abbrev pub host_words : TransferView → Reply → HeardView → Option Why → List ℕ
+host_words t reply received (Some Memory) = codes "out of memory"
+host_words t reply received (Some Malformed) = received_words t reply received ++ codes ": malformed"
+host_words t reply received why = received_words t reply received
 
 -- the stage that a device is in, with `sent` bytes of its data stage acknowledged
 abbrev pub stage_words : Stage → ℕ → List ℕ

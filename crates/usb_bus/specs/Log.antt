@@ -28,7 +28,7 @@ transfer_part step t = if is_untried t.stage t.strikes then transfer_line step t
 -- What the host has after a transaction, where this was its transfer, this came of what the device answered, and the host
 -- has ended for this reason, if it has.
 abbrev pub host_part : TransferView → Reply → Option Why → List ℕ
-host_part t reply why = column 20 (host_words (taken t reply).transfer reply (taken t reply).heard why)
+host_part t reply why = column 20 (host_words (taken t reply).transfer reply (taken t reply).received why)
 
 -- what of a transaction's line is known once the host is so: its packets, its data, and what the host has then
 abbrev pub answered_part : ℕ → Fate → TransferView → Reply → Reply → HostPhase → List ℕ

@@ -27,10 +27,10 @@ due_in bytes (Running host) = due_of host.transfer bytes
 due_in bytes phase = None
 
 module _ (plan : List Reply → Plan) (naks : ℕ) (sends : List Reply → List ℕ) (answer : State → SetupPacket → Outcome) (cut : ℕ) where
-  -- one transaction under this fate: it is due at x, and y is what it brings x to
+  -- one transaction under this fate: it comes next at x, and y is what it brings x to
   pub record IsAttemptTransaction (fate : Fate) (x y : Attempt) : Type 0 where
     pub sent : Sent
-    pub is_due : due_in (sends x.replies) x.phase ≡ Some sent
+    pub comes_next : due_in (sends x.replies) x.phase ≡ Some sent
     pub next : y ≡ attempt_step plan naks sends answer cut fate x.replies x.phase x.device
 
   -- These points follow `start`, each one transaction after the one before it, from transaction k on, and the last of

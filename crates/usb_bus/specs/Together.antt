@@ -87,7 +87,7 @@ module _ (answer : State → SetupPacket → Outcome) (cut : ℕ) (s : State) (q
     pub state : d ≡ (if carried_out then (if is_set_address q then s else next) else s)
     pub owed : strikes ≤ lost
 
-  -- the data packet that is due is the last one, after `count` bytes
+  -- the next data packet is the last one, after `count` bytes
   abbrev pub IsLastPacket : ℕ → Type 0
   IsLastPacket count = count + min size (q.length - count) ≡ q.length
 

@@ -18,13 +18,13 @@ use Rattle.usb_bus.specs.declared.enumeration.Run.{Run}
 use Rattle.usb_bus.specs.Bus.{acknowledges, brought, readiness}
 use Rattle.usb_bus.specs.Enumerate.{IsReset, Pair, new_pair}
 
--- a transaction of a device under test: its fate, and what the device answers, where it hears
+-- a transaction of a device under test: its fate, and what the device answers, where it receives
 pub record Tested : Type 0 where
   pub fate : Fate
   pub came : Reply
 
 -- The fate under which a device of known descriptors answers so: a NAK comes of one that is not ready, and one that is lost
--- leaves both ends as a transaction that was not heard.
+-- leaves both ends as a transaction that was not received.
 abbrev pub fate_by : Fate → Reply → Fate
 fate_by LostDown came = LostDown
 fate_by LostUp NakReply = LostDown
@@ -46,7 +46,7 @@ bus_fate t = t.fate
 -- For any answers to requests, and any packet size, of the device of known descriptors, and any transfers whose outcome is open.
 -- The pairs are the host, which speaks with the device under test, and that device.
 module _ (table : State → Setup → Outcome) (packet : ℕ) (free : DeviceView → Setup → Bool) where
-  -- Neither device hears what is sent, or both do. Then the answer that came is allowed beside the known one, whatever the one who
+  -- Neither device receives what is sent, or both do. Then the answer that came is allowed beside the known one, whatever the one who
   -- judges holds of an open transfer. The host has what the bus brings of it, and both devices the ACK of it, if there is one.
   abbrev pub Compares : Tested → TransferView → Sent → Pair → Pair → Option Bool → Type 0
   Compares t transfer sent x y None = Takes x.host NoReply y.host × (y.device ≡ x.device)
@@ -59,7 +59,7 @@ module _ (table : State → Setup → Outcome) (packet : ℕ) (free : DeviceView
   -- a transaction, where the host asks for one in its transfer
   pub record IsTested (t : Tested) (x y : Pair) : Type 0 where
     pub transfer : TransferView
-    pub in_work : transfer_in x.host.phase ≡ Some transfer
+    pub is_current : transfer_in x.host.phase ≡ Some transfer
     pub sent : Sent
     pub due : wanted x.host.phase ≡ WantsSent sent
     pub compares : Compares t transfer sent x y (readiness t.fate)

@@ -46,7 +46,7 @@ reply_packet StallReply = Some (HandshakePacket handshakes.Stall)
 reply_packet (DataReply toggle bytes) = Some (DataPacket (data_kind toggle) bytes)
 reply_packet NoReply = None
 
--- what a host sends after what it has heard: an ACK of data
+-- what a host sends after what it has received: an ACK of data
 abbrev pub ack_packet : Reply → Option PacketView
 ack_packet reply = if is_data reply then Some (HandshakePacket handshakes.Ack) else None
 
@@ -76,27 +76,27 @@ IsReceivedOf (Some p) received = IsReceived p received
 -- What the two ends make of what they receive.
 
 -- a device, of a token to its endpoint zero and of what comes after the token
-abbrev pub heard_token : TokenKind → ℕ → Option PacketView → Option Sent
-heard_token tokens.In address after = Some (record { address = address; token = InToken })
-heard_token tokens.Setup address (Some (DataPacket datas.Data0 bytes)) = Some (record { address = address; token = SetupToken bytes })
-heard_token tokens.Setup address after = None
-heard_token tokens.Out address (Some (DataPacket datas.Data0 bytes)) = Some (record { address = address; token = OutToken toggles.Data0 bytes })
-heard_token tokens.Out address (Some (DataPacket datas.Data1 bytes)) = Some (record { address = address; token = OutToken toggles.Data1 bytes })
-heard_token tokens.Out address after = None
-heard_token tokens.Ping address after = None
+abbrev pub received_token : TokenKind → ℕ → Option PacketView → Option Sent
+received_token tokens.In address after = Some (record { address = address; token = InToken })
+received_token tokens.Setup address (Some (DataPacket datas.Data0 bytes)) = Some (record { address = address; token = SetupToken bytes })
+received_token tokens.Setup address after = None
+received_token tokens.Out address (Some (DataPacket datas.Data0 bytes)) = Some (record { address = address; token = OutToken toggles.Data0 bytes })
+received_token tokens.Out address (Some (DataPacket datas.Data1 bytes)) = Some (record { address = address; token = OutToken toggles.Data1 bytes })
+received_token tokens.Out address after = None
+received_token tokens.Ping address after = None
 
-abbrev pub heard_sent : Option PacketView → Option PacketView → Option Sent
-heard_sent (Some (TokenPacket kind to)) after = if to.endpoint == 0 then heard_token kind to.address after else None
-heard_sent other after = None
+abbrev pub received_sent : Option PacketView → Option PacketView → Option Sent
+received_sent (Some (TokenPacket kind to)) after = if to.endpoint == 0 then received_token kind to.address after else None
+received_sent other after = None
 
 -- a host, of an answer: what is none is silence (8.7.2)
-abbrev pub heard_reply : Option PacketView → Reply
-heard_reply (Some (HandshakePacket handshakes.Ack)) = AckReply
-heard_reply (Some (HandshakePacket handshakes.Nak)) = NakReply
-heard_reply (Some (HandshakePacket handshakes.Stall)) = StallReply
-heard_reply (Some (DataPacket datas.Data0 bytes)) = DataReply toggles.Data0 bytes
-heard_reply (Some (DataPacket datas.Data1 bytes)) = DataReply toggles.Data1 bytes
-heard_reply other = NoReply
+abbrev pub received_reply : Option PacketView → Reply
+received_reply (Some (HandshakePacket handshakes.Ack)) = AckReply
+received_reply (Some (HandshakePacket handshakes.Nak)) = NakReply
+received_reply (Some (HandshakePacket handshakes.Stall)) = StallReply
+received_reply (Some (DataPacket datas.Data0 bytes)) = DataReply toggles.Data0 bytes
+received_reply (Some (DataPacket datas.Data1 bytes)) = DataReply toggles.Data1 bytes
+received_reply other = NoReply
 
 -- a device, of a host's ACK
 abbrev pub is_ack : Option PacketView → Bool
@@ -123,23 +123,23 @@ delays (v ∷ events) = one_if (not v.ready) + delays events
 
 -- for any answers to requests, and any packet size of the device
 module _ (answer : State → Setup → Outcome) (packet : ℕ) where
-  -- A device answers a transaction that it has heard whole. Of a token whose data it doesn't receive it keeps nothing.
-  abbrev pub served_heard : DeviceView → Option Sent → Bool → Served
-  served_heard d None ready = record { reply = NoReply; device = d }
-  served_heard d (Some sent) ready = served answer packet d sent ready
+  -- A device answers a transaction that it has received whole. Of a token whose data it doesn't receive it keeps nothing.
+  abbrev pub served_received : DeviceView → Option Sent → Bool → Served
+  served_received d None ready = record { reply = NoReply; device = d }
+  served_received d (Some sent) ready = served answer packet d sent ready
 
   -- what it does where this was received of the token and of the data
   abbrev pub served_from : DeviceView → Option PacketView → Option PacketView → Bool → Served
-  served_from d token after ready = served_heard d (heard_sent token after) ready
+  served_from d token after ready = served_received d (received_sent token after) ready
 
   -- The packets of a transaction, in the order in which they are sent, are received as they were sent.
   pub record IsWhole (d : DeviceView) (sent : Sent) (ready : Bool) (token after reply ack : Option PacketView) : Type 0 where
     pub token_whole : token ≡ Some (token_packet sent)
     pub data_whole : after ≡ data_packet sent.token
     pub reply_whole : reply ≡ reply_packet (served_from d token after ready).reply
-    pub ack_whole : ack ≡ ack_packet (heard_reply reply)
+    pub ack_whole : ack ≡ ack_packet (received_reply reply)
 
-  -- One transaction over the bus: what is received of each packet, and what comes of it, which is the reply that the host hears
+  -- One transaction over the bus: what is received of each packet, and what comes of it, which is the reply that the host receives
   -- and the device after it.
   pub record OnWire (d : DeviceView) (sent : Sent) (v : Event) (r : Served) : Type 0 where
     pub token : Option PacketView
@@ -149,7 +149,7 @@ module _ (answer : State → Setup → Outcome) (packet : ℕ) where
     pub token_is : IsReceivedOf (Some (token_packet sent)) token
     pub after_is : IsReceivedOf (data_packet sent.token) after
     pub reply_is : IsReceivedOf (reply_packet (served_from d token after v.ready).reply) reply
-    pub ack_is : IsReceivedOf (ack_packet (heard_reply reply)) ack
+    pub ack_is : IsReceivedOf (ack_packet (received_reply reply)) ack
     pub whole : v.damaged ≡ false → IsWhole d sent v.ready token after reply ack
-    pub hears : r.reply ≡ heard_reply reply
+    pub receives_reply : r.reply ≡ received_reply reply
     pub device : r.device ≡ (let x = (served_from d token after v.ready).device in if is_ack ack then acked answer packet x else x)

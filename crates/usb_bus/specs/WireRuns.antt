@@ -13,18 +13,18 @@ use Rattle.usb_device.specs.declared.state.State.{State}
 use Rattle.usb_device.specs.Requests.{Outcome, answer}
 use Rattle.usb_device.specs.Step.{DeviceView, Served}
 use Rattle.usb_bus.specs.Attempt.{Attempt, Phase, Running, advance}
-use Rattle.usb_bus.specs.Bus.{Ends, has_data, hears}
+use Rattle.usb_bus.specs.Bus.{Ends, has_data, receives_reply}
 use Rattle.usb_bus.specs.Enumerate.{IsReset, Pair, new_pair}
 use Rattle.usb_bus.specs.declared.enumeration.Run.{Run}
 use Rattle.usb_bus.specs.Wire.{Event, OnWire, one_if}
 
 -- for any answers to requests, and any packet size of the device
 module _ (answer : State → SetupPacket → Outcome) (packet : ℕ) where
-  -- a transaction of two ends, if one is due, of a request that sends data to the device or not
+  -- a transaction of two ends, if one comes next, of a request that sends data to the device or not
   abbrev pub WireStep : Bool → Event → Ends → Option Sent → Ends → Type 0
   WireStep sends v x None y = y ≡ x
   WireStep sends v x (Some sent) y =
-      (r : Served) × OnWire answer packet x.device sent v r × (y ≡ record { host = hears sends x.host r.reply; device = r.device })
+      (r : Served) × OnWire answer packet x.device sent v r × (y ≡ record { host = receives_reply sends x.host r.reply; device = r.device })
 
   -- transactions of one transfer, where these are the data to the device
   abbrev pub WireRun : List ℕ → List Event → Ends → Ends → Type 0

@@ -5,7 +5,7 @@ ghost use Rattle.usb_text.specs.Lines.{column};
 ghost use Rattle.usb_host.specs.Heard.{heard_of};
 ghost use Rattle.usb_host.specs.Steps.{outcome_of, wanted};
 ghost use Rattle.usb_bus.specs.Exchanges.{given_up, trouble_why};
-ghost use Rattle.usb_bus.specs.Lines.{device_words, failure_words, going_words, heard_words, host_words, stage_words, strike_words};
+ghost use Rattle.usb_bus.specs.Lines.{device_words, failure_words, going_words, received_words, host_words, stage_words, strike_words};
 
 use std::alloc::AllocError;
 use usb_device::{Device, DeviceStage};
@@ -28,13 +28,13 @@ pub(crate) fn put_host(
     text: &mut Text,
     transfer: &Transfer,
     came: Answer<'_>,
-    heard: Heard<'_>,
+    received: Heard<'_>,
     why: Option<Why>,
 ) -> Result<(), AllocError>
-    ensures { OnOk result (text.new ≡ text.old ++ column 20 (host_words transfer.now (reply_of came.entry) (heard_of heard.entry) why)) }
+    ensures { OnOk result (text.new ≡ text.old ++ column 20 (host_words transfer.now (reply_of came.entry) (heard_of received.entry) why)) }
 {
     let start = text.len();
-    put_host_words(text, transfer, came, heard, why)?;
+    put_host_words(text, transfer, came, received, why)?;
     text.fill(start, 20)
 }
 
@@ -42,15 +42,15 @@ fn put_host_words(
     text: &mut Text,
     transfer: &Transfer,
     came: Answer<'_>,
-    heard: Heard<'_>,
+    received: Heard<'_>,
     why: Option<Why>,
 ) -> Result<(), AllocError>
-    ensures { OnOk result (text.new ≡ text.old ++ host_words transfer.now (reply_of came.entry) (heard_of heard.entry) why) }
+    ensures { OnOk result (text.new ≡ text.old ++ host_words transfer.now (reply_of came.entry) (heard_of received.entry) why) }
 {
     match why {
         Some(Why::Memory) => text.put("out of memory"),
-        Some(Why::Malformed) => put_malformed(text, transfer, came, heard),
-        _ => put_heard(text, transfer, came, heard),
+        Some(Why::Malformed) => put_malformed(text, transfer, came, received),
+        _ => put_received(text, transfer, came, received),
     }
 }
 
@@ -58,23 +58,23 @@ fn put_malformed(
     text: &mut Text,
     transfer: &Transfer,
     came: Answer<'_>,
-    heard: Heard<'_>,
+    received: Heard<'_>,
 ) -> Result<(), AllocError>
-    ensures { OnOk result (text.new ≡ text.old ++ (heard_words transfer.now (reply_of came.entry) (heard_of heard.entry) ++ codes ": malformed")) }
+    ensures { OnOk result (text.new ≡ text.old ++ (received_words transfer.now (reply_of came.entry) (heard_of received.entry) ++ codes ": malformed")) }
 {
-    put_heard(text, transfer, came, heard)?;
+    put_received(text, transfer, came, received)?;
     text.put(": malformed")
 }
 
-fn put_heard(
+fn put_received(
     text: &mut Text,
     transfer: &Transfer,
     came: Answer<'_>,
-    heard: Heard<'_>,
+    received: Heard<'_>,
 ) -> Result<(), AllocError>
-    ensures { OnOk result (text.new ≡ text.old ++ heard_words transfer.now (reply_of came.entry) (heard_of heard.entry)) }
+    ensures { OnOk result (text.new ≡ text.old ++ received_words transfer.now (reply_of came.entry) (heard_of received.entry)) }
 {
-    match heard {
+    match received {
         Heard::Again => put_going(text, transfer, came),
         Heard::Bytes(_) => {
             text.put("has ")?;
@@ -129,11 +129,11 @@ fn put_failure(text: &mut Text, transfer: &Transfer, why: Why) -> Result<(), All
     }
 }
 
-/// Why an attempt is given up, if it is: its transfer has heard this, and the host has ended for this reason, if it has.
-pub(crate) fn cause(heard: Heard<'_>, host: &Host, trouble: Option<Why>) -> Option<Why>
-    ensures { result ≡ given_up (heard_of heard.entry) (wanted host.now.phase) trouble }
+/// Why an attempt is given up, if it is: its transfer has received this, and the host has ended for this reason, if it has.
+pub(crate) fn cause(received: Heard<'_>, host: &Host, trouble: Option<Why>) -> Option<Why>
+    ensures { result ≡ given_up (heard_of received.entry) (wanted host.now.phase) trouble }
 {
-    match heard {
+    match received {
         Heard::Failed(why) => match host.next() {
             Action::Reset => Some(why),
             _ => trouble,

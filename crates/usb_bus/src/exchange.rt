@@ -17,22 +17,22 @@ use usb_device::Device;
 use usb_fields::{Answer, Transaction};
 use usb_host::{Host, Why};
 
-/// A host's end, which hears what a bus leaves of an answer, and changes a `W` by it.
-pub(crate) trait Hears<W> {
+/// A host's end, which receives what a bus leaves of an answer, and changes a `W` by it.
+pub(crate) trait TakesAnswer<W> {
     ghost use Rattle.usb_fields.specs.Packets.{Reply, reply_of};
 
     /// What comes of it.
     type Outcome;
 
     /// What came of which answer makes this end and this `W` that, and comes to this.
-    ghost hears: { Reply → Reply → Self → W → Self → W → Self.Outcome → Type 0 };
+    ghost receives_reply: { Reply → Reply → Self → W → Self → W → Self.Outcome → Type 0 };
 
-    fn hear(&mut self, came: Answer<'_>, answer: Answer<'_>, w: &mut W) -> Self::Outcome
-        ensures { hears (reply_of came.entry) (reply_of answer.entry) self.old w.old self.new w.new result };
+    fn take_answer(&mut self, came: Answer<'_>, answer: Answer<'_>, w: &mut W) -> Self::Outcome
+        ensures { receives_reply (reply_of came.entry) (reply_of answer.entry) self.old w.old self.new w.new result };
 }
 
 /// The observer sees all of the answer, what came of it, and the host then.
-impl<O: Observer> Hears<O> for Host {
+impl<O: Observer> TakesAnswer<O> for Host {
     ghost use Rattle.std.specs.Prelude.{◌≡◌, ◌<◌};
     ghost use Rattle.usb_fields.specs.Packets.{Sent};
     ghost use Rattle.usb_host.specs.Cost.{left_to_ask};
@@ -40,31 +40,31 @@ impl<O: Observer> Hears<O> for Host {
 
     type Outcome = ();
 
-    ghost hears = { λ came answer old from new to _. Takes old came new × ((sent : Sent) → wanted old.phase ≡ WantsSent sent → left_to_ask new < left_to_ask old) × O.sees from answer came new to };
+    ghost receives_reply = { λ came answer old from new to _. Takes old came new × ((sent : Sent) → wanted old.phase ≡ WantsSent sent → left_to_ask new < left_to_ask old) × O.sees from answer came new to };
 
-    fn hear(&mut self, came: Answer<'_>, answer: Answer<'_>, observer: &mut O) {
+    fn take_answer(&mut self, came: Answer<'_>, answer: Answer<'_>, observer: &mut O) {
         self.take(came);
         observer.answered(answer, came, self);
     }
 }
 
-/// One transaction under a fate: the host hears what the bus leaves of the answer, which the device lends.
-pub(crate) fn exchange<W, H: Hears<W>>(
+/// One transaction under a fate: the host receives what the bus leaves of the answer, which the device lends.
+pub(crate) fn exchange<W, H: TakesAnswer<W>>(
     host: &mut H,
     device: &mut Device<'_>,
     t: &Transaction<'_>,
     fate: Fate,
     w: &mut W,
 ) -> H::Outcome
-    ensures heard { H.hears (carried (answer device.old.description.file) device.old.description.file.device.packet device.old.device (sent_of t.now) fate).reply (answered device.old.description.file device.old.device (sent_of t.now) fate) host.old w.old host.new w.new result }
+    ensures received { H.receives_reply (carried (answer device.old.description.file) device.old.description.file.device.packet device.old.device (sent_of t.now) fate).reply (answered device.old.description.file device.old.device (sent_of t.now) fate) host.old w.old host.new w.new result }
     ensures device { device.new ≡ record device.old { device = (carried (answer device.old.description.file) device.old.description.file.device.packet device.old.device (sent_of t.now) fate).device } }
 {
     let Some(ready) = fate.readiness() else {
-        return host.hear(Answer::Silence, Answer::Silence, w);
+        return host.take_answer(Answer::Silence, Answer::Silence, w);
     };
     let answer = device.serve(t, ready);
     let is_acked = fate.acknowledges(answer);
-    let outcome = host.hear(fate.brought(answer), answer, w);
+    let outcome = host.take_answer(fate.brought(answer), answer, w);
     if is_acked {
         device.acked();
     }

@@ -68,7 +68,7 @@ impl Fate {
         }
     }
 
-    /// Whether a device is ready, where it hears what the host sends: the argument of
+    /// Whether a device is ready, where it receives what the host sends: the argument of
     /// [`Device::serve`](usb_device::Device::serve).
     ///
     /// ```rust

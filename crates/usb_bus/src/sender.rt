@@ -6,7 +6,7 @@ ghost use Rattle.usb_bus.specs.Attempt.{AreDataOf};
 ghost use Rattle.usb_bus.specs.Bus.{has_data, taken_by};
 ghost use Rattle.usb_bus.specs.inside.Running.{is_write, transfer_of};
 
-use crate::exchange::Hears;
+use crate::exchange::TakesAnswer;
 use std::alloc::AllocError;
 use usb_fields::{Answer, Setup, Transaction};
 use usb_host::{Heard, Transfer, Why, Write};
@@ -54,7 +54,7 @@ impl Sender {
 
     /// Takes what came back.
     fn take<'a>(&mut self, answer: Answer<'a>) -> Heard<'a>
-        ensures heard { heard_of result ≡ (taken_by (is_write self.old) (transfer_of self.old) (transfer_of self.old).stage (reply_of answer.entry)).heard }
+        ensures received { heard_of result ≡ (taken_by (is_write self.old) (transfer_of self.old) (transfer_of self.old).stage (reply_of answer.entry)).received }
         ensures after { transfer_of self.new ≡ (taken_by (is_write self.old) (transfer_of self.old) (transfer_of self.old).stage (reply_of answer.entry)).transfer }
         ensures kind { is_write self.new ≡ is_write self.old }
         ensures request { (transfer_of self.new).request ≡ (transfer_of self.old).request }
@@ -68,17 +68,17 @@ impl Sender {
 }
 
 /// The bytes that are new are kept. Comes to why the transfer has failed, if it has.
-impl Hears<Vec<u8>> for Sender {
+impl TakesAnswer<Vec<u8>> for Sender {
     ghost use Rattle.std.specs.Prelude.{◌≡◌, ◌<◌, IfOk, IsSome, OnOk};
     ghost use Rattle.usb_host.specs.Transfer.{due, left};
-    ghost use Rattle.usb_bus.specs.Bus.{hears};
+    ghost use Rattle.usb_bus.specs.Bus.{receives_reply};
     ghost use Rattle.usb_bus.specs.inside.Running.{failure_of, is_write, transfer_of};
 
     type Outcome = Result<Option<Why>, AllocError>;
 
-    ghost hears = { λ came _ old got new bytes result. OnOk result (record { transfer = transfer_of new; got = bytes.items } ≡ hears (is_write old) (record { transfer = transfer_of old; got = got.items }) came) × IfOk result (λ failure. failure ≡ failure_of (transfer_of new).stage) × ((transfer_of new).request ≡ (transfer_of old).request) × (IsSome (due (transfer_of old)) → left (transfer_of new) < left (transfer_of old)) × (is_write new ≡ is_write old) };
+    ghost receives_reply = { λ came _ old got new bytes result. OnOk result (record { transfer = transfer_of new; got = bytes.items } ≡ receives_reply (is_write old) (record { transfer = transfer_of old; got = got.items }) came) × IfOk result (λ failure. failure ≡ failure_of (transfer_of new).stage) × ((transfer_of new).request ≡ (transfer_of old).request) × (IsSome (due (transfer_of old)) → left (transfer_of new) < left (transfer_of old)) × (is_write new ≡ is_write old) };
 
-    fn hear(
+    fn take_answer(
         &mut self,
         came: Answer<'_>,
         _answer: Answer<'_>,

@@ -211,10 +211,10 @@ pub(crate) fn put_answered(
     put_transfer(alloc, text, step, &transfer)?;
     put_packets(text, turn, transfer.next(), answer, came)?;
     let mut after = transfer;
-    let heard = after.take(came);
+    let received = after.take(came);
     let trouble = trouble_of(host);
-    put_host(text, &after, came, heard, trouble)?;
-    Ok(cause(heard, host, trouble))
+    put_host(text, &after, came, received, trouble)?;
+    Ok(cause(received, host, trouble))
 }
 
 /// Puts the rest of the lines of a transaction: what the device has, this end of the line with the data below it, and for

@@ -21,7 +21,7 @@ pub trait Observer {
     /// What it was before this answer, of which this came and left the host so, and what it is then.
     ghost sees: { Self → Reply → Reply → HostView → Self → Type 0 };
 
-    /// The device has answered this in a transaction, silence where it heard nothing, and the host has taken what came of it
+    /// The device has answered this in a transaction, silence where it received nothing, and the host has taken what came of it
     /// over the bus.
     fn answered(&mut self, answer: Answer<'_>, came: Answer<'_>, host: &Host)
         ensures { sees self.old (reply_of answer.entry) (reply_of came.entry) host.now self.new };

@@ -1,4 +1,4 @@
--- What a device answers, told to C.
+-- What a device answers, reported to C.
 use Rattle.std.proofs.Common.{◌≡◌, ◌∙◌, ℕ, ◌≤◌, Bool, true, List, length, ap, sym, subst, arith}
 use Rattle.std.proofs.lemmas.Bool.Decides.{nat_tests}
 use Rattle.usb_fields.specs.Packets.{Reply}
@@ -30,7 +30,7 @@ answer_fits image bytes r reply head short is =
     let most = short_packets image head in
     subst (λ (it : Reply). HasRoom it) (sym is) (fits bytes r (omega (arith, short, most)))
 
--- the answer is the reply, where its bytes are those of the packet that is due
+-- the answer is the reply, where its bytes are those of the next packet
 pub answer_is : (image kept bytes : List ℕ) (e : EndpointZero) (r : Reaction) (reply due : Reply) → bytes ≡ packet_due (packet_in image) (stage_in image kept e)
     → reply ≡ reply_with bytes r → replied image kept e r ≡ due → reply ≡ due
 answer_is image kept bytes e r reply due bytes_are is replies = is ∙ ap (λ (b : List ℕ). reply_with b r) bytes_are ∙ replies

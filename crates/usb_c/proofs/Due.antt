@@ -11,13 +11,13 @@ use Rattle.usb_host.specs.Transfer.{TransferView, addressed, due, token_due}
 use Rattle.usb_host.specs.Steps.{HostPhase, HostView, ResetDue, Reading, Ended, Wanted, WantsNothing, WantsReset, WantsSent, sends, wanted}
 use Rattle.usb_c.specs.declared.transaction.NzgTransaction.{NzgTransaction}
 use Rattle.usb_c.specs.Hosts.{transaction_due}
-use Rattle.usb_c.specs.Transactions.{sent_told, transaction_of}
+use Rattle.usb_c.specs.Transactions.{sent_given, transaction_of}
 
 abbrev IsWhole : Option Wanted → Type 0
 IsWhole None = Unit {0}
 IsWhole (Some WantsReset) = Unit {0}
 IsWhole (Some WantsNothing) = Unit {0}
-IsWhole (Some (WantsSent sent)) = sent_told (transaction_of sent) [] ≡ Some sent
+IsWhole (Some (WantsSent sent)) = sent_given (transaction_of sent) [] ≡ Some sent
 
 -- an empty OUT
 out_whole : (address : ℕ) (toggle : Toggle) → IsWhole (Some (WantsSent (record { address = address; token = OutToken toggle [] })))
@@ -44,12 +44,12 @@ held_whole : (held : Option HostView) → IsWhole (option_map (λ v. wanted v.ph
 held_whole None = tt
 held_whole (Some v) = phase_whole v.phase
 
--- what is told of a transaction that is due is the whole of it
-pub told_whole : (held : Option HostView) (old new : NzgTransaction) (sent : Sent) → new ≡ transaction_due (option_map (λ v. wanted v.phase) held) old
-    → option_map (λ v. wanted v.phase) held ≡ Some (WantsSent sent) → sent_told new [] ≡ Some sent
-told_whole held old new sent told is =
-    let now : new ≡ transaction_of sent = subst (λ (w : Option Wanted). new ≡ transaction_due w old) is told in
-    subst (λ (t : NzgTransaction). sent_told t [] ≡ Some sent) (sym now) (subst IsWhole is (held_whole held))
+-- what is reported of the next transaction is the whole of it
+pub reported_whole : (held : Option HostView) (old new : NzgTransaction) (sent : Sent) → new ≡ transaction_due (option_map (λ v. wanted v.phase) held) old
+    → option_map (λ v. wanted v.phase) held ≡ Some (WantsSent sent) → sent_given new [] ≡ Some sent
+reported_whole held old new sent report is =
+    let now : new ≡ transaction_of sent = subst (λ (w : Option Wanted). new ≡ transaction_due w old) is report in
+    subst (λ (t : NzgTransaction). sent_given t [] ≡ Some sent) (sym now) (subst IsWhole is (held_whole held))
 
 transfer_whole : (held : Option TransferView) → IsWhole (Some (sends (option_and_then due held)))
 transfer_whole None = tt
@@ -57,8 +57,8 @@ transfer_whole (Some t) = token_whole t.address t t.stage
 
 -- the same of a transfer
 pub due_whole : (held : Option TransferView) (old new : NzgTransaction) (sent : Sent)
-    → new ≡ unwrap_or (option_map transaction_of (option_and_then due held)) old → option_and_then due held ≡ Some sent → sent_told new [] ≡ Some sent
-due_whole held old new sent told is =
-    let now : new ≡ transaction_of sent = subst (λ (s : Option Sent). new ≡ unwrap_or (option_map transaction_of s) old) is told in
+    → new ≡ unwrap_or (option_map transaction_of (option_and_then due held)) old → option_and_then due held ≡ Some sent → sent_given new [] ≡ Some sent
+due_whole held old new sent report is =
+    let now : new ≡ transaction_of sent = subst (λ (s : Option Sent). new ≡ unwrap_or (option_map transaction_of s) old) is report in
     let whole : IsWhole (Some (sends (Some sent))) = subst (λ (s : Option Sent). IsWhole (Some (sends s))) is (transfer_whole held) in
-    subst (λ (t : NzgTransaction). sent_told t [] ≡ Some sent) (sym now) whole
+    subst (λ (t : NzgTransaction). sent_given t [] ≡ Some sent) (sym now) whole

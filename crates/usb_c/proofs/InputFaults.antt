@@ -1,4 +1,4 @@
--- On the faults of inputs and listings, as they are told.
+-- On the faults of inputs and listings, as they are reported.
 use Rattle.std.proofs.Common.{◌≡◌, ℕ, ◌⊎◌, Bool, true, false, List, [], Err, refl, sym, subst, inl, inr}
 use Rattle.usb_set.specs.declared.fault.SetFault.{SetFault}
 use Rattle.usb_set.specs.declared.fault.SetWhy.{SetWhy}
@@ -50,7 +50,7 @@ module _ (IsFault : List ℕ → InputFault → Type 0) (b : List ℕ) (e : File
 pub completion_refuses : (b : List ℕ) (e : FileFault) → DeviceRefused b e.at e.why → Refuses CompletionFaulty b (refused_file e)
 completion_refuses b e h = file_refuses CompletionFaulty b e (λ shown. shown) e.why refl h
 
--- bytes that are no input are told with the fault that they show, or as out of memory
+-- bytes that are no input are reported with the fault that they show, or as out of memory
 pub input_refuses : (b : List ℕ) (e : InputFault) → InputRefused b e → Refuses InputFaulty b (refused_input e)
 input_refuses b (inputs.Set fault) h = set_refuses InputFaulty b fault (λ shown. (h.0, shown)) fault.why refl h.1
 input_refuses b (inputs.Trailing at) h = (h, refl)

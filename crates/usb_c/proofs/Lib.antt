@@ -1,14 +1,12 @@
-mod CaptureValues
-mod DecoderValues
 mod DeviceLemmas
 mod Due
 mod Faults
 mod FieldLists
 pub mod Following
 mod HandleValues
-mod HostValues
+mod HandleWalks
+mod Handles
 mod InputFaults
-mod LooseValues
 mod Numbering
 mod Placed
 mod Reasons

@@ -22,7 +22,7 @@ pub refused_without : (b : List ℕ) (e : InputFault) → InputRefused b e → S
 refused_without b (faults.File fault) h = (h.0, read_by b fault.at fault.why h.1)
 refused_without b e h = h
 
--- a dump ends where the language list of a file is due
+-- a dump ends where the language list of a file comes next
 pub dump_ends : (b : List ℕ) (f : DescriptorFile) → Dump f b → FileFaulty b (length b) files.Truncated
     → ShowRefused false b (faults.File (record { at = length b; why = files.Truncated }))
 dump_ends b f dump h = (ap is_one_set dump.bytes, h)

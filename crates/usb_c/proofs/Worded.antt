@@ -1,4 +1,4 @@
--- On words that were put, as they are told.
+-- On words that were put, as they are reported.
 use Rattle.std.proofs.Common.{◌≡◌, ℕ, List, Option, Some, None, true, false, inl, is_some, refl, subst}
 use Rattle.usb_text.specs.Shown.{Shown}
 use Rattle.usb_text.specs.Written.{LineBytes}
@@ -17,14 +17,14 @@ use Rattle.usb_explain.specs.FaultWords.{fault_words}
 use Rattle.usb_remarks.specs.FaultPlaces.{place_of_fault}
 use Rattle.usb_c.specs.Answers.{Fills, Puts}
 use Rattle.usb_c.specs.inside.Refusals.{wants_memory}
-use Rattle.usb_c.specs.Words.{Means, Show, TellsShown, TroublesAreTold, inner_number, shown_by, step_told}
+use Rattle.usb_c.specs.Words.{Means, Show, TellsShown, TroublesAreReported, inner_number, shown_by, step_given}
 use Rattle.usb_c.proofs.InputFaults.{shown_fault}
 
 -- where there is something to show, its words are in the buffer
-pub words_told : (shown : Option (List Shown)) (words : LineBytes) (text old new : List ℕ) (v : Verdict) → is_some shown ≡ true → Show (shown_by shown) words
+pub words_reported : (shown : Option (List Shown)) (words : LineBytes) (text old new : List ℕ) (v : Verdict) → is_some shown ≡ true → Show (shown_by shown) words
     → text ≡ words.bytes → Puts verdicts.Done text old new v → TellsShown shown old new v
-words_told None words text old new v there show same puts = cc
-words_told (Some shown) words text old new v there show same puts =
+words_reported None words text old new v there show same puts = cc
+words_reported (Some shown) words text old new v there show same puts =
     record { words = words; show = show; puts = subst (λ (t : List ℕ). Puts verdicts.Done t old new v) same puts }
 
 -- where memory was not wanting, the words of the fault are in the buffer
@@ -32,7 +32,7 @@ pub fault_means : (b old new : List ℕ) (e : InputFault) (v : Verdict) → Inpu
     → Fills (verdicts.Meant (inner_number e) (place_of_fault e)) (fault_words e) old new v → Means b old new v
 fault_means b old new e v refused known fills = inl (record { fault = e; shows = shown_fault b e refused known; fills = fills })
 
-step_back : (step : Step) → step_told (step_numbers step).step (step_numbers step).index (step_numbers step).language ≡ Some step
+step_back : (step : Step) → step_given (step_numbers step).step (step_numbers step).index (step_numbers step).language ≡ Some step
 step_back steps.First = refl
 step_back steps.Address = refl
 step_back steps.Device = refl
@@ -55,5 +55,5 @@ why_back reasons.Malformed = refl
 why_back reasons.Memory = refl
 
 -- a trouble is read back from its numbers
-pub troubles_are_told : TroublesAreTold
-troubles_are_told t = rw (step_back t.step) (rw (why_back t.why) refl)
+pub troubles_are_reported : TroublesAreReported
+troubles_are_reported t = rw (step_back t.step) (rw (why_back t.why) refl)

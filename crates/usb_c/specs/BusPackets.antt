@@ -20,9 +20,9 @@ damage_number damages.Length = 4
 damage_number damages.Crc5 = 5
 damage_number damages.Crc16 = 6
 
-abbrev pub damage_told : Option Damage → ℕ
-damage_told None = 0
-damage_told (Some damage) = damage_number damage
+abbrev pub damage_reported : Option Damage → ℕ
+damage_reported None = 0
+damage_reported (Some damage) = damage_number damage
 
 -- a packet as numbers: those of its fields, where its data are among its bytes, and 0 for what it does not have
 abbrev pub of_pid : Pid → NzgPacketFields
@@ -46,10 +46,10 @@ packet_with (Ok pids.Split) f bytes = Some (SplitPacket f.split)
 packet_with (Ok pids.Pre) f bytes = Some PrePacket
 packet_with (Err damage) f bytes = None
 
-abbrev pub packet_told : NzgPacketFields → List ℕ → Option PacketView
-packet_told f bytes = packet_with (pid_read f.pid) f bytes
+abbrev pub packet_given : NzgPacketFields → List ℕ → Option PacketView
+packet_given f bytes = packet_with (pid_read f.pid) f bytes
 
--- the bytes are those of a packet, and it is told
+-- the bytes are those of a packet, and it is reported
 pub record TellsPacket (b : List ℕ) (new : NzgPacketFields) : Type 0 where
   pub packet : PacketView
   pub legal : IsLegal packet

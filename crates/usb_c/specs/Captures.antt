@@ -155,15 +155,15 @@ item_in r kind number =
 
 -- it is reported, or there is none, or no room; what isn't reported stays
 abbrev pub TellsItem : Option Item → NzgRecorded → NzgRecorded → List ℕ → List ℕ → Verdict → Type 0
-TellsItem None told now old new verdict = (verdict ≡ verdicts.Open 0) × (now ≡ told) × (new ≡ old)
-TellsItem (Some item) told now old new verdict =
+TellsItem None report now old new verdict = (verdict ≡ verdicts.Open 0) × (now ≡ report) × (new ≡ old)
+TellsItem (Some item) report now old new verdict =
     ((verdict ≡ verdicts.Done (length item.bytes)) × (now ≡ item.numbers) × (new ≡ item.bytes ++ drop (length item.bytes) old))
-    ⊎ ((verdict ≡ verdicts.NoRoom (length item.bytes)) × (length old < length item.bytes) × (now ≡ told) × (new ≡ old))
+    ⊎ ((verdict ≡ verdicts.NoRoom (length item.bytes)) × (length old < length item.bytes) × (now ≡ report) × (new ≡ old))
 
 -- of a reader that is held, or none is
 abbrev pub TellsHeld : Option RecordingReader → ℕ → ℕ → NzgRecorded → NzgRecorded → List ℕ → List ℕ → Verdict → Type 0
-TellsHeld None kind number told now old new verdict = (verdict ≡ verdicts.Closed) × (now ≡ told) × (new ≡ old)
-TellsHeld (Some r) kind number told now old new verdict = TellsItem (item_in r kind number) told now old new verdict
+TellsHeld None kind number report now old new verdict = (verdict ≡ verdicts.Closed) × (now ≡ report) × (new ≡ old)
+TellsHeld (Some r) kind number report now old new verdict = TellsItem (item_in r kind number) report now old new verdict
 
 -- ---- reading
 

@@ -23,17 +23,17 @@ judged_number None = 0
 judged_number (Some why) = difference_number why
 
 -- An open transfer by its numbers, of which any have a meaning.
-abbrev pub stage_told : ℕ → OpenStage
-stage_told number =
+abbrev pub stage_given : ℕ → OpenStage
+stage_given number =
     if number == 0 then stages.Due else if number == 1 then stages.Sent else if number == 2 then stages.Last
     else if number == 3 then stages.Over else if number == 4 then stages.Answered else stages.Stalled
 
-abbrev pub transfer_told : NzgOpenTransfer → OpenTransfer
-transfer_told n = record {
+abbrev pub transfer_given : NzgOpenTransfer → OpenTransfer
+transfer_given n = record {
   last = if n.last == 0 then Data0 else Data1;
   acknowledged = n.acknowledged;
   sent = n.sent;
-  stage = stage_told n.stage;
+  stage = stage_given n.stage;
 }
 
 abbrev pub stage_number : OpenStage → ℕ
@@ -51,7 +51,7 @@ numbers_of t = record { acknowledged = t.acknowledged; sent = t.sent; last = tog
 abbrev pub JudgesBy : List ℕ → DeviceView → Sent → Reply → Setup → NzgOpenTransfer → NzgOpenTransfer → ℕ → Type 0
 JudgesBy image d sent came q open_ after_ number =
     (result : Option Difference) × (next : OpenTransfer)
-    × IsJudged (is_free_to (offer_in image) d q) q (packet_in image) (transfer_told open_) sent.token came (served_over image d sent (is_ready came)).reply next result
+    × IsJudged (is_free_to (offer_in image) d q) q (packet_in image) (transfer_given open_) sent.token came (served_over image d sent (is_ready came)).reply next result
     × (after_ ≡ numbers_of next) × (number ≡ judged_number result)
 
 -- An image, and a transaction and an answer that have a meaning: the device here has the transaction, ready where the other one was, and

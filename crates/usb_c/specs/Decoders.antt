@@ -17,10 +17,10 @@ OpensNew new verdicts.NoMemory = new ≡ None
 OpensNew new verdict = ⊥
 
 -- what a decoder answers to a piece, as a verdict
-abbrev pub told : List ℕ → Result Progress SetFault → Verdict
-told piece (Ok More) = verdicts.Open (length piece)
-told piece (Ok (Done used)) = verdicts.Done used
-told piece (Err fault) = refused_set fault
+abbrev pub report : List ℕ → Result Progress SetFault → Verdict
+report piece (Ok More) = verdicts.Open (length piece)
+report piece (Ok (Done used)) = verdicts.Done used
+report piece (Err fault) = refused_set fault
 
 -- a decoder that is held answers to the piece, and what it becomes is held
 pub record FeedsHeld (old : Decoding) (piece : List ℕ) (new : Option Decoding) (verdict : Verdict) : Type 0 where
@@ -28,7 +28,7 @@ pub record FeedsHeld (old : Decoding) (piece : List ℕ) (new : Option Decoding)
   pub result : Result Progress SetFault
   pub answers : Answers old piece result after
   pub holds : new ≡ Some after
-  pub says : verdict ≡ told piece result
+  pub says : verdict ≡ report piece result
 
 -- and none does nothing
 abbrev pub Feeds : Option Decoding → List ℕ → Option Decoding → Verdict → Type 0

@@ -66,16 +66,16 @@ Serves has_head sent image kept old ready before kept_then new packet done =
     (done ≡ false) × (new ≡ old) × (kept_then ≡ kept) × (packet ≡ before)
 
 -- the bytes of a request, if there is one, or what stood there
-abbrev pub setup_told : Option Setup → NzgSetup → NzgSetup
-setup_told None old = old
-setup_told (Some q) old = record { bytes = setup_bytes q }
+abbrev pub setup_reported : Option Setup → NzgSetup → NzgSetup
+setup_reported None old = old
+setup_reported (Some q) old = record { bytes = setup_bytes q }
 
 -- what is reported of an answer to the request that is refused, or of accepting it
 abbrev pub taken_or : Option Unanswered → Verdict
 taken_or None = verdicts.Done 0
 taken_or (Some why) = verdicts.Unanswered why
 
--- A write whose data have all come, and that is not answered yet: its request is told, and how many they are. They begin the room, as
+-- A write whose data have all come, and that is not answered yet: its request is reported, and how many they are. They begin the room, as
 -- `written_bytes` of usb_device/Stages says.
 abbrev pub TellsWrite : Option (Setup × List ℕ) → NzgSetup → NzgSetup → Verdict → Type 0
 TellsWrite None old new verdict = (verdict ≡ verdicts.Open 0) × (new ≡ old)

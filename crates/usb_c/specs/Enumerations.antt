@@ -28,8 +28,8 @@ abbrev pub is_fate : ℕ → Bool
 is_fate letter = (letter == 46) || (letter == 110) || (letter == 100) || (letter == 117) || (letter == 97)
 
 -- and of which one
-abbrev pub fate_told : ℕ → Fate
-fate_told letter =
+abbrev pub fate_given : ℕ → Fate
+fate_given letter =
     if letter == 110 then fates.Busy
     else if letter == 100 then fates.LostDown
     else if letter == 117 then fates.LostUp
@@ -66,7 +66,7 @@ pub record TellsEnumeration (b : List ℕ) (speed : Speed) (limits : LimitView) 
   pub run : Run
   pub enumerated : IsEnumeration file speed limits lost run
   pub numbers : outcome ≡ outcome_numbers run
-  pub told : TellsRun run.outcome old new verdict
+  pub report : TellsRun run.outcome old new verdict
 
 -- why there was no enumeration
 abbrev pub RefusesRun : List ℕ → Speed → Verdict → Type 0
@@ -76,9 +76,9 @@ RefusesRun b speed verdicts.NoMemory = Unit {0}
 RefusesRun b speed verdict = ⊥
 
 abbrev pub EnumeratesUnder : List ℕ → Speed → LimitView → List Fate → NzgOutcome → NzgOutcome → List ℕ → List ℕ → Verdict → Type 0
-EnumeratesUnder b speed limits lost told outcome old new verdict =
+EnumeratesUnder b speed limits lost report outcome old new verdict =
     TellsEnumeration b speed limits lost outcome old new verdict
-    ⊎ (RefusesRun b speed verdict × (outcome ≡ told) × (new ≡ old))
+    ⊎ (RefusesRun b speed verdict × (outcome ≡ report) × (new ≡ old))
 
 -- a number without meaning: the first of speed, attempts and fates
 abbrev pub wrong_limits : Option LimitFault → Bool → Option ℕ
@@ -92,17 +92,17 @@ wrong_number (Some speed) attempts letters = wrong_limits (limit_fault 1 attempt
 
 -- a number that has no meaning is reported, and else the enumeration
 abbrev pub EnumeratesWith : Option ℕ → Option Speed → List ℕ → LimitView → List Fate → NzgOutcome → NzgOutcome → List ℕ → List ℕ → Verdict → Type 0
-EnumeratesWith (Some wrong) speed b limits lost told outcome old new verdict =
-    (verdict ≡ verdicts.BadArgument wrong) × (outcome ≡ told) × (new ≡ old)
-EnumeratesWith None (Some speed) b limits lost told outcome old new verdict =
-    EnumeratesUnder b speed limits lost told outcome old new verdict
-EnumeratesWith None None b limits lost told outcome old new verdict = ⊥
+EnumeratesWith (Some wrong) speed b limits lost report outcome old new verdict =
+    (verdict ≡ verdicts.BadArgument wrong) × (outcome ≡ report) × (new ≡ old)
+EnumeratesWith None (Some speed) b limits lost report outcome old new verdict =
+    EnumeratesUnder b speed limits lost report outcome old new verdict
+EnumeratesWith None None b limits lost report outcome old new verdict = ⊥
 
 -- a device with these bytes and this speed is enumerated by a host that gives it address 1, under these limits and fates
 abbrev pub Enumerates : List ℕ → Option Speed → ℕ → ℕ → List ℕ → NzgOutcome → NzgOutcome → List ℕ → List ℕ → Verdict → Type 0
-Enumerates b speed naks attempts letters told outcome old new verdict =
+Enumerates b speed naks attempts letters report outcome old new verdict =
     EnumeratesWith (wrong_number speed attempts letters) speed b (record { address = 1; naks = naks; attempts = attempts })
-    (map fate_told letters) told outcome old new verdict
+    (map fate_given letters) report outcome old new verdict
 
 -- ---- the log
 
@@ -123,7 +123,7 @@ pub record TellsLog (b : List ℕ) (speed : Speed) (limits : LimitView) (lost : 
   pub file : DescriptorFile
   pub layout : File file b
   pub accepted : Accepted file speed
-  pub told : TellsLogOf file speed limits lost old new verdict
+  pub report : TellsLogOf file speed limits lost old new verdict
 
 abbrev pub LogsUnder : List ℕ → Speed → LimitView → List Fate → List ℕ → List ℕ → Verdict → Type 0
 LogsUnder b speed limits lost old new verdict =
@@ -138,4 +138,4 @@ LogsWith None None b limits lost old new verdict = ⊥
 abbrev pub Logs : List ℕ → Option Speed → ℕ → ℕ → List ℕ → List ℕ → List ℕ → Verdict → Type 0
 Logs b speed naks attempts letters old new verdict =
     LogsWith (wrong_number speed attempts letters) speed b (record { address = 1; naks = naks; attempts = attempts })
-    (map fate_told letters) old new verdict
+    (map fate_given letters) old new verdict

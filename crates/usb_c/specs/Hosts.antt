@@ -76,21 +76,21 @@ TellsFile f old new verdict =
 
 -- the outcome: none yet, or the file, or the trouble. What isn't reported stays.
 abbrev pub EndsWith : Option (Result DescriptorFile Trouble) → NzgTrouble → NzgTrouble → List ℕ → List ℕ → Verdict → Type 0
-EndsWith None told now old new verdict = (verdict ≡ verdicts.Open 0) × (now ≡ told) × (new ≡ old)
-EndsWith (Some (Ok f)) told now old new verdict = TellsFile f old new verdict × (now ≡ told)
-EndsWith (Some (Err trouble)) told now old new verdict =
+EndsWith None report now old new verdict = (verdict ≡ verdicts.Open 0) × (now ≡ report) × (new ≡ old)
+EndsWith (Some (Ok f)) report now old new verdict = TellsFile f old new verdict × (now ≡ report)
+EndsWith (Some (Err trouble)) report now old new verdict =
     (verdict ≡ verdicts.Trouble trouble) × (now ≡ trouble_numbers trouble) × (new ≡ old)
 
 -- What calls do to a host that C holds, or to none.
 
 -- what becomes of the strings that are named, by its number
-abbrev pub strings_told : ℕ → Option NamedStrings
-strings_told number =
+abbrev pub strings_given : ℕ → Option NamedStrings
+strings_given number =
     if number == 0 then Some texts.Needed else if number == 1 then Some texts.Wanted else if number == 2 then Some texts.Skipped else None
 
 -- what is asked for
-abbrev pub choice_told : ℕ → Bool → Option Choice
-choice_told number other_speed = option_map (λ strings. record { strings = strings; other_speed = other_speed }) (strings_told number)
+abbrev pub choice_given : ℕ → Bool → Option Choice
+choice_given number other_speed = option_map (λ strings. record { strings = strings; other_speed = other_speed }) (strings_given number)
 
 -- limits that are refused, or a new host with these limits that asks for so much, or out of memory
 abbrev pub HostOpensAt : ℕ → ℕ → ℕ → Speed → Choice → Option HostView → Verdict → Type 0
@@ -163,5 +163,5 @@ resets_of (Some v) = v.resets
 
 -- the outcome of the host that is held, if one is
 abbrev pub Ends : Option HostView → NzgTrouble → NzgTrouble → List ℕ → List ℕ → Verdict → Type 0
-Ends None told now old new verdict = (verdict ≡ verdicts.Closed) × (now ≡ told) × (new ≡ old)
-Ends (Some v) told now old new verdict = EndsWith (outcome_of v.phase) told now old new verdict
+Ends None report now old new verdict = (verdict ≡ verdicts.Closed) × (now ≡ report) × (new ≡ old)
+Ends (Some v) report now old new verdict = EndsWith (outcome_of v.phase) report now old new verdict

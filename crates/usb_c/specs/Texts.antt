@@ -66,11 +66,11 @@ Refuses IsFault b (verdicts.Broken fault length) = IsFault b fault × (length �
 Refuses IsFault b verdicts.NoMemory = Unit {0}
 Refuses IsFault b verdict = ⊥
 
--- what is told of the input that the bytes are taken for is in the buffer
-pub record TellsInput {A : Type 0} (IsTaken : Input → List ℕ → Type 0) (told_of : Input → List A) (b : List ℕ) (old new : List A) (verdict : Verdict) : Type 0 where
+-- what is reported of the input that the bytes are taken for is in the buffer
+pub record TellsInput {A : Type 0} (IsTaken : Input → List ℕ → Type 0) (reported_of : Input → List A) (b : List ℕ) (old new : List A) (verdict : Verdict) : Type 0 where
   pub input : Input
   pub is : IsTaken input b
-  pub fills : Fills verdicts.Done (told_of input) old new verdict
+  pub fills : Fills verdicts.Done (reported_of input) old new verdict
 
 -- the listing of the bytes, or they are refused, and the buffer is as it was
 abbrev pub Shows : Bool → List ℕ → List ℕ → List ℕ → Verdict → Type 0
@@ -84,8 +84,8 @@ Checks any b old new verdict =
     ⊎ (Refuses (CheckFaulty any) b verdict × (new ≡ old))
 
 -- the speed of a number, if it is one
-abbrev pub running_speed_told : ℕ → Option SetSpeed
-running_speed_told number =
+abbrev pub running_speed_given : ℕ → Option SetSpeed
+running_speed_given number =
     if number == 1 then Some speeds.Low
     else if number == 2 then Some speeds.Full
     else if number == 3 then Some speeds.High
@@ -94,19 +94,19 @@ running_speed_told number =
 
 -- how an explanation is written: bit 0 leaves the fields out, bit 1 gives each heading its place, bit 2 writes characters beyond
 -- ASCII, and bit 3 tells formats apart in their headings
-abbrev pub manner_told : ℕ → ℕ → Manner
-manner_told options speed =
+abbrev pub manner_given : ℕ → ℕ → Manner
+manner_given options speed =
     record {
       look = record { brief = options % 2 == 1; places = (options / 2) % 2 == 1; utf8 = (options / 4) % 2 == 1; formats = (options / 8) % 2 == 1 };
-      speed = running_speed_told speed;
+      speed = running_speed_given speed;
       decoded = false;
     }
 
 -- the explanation of bytes of which this was read is in the buffer, with this verdict
-pub record FillsExplained (m : Manner) (read : Reading) (told : ℕ → Verdict) (b old new : List ℕ) (verdict : Verdict) : Type 0 where
+pub record FillsExplained (m : Manner) (read : Reading) (report : ℕ → Verdict) (b old new : List ℕ) (verdict : Verdict) : Type 0 where
   pub text : List ℕ
   pub is : IsExplanation m read b text
-  pub fills : Fills told text old new verdict
+  pub fills : Fills report text old new verdict
 
 -- that of an input
 pub record TellsExplained (m : Manner) (b old new : List ℕ) (verdict : Verdict) : Type 0 where

@@ -1,11 +1,11 @@
 -- A control transfer as numbers, and what calls do to it.
 use Rattle.std.specs.Prelude.{◌≡◌, ℕ, ◌==◌, nat_lt, if◌then◌else◌, List, length, Option, Some, None}
 use Rattle.std.specs.Option.{option_and_then, option_map}
-use Rattle.usb_c.specs.Transactions.{toggle_told}
+use Rattle.usb_c.specs.Transactions.{toggle_given}
 use Rattle.usb_fields.specs.Packets.{Reply}
 use Rattle.usb_fields.specs.Setup.{setup_of}
 use Rattle.usb_fields.specs.declared.packet.Toggle.{Toggle}
-use Rattle.usb_host.specs.Transfer.{TransferView, Hearing, Goes, Brings, Completes, Fails, Taken, begun, is_transfer}
+use Rattle.usb_host.specs.Transfer.{TransferView, HeardView, Goes, Brings, Completes, Fails, Taken, begun, is_transfer}
 use Rattle.usb_host.specs.declared.transfer.TransferStage.{TransferStage}
 use Rattle.usb_host.specs.declared.transfer.TransferStage.TheVariants as stages
 use Rattle.usb_host.specs.declared.transfer_fields.TransferFields.{TransferFields}
@@ -57,7 +57,7 @@ fields_at n stage awaited =
 
 -- those of a transfer, where the numbers of its stage and its toggle have a meaning
 abbrev pub fields_in : NzgTransfer → Option TransferFields
-fields_in n = option_and_then (λ stage. option_map (λ awaited. fields_at n stage awaited) (toggle_told n.toggle)) (stage_in n.stage n.why)
+fields_in n = option_and_then (λ stage. option_map (λ awaited. fields_at n stage awaited) (toggle_given n.toggle)) (stage_in n.stage n.why)
 
 -- the transfer with these numbers, if they are those of one
 abbrev pub transfer_in : NzgTransfer → Option TransferView
@@ -75,16 +75,16 @@ Opens None t old new verdict = (verdict ≡ verdicts.Done 0) × (transfer_in new
 Opens (Some number) t old new verdict = (verdict ≡ verdicts.BadArgument number) × (new ≡ old)
 
 -- what a reply means, as a verdict; of new bytes it has their number
-abbrev pub heard_told : Hearing → Verdict
-heard_told Goes = verdicts.Open 0
-heard_told (Brings bytes) = verdicts.Open (length bytes)
-heard_told Completes = verdicts.Done 0
-heard_told (Fails why) = verdicts.Failed why
+abbrev pub received_reported : HeardView → Verdict
+received_reported Goes = verdicts.Open 0
+received_reported (Brings bytes) = verdicts.Open (length bytes)
+received_reported Completes = verdicts.Done 0
+received_reported (Fails why) = verdicts.Failed why
 
 -- a transfer comes to this one by a reply, and so do the numbers; where they are none of a transfer they stay
 abbrev pub Becomes : Option Taken → NzgTransfer → NzgTransfer → Verdict → Type 0
 Becomes None old new verdict = (verdict ≡ verdicts.BadArgument 11) × (new ≡ old)
-Becomes (Some to) old new verdict = (verdict ≡ heard_told to.heard) × (transfer_in new ≡ Some to.transfer)
+Becomes (Some to) old new verdict = (verdict ≡ received_reported to.received) × (transfer_in new ≡ Some to.transfer)
 
 -- a reply that has a meaning is taken, by a transfer or a write; else nothing changes
 abbrev pub TakesReply : (TransferView → Reply → Taken) → NzgTransfer → Option Reply → NzgTransfer → Verdict → Type 0

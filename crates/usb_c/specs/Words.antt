@@ -82,11 +82,11 @@ abbrev pub cause_by : ℕ → List Found → Option Cause
 cause_by rule found = option_map (λ f. f.cause) (find (λ f. f.finding.rule == rule) found)
 
 -- what a struct says is found, by its place and its rule
-abbrev pub cause_told : NzgFinding → List Described → Option Cause
-cause_told f ds = option_and_then (λ d. cause_by f.rule d.findings) (descriptor_at f.place ds)
+abbrev pub cause_given : NzgFinding → List Described → Option Cause
+cause_given f ds = option_and_then (λ d. cause_by f.rule d.findings) (descriptor_at f.place ds)
 
 abbrev pub finding_shown : NzgFinding → List ℕ → Input → Option (List Shown)
-finding_shown f b input = option_map counts_shown (cause_told f (outline None (found_in_order input) b))
+finding_shown f b input = option_map counts_shown (cause_given f (outline None (found_in_order input) b))
 
 abbrev pub TellsFinding : NzgFinding → List ℕ → List ℕ → List ℕ → Verdict → Type 0
 TellsFinding f b old new verdict = TellsWordsOf (finding_shown f b) b old new verdict
@@ -96,14 +96,14 @@ abbrev pub remark_by : ℕ → List Remark → Option Remark
 remark_by number remarks = find (λ r. remark_number r == number) remarks
 
 -- what a struct says is remarked, by its place and its number
-abbrev pub remark_told : NzgRemark → List Described → Option Remark
-remark_told r ds = option_and_then (λ d. remark_by r.number (remarks_on d.role d)) (descriptor_at r.place ds)
+abbrev pub remark_given : NzgRemark → List Described → Option Remark
+remark_given r ds = option_and_then (λ d. remark_by r.number (remarks_on d.role d)) (descriptor_at r.place ds)
 
-abbrev pub told_shown : NzgRemark → Option SetSpeed → List ℕ → Input → Option (List Shown)
-told_shown r running b input = option_map remark_shown (remark_told r (outline running (found_in_order input) b))
+abbrev pub reported_shown : NzgRemark → Option SetSpeed → List ℕ → Input → Option (List Shown)
+reported_shown r running b input = option_map remark_shown (remark_given r (outline running (found_in_order input) b))
 
 abbrev pub TellsRemark : NzgRemark → Option SetSpeed → List ℕ → List ℕ → List ℕ → Verdict → Type 0
-TellsRemark r running b old new verdict = TellsWordsOf (told_shown r running b) b old new verdict
+TellsRemark r running b old new verdict = TellsWordsOf (reported_shown r running b) b old new verdict
 
 -- ---- faults
 
@@ -138,8 +138,8 @@ Means b old new verdict =
 -- ---- troubles
 
 -- the step of a number, with the index and the language of what is read
-abbrev pub step_told : ℕ → ℕ → ℕ → Option Step
-step_told step index language =
+abbrev pub step_given : ℕ → ℕ → ℕ → Option Step
+step_given step index language =
     if step == 1 then Some steps.First
     else if step == 2 then Some steps.Address
     else if step == 3 then Some steps.Device
@@ -159,8 +159,8 @@ trouble_by (Some step) (Some why) = Some (record { step = step; why = why })
 trouble_by step why = None
 
 -- the trouble of these numbers
-abbrev pub trouble_told : NzgTrouble → Option Trouble
-trouble_told t = trouble_by (step_told t.step t.index t.language) (why_in t.why)
+abbrev pub trouble_given : NzgTrouble → Option Trouble
+trouble_given t = trouble_by (step_given t.step t.index t.language) (why_in t.why)
 
 -- its words are in the buffer, or it is none
 abbrev pub TellsTrouble : Option Trouble → List ℕ → List ℕ → Verdict → Type 0
@@ -168,5 +168,5 @@ TellsTrouble None old new verdict = (verdict ≡ verdicts.BadArgument 13) × (ne
 TellsTrouble (Some trouble) old new verdict = Fills verdicts.Done (trouble_message trouble) old new verdict
 
 -- the numbers of a trouble are those of that trouble alone
-abbrev pub TroublesAreTold : Type 0
-TroublesAreTold = (t : Trouble) → trouble_told (trouble_numbers t) ≡ Some t
+abbrev pub TroublesAreReported : Type 0
+TroublesAreReported = (t : Trouble) → trouble_given (trouble_numbers t) ≡ Some t

@@ -33,7 +33,7 @@ pub struct Answer {
 pub enum Verdict {
     /// All went well, and this many bytes were taken or written.
     Done(usize),
-    /// A transaction of a write is due: a data packet has this many of the data, from this place on. Or a recording ends, with this
+    /// A transaction of a write comes next: a data packet has this many of the data, from this place on. Or a recording ends, with this
     /// many bytes of a part that begins at this place.
     Due(usize, usize),
     /// The bytes are an input: 1 a set, 2 a descriptor file, 3 a dump.

@@ -5,8 +5,8 @@ ghost use Rattle.usb_c.specs.declared.answer.Verdict.TheVariants as verdicts;
 ghost use Rattle.usb_c.specs.Answers.{AnswersOn};
 ghost use Rattle.usb_c.specs.Enumerations.{Enumerates};
 ghost use Rattle.usb_c.specs.Explaining.{ExplainsBy, is_hex, is_loose};
-ghost use Rattle.usb_c.specs.Texts.{Builds, Checks, Shows, manner_told};
-ghost use Rattle.usb_c.specs.Transactions.{speed_told};
+ghost use Rattle.usb_c.specs.Texts.{Builds, Checks, Shows, manner_given};
+ghost use Rattle.usb_c.specs.Transactions.{speed_given};
 
 use crate::answer::{Answer, Verdict};
 use crate::enumeration::{NzgOutcome, enumerate_bytes};
@@ -79,7 +79,7 @@ pub extern "C" fn nzg_explain(
     speed: u8,
     text: &mut [u8],
 ) -> Answer
-    ensures { AnswersOn (ExplainsBy (is_hex options) (is_loose options) (manner_told options speed) bytes.now text.old text.new) result }
+    ensures { AnswersOn (ExplainsBy (is_hex options) (is_loose options) (manner_given options speed) bytes.now text.old text.new) result }
 {
     explain_by(alloc, bytes, options, speed, text).answer()
 }
@@ -106,7 +106,7 @@ pub extern "C" fn nzg_enumerate(
     outcome: &mut NzgOutcome,
     text: &mut [u8],
 ) -> Answer
-    ensures { AnswersOn (Enumerates bytes.now (speed_told speed) naks attempts fates.now outcome.old outcome.new text.old text.new) result }
+    ensures { AnswersOn (Enumerates bytes.now (speed_given speed) naks attempts fates.now outcome.old outcome.new text.old text.new) result }
 {
     enumerate_bytes(alloc, bytes, speed, naks, attempts, fates, outcome, text).answer()
 }

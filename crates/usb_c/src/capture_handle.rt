@@ -1,13 +1,12 @@
 //! A reader of a recording that C holds by a pointer.
 ghost use Rattle.std.specs.Prelude.{◌≡◌, Option, Some, None};
-ghost use Rattle.usb_c.specs.inside.Owning.{held_by, loosely_held, owned};
+ghost use Rattle.usb_c.specs.inside.Owning.{held_by, owned};
 ghost use Rattle.usb_capture_lines.specs.contracts.recording_reader.RecordingReader.{the_row};
 ghost use Rattle.usb_capture_lines.specs.declared.recording_reader.RecordingReader.{RecordingReader};
 
-use crate::loose::Loose;
+use crate::handle::Handle;
 use std::alloc::Global;
 use std::marker::Model;
-use std::ptr::null_mut;
 use usb_capture_lines::RecordingReader;
 
 /// A reader of a recording on the heap, or none, which is null. C sees a struct with one pointer in it, since a
@@ -28,50 +27,40 @@ impl NzgCapture {
     pub(crate) fn empty(alloc: Global) -> NzgCapture
         ensures { result.held ≡ None }
     {
-        NzgCapture {
-            at: null_mut(),
-            alloc,
-        }
+        NzgCapture::from_handle(Handle::empty(alloc))
     }
 
     /// That of a box.
     pub(crate) fn of(value: Box<RecordingReader>) -> NzgCapture
         ensures { result.held ≡ Some value.value }
     {
-        NzgCapture::full(Loose::of(value))
+        NzgCapture::from_handle(Handle::of(value))
     }
 
     /// The box again, if there is one.
     pub(crate) fn into_box(self) -> Option<Box<RecordingReader>>
         ensures { held_by result ≡ self.held }
     {
-        match self.split() {
-            Some(loose) => Some(loose.into_box()),
-            None => None,
-        }
+        self.into_handle().into_box()
     }
 
-    fn full(loose: Loose<RecordingReader, Global>) -> NzgCapture
-        ensures { result.held ≡ Some loose.value }
+    fn from_handle(handle: Handle<RecordingReader>) -> NzgCapture
+        ensures { result.held ≡ handle.held }
     {
-        let Loose { at, alloc } = loose;
+        let Handle { at, alloc } = handle;
         NzgCapture {
             at: at as *mut u8,
             alloc,
         }
     }
 
-    fn split(self) -> Option<Loose<RecordingReader, Global>>
-        ensures { loosely_held result ≡ self.held }
+    fn into_handle(self) -> Handle<RecordingReader>
+        ensures { result.held ≡ self.held }
     {
         let NzgCapture { at, alloc } = self;
-        if at.is_null() {
-            None
-        } else {
-            Some(Loose {
-                at: at as *mut RecordingReader,
-                alloc,
-            })
+        Handle {
+            at: at as *mut RecordingReader,
+            alloc,
         }
     }
 }

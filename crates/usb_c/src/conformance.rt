@@ -3,8 +3,8 @@ ghost use Rattle.std.specs.Prelude.{◌≡◌};
 ghost use Rattle.usb_fields.specs.Setup.{setup_of};
 ghost use Rattle.usb_device.specs.Offers.{has_head};
 ghost use Rattle.usb_device.specs.OpenTransfers.{after_ack};
-ghost use Rattle.usb_c.specs.Conformance.{JudgesDevice, judged_number, numbers_of, stage_number, stage_told, transfer_told};
-ghost use Rattle.usb_c.specs.Transactions.{packet_told, sent_told};
+ghost use Rattle.usb_c.specs.Conformance.{JudgesDevice, judged_number, numbers_of, stage_number, stage_given, transfer_given};
+ghost use Rattle.usb_c.specs.Transactions.{packet_given, sent_given};
 
 use crate::device_owner::NzgSetup;
 use crate::transaction::{NzgPacket, NzgTransaction, answer_in, sent, tell};
@@ -41,7 +41,7 @@ pub extern "C" fn nzg_judge_device(
     came: &NzgPacket,
     packet: &mut NzgPacket,
 ) -> u8
-    ensures { JudgesDevice (has_head image.now) (sent_told transaction.now bytes.now) (packet_told came.now) image.now kept.old device.old transfer.old (setup_of request.now.bytes) packet.old kept.new device.new transfer.new packet.new result }
+    ensures { JudgesDevice (has_head image.now) (sent_given transaction.now bytes.now) (packet_given came.now) image.now kept.old device.old transfer.old (setup_of request.now.bytes) packet.old kept.new device.new transfer.new packet.new result }
 {
     let image = Image { bytes: image };
     if !image.has_head() {
@@ -68,7 +68,7 @@ pub extern "C" fn nzg_judge_device(
 /// The host's ACK of the data packet that was judged right before, which reached the device.
 #[unsafe(no_mangle)]
 pub extern "C" fn nzg_judge_acked(transfer: &mut NzgOpenTransfer)
-    ensures { transfer.new ≡ numbers_of (after_ack (transfer_told transfer.old)) }
+    ensures { transfer.new ≡ numbers_of (after_ack (transfer_given transfer.old)) }
 {
     let mut known = transfer_of(transfer);
     known.acked();
@@ -76,7 +76,7 @@ pub extern "C" fn nzg_judge_acked(transfer: &mut NzgOpenTransfer)
 }
 
 fn transfer_of(transfer: &NzgOpenTransfer) -> OpenTransfer
-    ensures { result ≡ transfer_told transfer.now }
+    ensures { result ≡ transfer_given transfer.now }
 {
     OpenTransfer {
         last: match transfer.last {
@@ -90,7 +90,7 @@ fn transfer_of(transfer: &NzgOpenTransfer) -> OpenTransfer
 }
 
 fn stage_of(number: u8) -> OpenStage
-    ensures { result ≡ stage_told number }
+    ensures { result ≡ stage_given number }
 {
     match number {
         0 => OpenStage::Due,

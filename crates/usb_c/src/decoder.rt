@@ -1,7 +1,7 @@
 //! A set in pieces, by a handle.
 ghost use Rattle.std.specs.Prelude.{◌≡◌, None};
 ghost use Rattle.usb_c.specs.Answers.{AnswersOn};
-ghost use Rattle.usb_c.specs.Decoders.{Feeds, Lists, OpensNew, told};
+ghost use Rattle.usb_c.specs.Decoders.{Feeds, Lists, OpensNew, report};
 
 use crate::answer::{Answer, Verdict, refused_set};
 use crate::decoder_handle::NzgDecoder;
@@ -55,7 +55,7 @@ fn feed(alloc: Global, decoder: &mut NzgDecoder, piece: &[u8]) -> Verdict
 }
 
 fn tell(piece: &[u8], fed: Result<Progress, SetFault>) -> Verdict
-    ensures { result ≡ told piece.now fed }
+    ensures { result ≡ report piece.now fed }
 {
     match fed {
         Ok(Progress::Done { used }) => Verdict::Done(used),
@@ -79,7 +79,7 @@ pub extern "C" fn nzg_decoder_list(
 
 fn list(alloc: Global, decoder: &mut NzgDecoder, out: &mut [u8]) -> Verdict
     ensures held { decoder.new.held ≡ None }
-    ensures told { Lists decoder.old.held out.old out.new result }
+    ensures report { Lists decoder.old.held out.old out.new result }
 {
     let Some(held) = replace(decoder, NzgDecoder::empty(alloc)).into_box() else {
         return Verdict::Closed;

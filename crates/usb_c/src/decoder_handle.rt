@@ -1,13 +1,12 @@
 //! A decoder that C holds by a pointer.
 ghost use Rattle.std.specs.Prelude.{◌≡◌, Option, Some, None};
-ghost use Rattle.usb_c.specs.inside.Owning.{held_by, loosely_held, owned};
+ghost use Rattle.usb_c.specs.inside.Owning.{held_by, owned};
 ghost use Rattle.usb_set.specs.contracts.decoder.Decoder.{the_row};
 ghost use Rattle.usb_set.specs.Decoding.{Decoding};
 
-use crate::loose::Loose;
+use crate::handle::Handle;
 use std::alloc::Global;
 use std::marker::Model;
-use std::ptr::null_mut;
 use usb_set::Decoder;
 
 /// A decoder on the heap, or none, which is null. C sees a struct with one pointer in it, since a
@@ -28,50 +27,40 @@ impl NzgDecoder {
     pub(crate) fn empty(alloc: Global) -> NzgDecoder
         ensures { result.held ≡ None }
     {
-        NzgDecoder {
-            at: null_mut(),
-            alloc,
-        }
+        NzgDecoder::from_handle(Handle::empty(alloc))
     }
 
     /// That of a box.
     pub(crate) fn of(value: Box<Decoder>) -> NzgDecoder
         ensures { result.held ≡ Some value.value }
     {
-        NzgDecoder::full(Loose::of(value))
+        NzgDecoder::from_handle(Handle::of(value))
     }
 
     /// The box again, if there is one.
     pub(crate) fn into_box(self) -> Option<Box<Decoder>>
         ensures { held_by result ≡ self.held }
     {
-        match self.split() {
-            Some(loose) => Some(loose.into_box()),
-            None => None,
-        }
+        self.into_handle().into_box()
     }
 
-    fn full(loose: Loose<Decoder, Global>) -> NzgDecoder
-        ensures { result.held ≡ Some loose.value }
+    fn from_handle(handle: Handle<Decoder>) -> NzgDecoder
+        ensures { result.held ≡ handle.held }
     {
-        let Loose { at, alloc } = loose;
+        let Handle { at, alloc } = handle;
         NzgDecoder {
             at: at as *mut u8,
             alloc,
         }
     }
 
-    fn split(self) -> Option<Loose<Decoder, Global>>
-        ensures { loosely_held result ≡ self.held }
+    fn into_handle(self) -> Handle<Decoder>
+        ensures { result.held ≡ self.held }
     {
         let NzgDecoder { at, alloc } = self;
-        if at.is_null() {
-            None
-        } else {
-            Some(Loose {
-                at: at as *mut Decoder,
-                alloc,
-            })
+        Handle {
+            at: at as *mut Decoder,
+            alloc,
         }
     }
 }

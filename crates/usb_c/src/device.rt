@@ -5,7 +5,7 @@ ghost use Rattle.usb_device.specs.Step.{new_device};
 ghost use Rattle.usb_device.specs.View.{acked_over, device_of};
 ghost use Rattle.usb_c.specs.Answers.{AnswersOn};
 ghost use Rattle.usb_c.specs.Devices.{Changes, PutsImage, PutsImageAt, Serves};
-ghost use Rattle.usb_c.specs.Transactions.{sent_told, speed_told};
+ghost use Rattle.usb_c.specs.Transactions.{sent_given, speed_given};
 
 use crate::answer::{Answer, Verdict, refused_description, refused_file};
 use crate::buffer::fill_done;
@@ -23,13 +23,13 @@ pub extern "C" fn nzg_device_image(
     speed: u8,
     image: &mut [u8],
 ) -> Answer
-    ensures { AnswersOn (PutsImage file.now (speed_told speed) image.old image.new) result }
+    ensures { AnswersOn (PutsImage file.now (speed_given speed) image.old image.new) result }
 {
     put_image(alloc, file, speed, image).answer()
 }
 
 fn put_image(alloc: Global, file: &[u8], speed: u8, image: &mut [u8]) -> Verdict
-    ensures { PutsImage file.now (speed_told speed) image.old image.new result }
+    ensures { PutsImage file.now (speed_given speed) image.old image.new result }
 {
     match speed_of(speed) {
         Some(speed) => put_image_at(alloc, file, speed, image),
@@ -71,7 +71,7 @@ pub extern "C" fn nzg_device_serve(
     ready: bool,
     packet: &mut NzgPacket,
 ) -> bool
-    ensures { Serves (has_head image.now) (sent_told transaction.now bytes.now) image.now kept.old device.old ready packet.old kept.new device.new packet.new result }
+    ensures { Serves (has_head image.now) (sent_given transaction.now bytes.now) image.now kept.old device.old ready packet.old kept.new device.new packet.new result }
 {
     let image = Image { bytes: image };
     if !image.has_head() {

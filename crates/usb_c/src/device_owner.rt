@@ -5,7 +5,7 @@ ghost use Rattle.usb_device.specs.Offers.{has_head, offer_in};
 ghost use Rattle.usb_device.specs.Requests.{answer_to};
 ghost use Rattle.usb_device.specs.View.{device_of, IsOf};
 ghost use Rattle.usb_c.specs.Answers.{AnswersOn, answer_of};
-ghost use Rattle.usb_c.specs.Devices.{Changes, TellsWrite, setup_told, taken_or};
+ghost use Rattle.usb_c.specs.Devices.{Changes, TellsWrite, setup_reported, taken_or};
 
 use crate::answer::{Answer, numbers};
 use usb_device::{EndpointZero, Image};
@@ -21,7 +21,7 @@ pub struct NzgSetup {
 /// The request that is rejected, and of whose rejection the host doesn't know yet. False where there is none.
 #[unsafe(no_mangle)]
 pub extern "C" fn nzg_device_refused(device: &EndpointZero, setup: &mut NzgSetup) -> bool
-    ensures setup { (image : List ℕ) → (kept : List ℕ) → setup.new ≡ setup_told (refused_in (device_of image kept device.now).stage) setup.old }
+    ensures setup { (image : List ℕ) → (kept : List ℕ) → setup.new ≡ setup_reported (refused_in (device_of image kept device.now).stage) setup.old }
     ensures found { (image : List ℕ) → (kept : List ℕ) → result ≡ is_some (refused_in (device_of image kept device.now).stage) }
 {
     tell_request(device.refused(), setup)
@@ -45,7 +45,7 @@ pub extern "C" fn nzg_device_answer_with(
 }
 
 /// Accepts that request, which has no data or brings some to the device; or the data of a write, once all have come. The room
-/// has so many bytes.
+/// has this many bytes.
 #[unsafe(no_mangle)]
 pub extern "C" fn nzg_device_accept(device: &mut EndpointZero, room_size: usize) -> Answer
     ensures device { (image : List ℕ) → (kept : List ℕ) → length kept ≡ room_size → IsOf image kept device.old → (device_of image kept device.new ≡ accepted room_size (device_of image kept device.old)) × IsOf image kept device.new }
@@ -58,7 +58,7 @@ pub extern "C" fn nzg_device_accept(device: &mut EndpointZero, room_size: usize)
     }
 }
 
-/// The write whose data have all come, and that isn't answered yet: its request goes into the setup, and its data are so many of
+/// The write whose data have all come, and that isn't answered yet: its request goes into the setup, and its data are this many of
 /// the first bytes of the room. It is open where there is no such write.
 #[unsafe(no_mangle)]
 pub extern "C" fn nzg_device_written(
@@ -95,14 +95,14 @@ pub extern "C" fn nzg_device_refuse(device: &mut EndpointZero, image: &[u8]) -> 
 /// The request that was carried out, in its status stage. False where there is none.
 #[unsafe(no_mangle)]
 pub extern "C" fn nzg_device_carried_out(device: &EndpointZero, setup: &mut NzgSetup) -> bool
-    ensures setup { (image : List ℕ) → (kept : List ℕ) → setup.new ≡ setup_told (carried_out_in (device_of image kept device.now).stage) setup.old }
+    ensures setup { (image : List ℕ) → (kept : List ℕ) → setup.new ≡ setup_reported (carried_out_in (device_of image kept device.now).stage) setup.old }
     ensures found { (image : List ℕ) → (kept : List ℕ) → result ≡ is_some (carried_out_in (device_of image kept device.now).stage) }
 {
     tell_request(device.carried_out(), setup)
 }
 
 fn tell_request(request: Option<Setup>, setup: &mut NzgSetup) -> bool
-    ensures setup { setup.new ≡ setup_told request setup.old }
+    ensures setup { setup.new ≡ setup_reported request setup.old }
     ensures found { result ≡ is_some request }
 {
     match request {

@@ -3,8 +3,8 @@ ghost use Rattle.std.specs.Prelude.{◌≡◌, map, IfOk};
 ghost use Rattle.std.specs.List.{list_all};
 ghost use Rattle.usb_listing.specs.Listing.{file_lines};
 ghost use Rattle.usb_c.specs.Answers.{Fills};
-ghost use Rattle.usb_c.specs.Enumerations.{Enumerates, EnumeratesUnder, TellsRun, fate_told, is_fate, outcome_numbers, trouble_numbers};
-ghost use Rattle.usb_c.specs.Transactions.{speed_told};
+ghost use Rattle.usb_c.specs.Enumerations.{Enumerates, EnumeratesUnder, TellsRun, fate_given, is_fate, outcome_numbers, trouble_numbers};
+ghost use Rattle.usb_c.specs.Transactions.{speed_given};
 ghost use Rattle.usb_c.specs.declared.answer.Verdict.TheVariants as verdicts;
 
 use crate::answer::{Verdict, refused_description, refused_file};
@@ -51,7 +51,7 @@ pub(crate) fn enumerate_bytes(
     outcome: &mut NzgOutcome,
     text: &mut [u8],
 ) -> Verdict
-    ensures { Enumerates bytes.now (speed_told speed) naks attempts fates.now outcome.old outcome.new text.old text.new result }
+    ensures { Enumerates bytes.now (speed_given speed) naks attempts fates.now outcome.old outcome.new text.old text.new result }
 {
     let Some(speed) = speed_of(speed) else {
         return Verdict::BadArgument(3);
@@ -76,7 +76,7 @@ fn enumerate_under(
     outcome: &mut NzgOutcome,
     out: &mut [u8],
 ) -> Verdict
-    ensures { EnumeratesUnder bytes.now speed limits (map fate_told letters.now) outcome.old outcome.new out.old out.new result }
+    ensures { EnumeratesUnder bytes.now speed limits (map fate_given letters.now) outcome.old outcome.new out.old out.new result }
 {
     let Ok(fates) = fates_of(alloc, letters) else {
         return Verdict::NoMemory;
@@ -148,7 +148,7 @@ pub(crate) fn are_fates(letters: &[u8]) -> bool
 
 /// The fate of a letter, where it is one.
 fn fate_of(letter: u8) -> Fate
-    ensures { result ≡ fate_told letter }
+    ensures { result ≡ fate_given letter }
 {
     match letter {
         b'n' => Fate::Busy,
@@ -160,7 +160,7 @@ fn fate_of(letter: u8) -> Fate
 }
 
 pub(crate) fn fates_of(alloc: Global, letters: &[u8]) -> Result<Vec<Fate>, AllocError>
-    ensures { IfOk result (λ fates. fates.items ≡ map fate_told letters.now) }
+    ensures { IfOk result (λ fates. fates.items ≡ map fate_given letters.now) }
 {
     let mut fates = Vec::new(alloc);
     for letter in letters {

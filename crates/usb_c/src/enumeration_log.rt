@@ -1,8 +1,8 @@
 //! The log of an enumeration.
 ghost use Rattle.std.specs.Prelude.{◌≡◌, IfOk, map};
-ghost use Rattle.usb_c.specs.Transactions.{speed_told};
+ghost use Rattle.usb_c.specs.Transactions.{speed_given};
 ghost use Rattle.usb_c.specs.Answers.{AnswersOn};
-ghost use Rattle.usb_c.specs.Enumerations.{Logs, LogsUnder, TellsLogOf, fate_told};
+ghost use Rattle.usb_c.specs.Enumerations.{Logs, LogsUnder, TellsLogOf, fate_given};
 
 use crate::answer::{Answer, Verdict, refused_description, refused_file};
 use crate::buffer::fill_done;
@@ -27,7 +27,7 @@ pub extern "C" fn nzg_enumerate_log(
     fates: &[u8],
     text: &mut [u8],
 ) -> Answer
-    ensures { AnswersOn (Logs bytes.now (speed_told speed) naks attempts fates.now text.old text.new) result }
+    ensures { AnswersOn (Logs bytes.now (speed_given speed) naks attempts fates.now text.old text.new) result }
 {
     log_bytes(alloc, bytes, speed, naks, attempts, fates, text).answer()
 }
@@ -41,7 +41,7 @@ fn log_bytes(
     fates: &[u8],
     out: &mut [u8],
 ) -> Verdict
-    ensures { Logs bytes.now (speed_told speed) naks attempts fates.now out.old out.new result }
+    ensures { Logs bytes.now (speed_given speed) naks attempts fates.now out.old out.new result }
 {
     let Some(speed) = speed_of(speed) else {
         return Verdict::BadArgument(3);
@@ -65,7 +65,7 @@ fn log_under(
     letters: &[u8],
     out: &mut [u8],
 ) -> Verdict
-    ensures { LogsUnder bytes.now speed limits (map fate_told letters.now) out.old out.new result }
+    ensures { LogsUnder bytes.now speed limits (map fate_given letters.now) out.old out.new result }
 {
     let Ok(fates) = fates_of(alloc, letters) else {
         return Verdict::NoMemory;

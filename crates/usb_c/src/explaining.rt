@@ -4,7 +4,7 @@ ghost use Rattle.usb_text.specs.Shown.{ends};
 ghost use Rattle.usb_text.specs.Written.{AreLines};
 ghost use Rattle.usb_explain.specs.Fragments.{fragment_lines};
 ghost use Rattle.usb_c.specs.Explaining.{ExplainsAs, ExplainsBy, is_hex, is_loose};
-ghost use Rattle.usb_c.specs.Texts.{manner_told};
+ghost use Rattle.usb_c.specs.Texts.{manner_given};
 
 use crate::answer::{Verdict, refused_text};
 use crate::buffer::fill_done;
@@ -23,7 +23,7 @@ pub(crate) fn explain_by(
     speed: u8,
     out: &mut [u8],
 ) -> Verdict
-    ensures { ExplainsBy (is_hex options) (is_loose options) (manner_told options speed) bytes.now out.old out.new result }
+    ensures { ExplainsBy (is_hex options) (is_loose options) (manner_given options speed) bytes.now out.old out.new result }
 {
     let is_loose = options / 16 % 2 == 1;
     let manner = manner(options, speed);

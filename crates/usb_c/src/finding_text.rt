@@ -2,7 +2,7 @@
 ghost use Rattle.std.specs.Prelude.{◌≡◌, IfOk, OnOk, is_some};
 ghost use Rattle.usb_text.specs.Shown.{showing_all};
 ghost use Rattle.usb_c.specs.Answers.{AnswersOn};
-ghost use Rattle.usb_c.specs.Words.{TellsFinding, TellsIfMemory, cause_by, cause_told, finding_shown, shown_by};
+ghost use Rattle.usb_c.specs.Words.{TellsFinding, TellsIfMemory, cause_by, cause_given, finding_shown, shown_by};
 
 use crate::answer::{Answer, Verdict, refused_input};
 use crate::buffer::fill_done;
@@ -38,7 +38,7 @@ fn tell_finding(alloc: Global, bytes: &[u8], finding: &NzgFinding, out: &mut [u8
     }
 }
 
-#[tactic(auto, using(crate::proofs::Worded::words_told))]
+#[tactic(auto, using(crate::proofs::Worded::words_reported))]
 fn tell_in(
     alloc: Global,
     input: &Input,
@@ -79,7 +79,7 @@ fn put_words<P: Page>(
 
 /// Why the descriptor at the place of a finding breaks its rule, if it does.
 fn cause_in(outline: Outline<'_>, finding: &NzgFinding) -> Option<Cause>
-    ensures { result ≡ cause_told finding.now outline.entry }
+    ensures { result ≡ cause_given finding.now outline.entry }
 {
     for descriptor in outline {
         if descriptor.at == finding.place {

@@ -5,14 +5,14 @@ ghost use Rattle.usb_fields.specs.Packets.{Sent};
 ghost use Rattle.usb_host.specs.Steps.{WantsSent, reset, wanted};
 ghost use Rattle.usb_c.specs.Answers.{AnswersOn};
 ghost use Rattle.usb_c.specs.Hosts.{Ends, HostOpens, TakesOne, action_number, asked_in, resets_of, transaction_due};
-ghost use Rattle.usb_c.specs.Transactions.{reply_told, sent_told, speed_told};
+ghost use Rattle.usb_c.specs.Transactions.{reply_given, sent_given, speed_given};
 
 use crate::answer::{Answer, Verdict};
 use crate::host_handle::NzgHost;
 use crate::host_opening::open;
 use crate::outcome::{NzgTrouble, tell_outcome};
 use crate::step::{NzgStep, tell_step};
-use crate::transaction::{NzgTransaction, answer_of, speed_of, told};
+use crate::transaction::{NzgTransaction, answer_of, speed_of, transaction_numbers};
 use std::alloc::Global;
 use std::mem::replace;
 use usb_host::{Action, Choice};
@@ -27,15 +27,15 @@ pub extern "C" fn nzg_host_open(
     attempts: u8,
     speed: u8,
 ) -> Answer
-    ensures { AnswersOn (HostOpens address naks attempts (speed_told speed) host.new.held) result }
+    ensures { AnswersOn (HostOpens address naks attempts (speed_given speed) host.new.held) result }
 {
     let (speed, choice) = (speed_of(speed), Some(Choice::everything()));
     open(alloc, host, address, naks, attempts, speed, choice).answer()
 }
 
-/// What is due: 0 a bus reset, 1 the transaction, 2 nothing, since there is an outcome; 3 where none is held. An OUT has no
+/// What comes next: 0 a bus reset, 1 the transaction, 2 nothing, since there is an outcome; 3 where none is held. An OUT has no
 /// bytes. But for 1 the transaction is as it was.
-#[tactic(auto, using(crate::proofs::Due::told_whole))]
+#[tactic(auto, using(crate::proofs::Due::reported_whole))]
 #[unsafe(no_mangle)]
 pub extern "C" fn nzg_host_next(
     alloc: Global,
@@ -46,7 +46,7 @@ pub extern "C" fn nzg_host_next(
     ensures action { result ≡ action_number (option_map (λ v. wanted v.phase) host.old.held) }
     ensures due { transaction.new ≡ transaction_due (option_map (λ v. wanted v.phase) host.old.held) transaction.old }
     // With no bytes what is reported is the whole transaction.
-    ensures whole { (sent : Sent) → option_map (λ v. wanted v.phase) host.old.held ≡ Some (WantsSent sent) → sent_told transaction.new [] ≡ Some sent }
+    ensures whole { (sent : Sent) → option_map (λ v. wanted v.phase) host.old.held ≡ Some (WantsSent sent) → sent_given transaction.new [] ≡ Some sent }
 {
     let Some(held) = replace(host, NzgHost::empty(alloc)).into_box() else {
         return 3;
@@ -56,7 +56,7 @@ pub extern "C" fn nzg_host_next(
     match action {
         Action::Reset => 0,
         Action::Send(due) => {
-            *transaction = told(&due);
+            *transaction = transaction_numbers(&due);
             1
         }
         Action::Ended => 2,
@@ -87,7 +87,7 @@ pub extern "C" fn nzg_host_take(
     toggle: u8,
     bytes: &[u8],
 ) -> bool
-    ensures { TakesOne host.old.held (reply_told reply toggle bytes.now) host.new.held result }
+    ensures { TakesOne host.old.held (reply_given reply toggle bytes.now) host.new.held result }
 {
     let Some(answer) = answer_of(reply, toggle, bytes) else {
         return false;

@@ -1,13 +1,12 @@
 //! A host that C holds by a pointer.
 ghost use Rattle.std.specs.Prelude.{◌≡◌, Option, Some, None};
-ghost use Rattle.usb_c.specs.inside.Owning.{held_by, loosely_held, owned};
+ghost use Rattle.usb_c.specs.inside.Owning.{held_by, owned};
 ghost use Rattle.usb_host.specs.contracts.host.Host.{the_row};
 ghost use Rattle.usb_host.specs.Steps.{HostView};
 
-use crate::loose::Loose;
+use crate::handle::Handle;
 use std::alloc::Global;
 use std::marker::Model;
-use std::ptr::null_mut;
 use usb_host::Host;
 
 /// A host on the heap, or none, which is null. C sees a struct with one pointer in it, since a
@@ -28,50 +27,40 @@ impl NzgHost {
     pub(crate) fn empty(alloc: Global) -> NzgHost
         ensures { result.held ≡ None }
     {
-        NzgHost {
-            at: null_mut(),
-            alloc,
-        }
+        NzgHost::from_handle(Handle::empty(alloc))
     }
 
     /// That of a box.
     pub(crate) fn of(value: Box<Host>) -> NzgHost
         ensures { result.held ≡ Some value.value }
     {
-        NzgHost::full(Loose::of(value))
+        NzgHost::from_handle(Handle::of(value))
     }
 
     /// The box again, if there is one.
     pub(crate) fn into_box(self) -> Option<Box<Host>>
         ensures { held_by result ≡ self.held }
     {
-        match self.split() {
-            Some(loose) => Some(loose.into_box()),
-            None => None,
-        }
+        self.into_handle().into_box()
     }
 
-    fn full(loose: Loose<Host, Global>) -> NzgHost
-        ensures { result.held ≡ Some loose.value }
+    fn from_handle(handle: Handle<Host>) -> NzgHost
+        ensures { result.held ≡ handle.held }
     {
-        let Loose { at, alloc } = loose;
+        let Handle { at, alloc } = handle;
         NzgHost {
             at: at as *mut u8,
             alloc,
         }
     }
 
-    fn split(self) -> Option<Loose<Host, Global>>
-        ensures { loosely_held result ≡ self.held }
+    fn into_handle(self) -> Handle<Host>
+        ensures { result.held ≡ self.held }
     {
         let NzgHost { at, alloc } = self;
-        if at.is_null() {
-            None
-        } else {
-            Some(Loose {
-                at: at as *mut Host,
-                alloc,
-            })
+        Handle {
+            at: at as *mut Host,
+            alloc,
         }
     }
 }

@@ -1,8 +1,8 @@
 //! A host that asks for as much as its caller says, by a handle.
 ghost use Rattle.std.specs.Prelude.{◌≡◌, Some, None};
-ghost use Rattle.usb_c.specs.Transactions.{speed_told};
+ghost use Rattle.usb_c.specs.Transactions.{speed_given};
 ghost use Rattle.usb_c.specs.Answers.{AnswersOn};
-ghost use Rattle.usb_c.specs.Hosts.{HostOpensAt, HostOpensFor, choice_told};
+ghost use Rattle.usb_c.specs.Hosts.{HostOpensAt, HostOpensFor, choice_given};
 
 use crate::answer::{Answer, Verdict};
 use crate::host_handle::NzgHost;
@@ -25,7 +25,7 @@ pub extern "C" fn nzg_host_open_with(
     strings: u8,
     other_speed: bool,
 ) -> Answer
-    ensures { AnswersOn (HostOpensFor address naks attempts (speed_told speed) (choice_told strings other_speed) host.new.held) result }
+    ensures { AnswersOn (HostOpensFor address naks attempts (speed_given speed) (choice_given strings other_speed) host.new.held) result }
 {
     let (speed, choice) = (speed_of(speed), choice_of(strings, other_speed));
     open(alloc, host, address, naks, attempts, speed, choice).answer()
@@ -33,7 +33,7 @@ pub extern "C" fn nzg_host_open_with(
 
 /// What is asked for, by the number of what becomes of the strings.
 fn choice_of(strings: u8, other_speed: bool) -> Option<Choice>
-    ensures { result ≡ choice_told strings other_speed }
+    ensures { result ≡ choice_given strings other_speed }
 {
     let strings = match strings {
         0 => NamedStrings::Needed,

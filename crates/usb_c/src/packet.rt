@@ -5,7 +5,7 @@ ghost use Rattle.usb_wire.specs.Crc.{data_crc, token_crc};
 ghost use Rattle.usb_wire.specs.Damages.{damage_of};
 ghost use Rattle.usb_wire.specs.Packets.{IsLegal, view_of};
 ghost use Rattle.usb_c.specs.Answers.{AnswersOn};
-ghost use Rattle.usb_c.specs.BusPackets.{Parses, WritesPacket, damage_number, damage_told, fields_of, of_pid, packet_told};
+ghost use Rattle.usb_c.specs.BusPackets.{Parses, WritesPacket, damage_number, damage_reported, fields_of, of_pid, packet_given};
 
 use crate::answer::{Answer, Verdict};
 use usb_wire::laws::written_packets_are_read;
@@ -35,7 +35,7 @@ pub struct NzgPacketFields {
 /// PID, 3 a reserved PID, 4 the number of bytes, 5 the 5-bit CRC, 6 the 16-bit CRC. Then the packet is as it was.
 #[unsafe(no_mangle)]
 pub extern "C" fn nzg_packet_parse(bytes: &[u8], packet: &mut NzgPacketFields) -> u8
-    ensures damage { result ≡ damage_told (damage_of bytes.now) }
+    ensures damage { result ≡ damage_reported (damage_of bytes.now) }
     ensures packet { Parses bytes.now (damage_of bytes.now) packet.old packet.new }
 {
     written_packets_are_read();
@@ -107,14 +107,14 @@ fn fields_of(packet: &Packet<'_>) -> NzgPacketFields
 /// packet. Data are looked at in a data packet alone, and each other field where the packet has it.
 #[unsafe(no_mangle)]
 pub extern "C" fn nzg_packet_write(packet: &NzgPacketFields, bytes: &[u8], out: &mut [u8]) -> Answer
-    ensures { AnswersOn (WritesPacket (packet_told packet.now bytes.now) out.old out.new) result }
+    ensures { AnswersOn (WritesPacket (packet_given packet.now bytes.now) out.old out.new) result }
 {
-    put_told(packet_told(packet, bytes), out).answer()
+    put_reported(packet_given(packet, bytes), out).answer()
 }
 
 /// The packet that numbers are, with these data, or `None` where they begin with no PID.
-fn packet_told<'d>(fields: &NzgPacketFields, bytes: &'d [u8]) -> Option<Packet<'d>>
-    ensures { option_map view_of result ≡ packet_told fields.now bytes.now }
+fn packet_given<'d>(fields: &NzgPacketFields, bytes: &'d [u8]) -> Option<Packet<'d>>
+    ensures { option_map view_of result ≡ packet_given fields.now bytes.now }
 {
     match Pid::from_byte(fields.pid) {
         Ok(Pid::Token(kind)) => Some(Packet::Token(
@@ -133,7 +133,7 @@ fn packet_told<'d>(fields: &NzgPacketFields, bytes: &'d [u8]) -> Option<Packet<'
     }
 }
 
-fn put_told(packet: Option<Packet<'_>>, out: &mut [u8]) -> Verdict
+fn put_reported(packet: Option<Packet<'_>>, out: &mut [u8]) -> Verdict
     ensures { WritesPacket (option_map view_of packet.entry) out.old out.new result }
 {
     match packet {

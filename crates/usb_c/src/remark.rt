@@ -5,7 +5,7 @@ ghost use Rattle.usb_remarks.specs.Outline.{described};
 ghost use Rattle.usb_remarks.specs.RemarkValues.{there};
 ghost use Rattle.usb_c.specs.Answers.{AnswersOn, Fills};
 ghost use Rattle.usb_c.specs.Remarks.{TellsRemarks, numbered, numbered_remarks, remarks_at};
-ghost use Rattle.usb_c.specs.Texts.{running_speed_told};
+ghost use Rattle.usb_c.specs.Texts.{running_speed_given};
 ghost use Rattle.usb_c.specs.declared.answer.Verdict.TheVariants as verdicts;
 
 use crate::answer::{Answer, Verdict, refused_input};
@@ -46,7 +46,7 @@ pub extern "C" fn nzg_remarks(
     speed: u8,
     remarks: &mut [NzgRemark],
 ) -> Answer
-    ensures { AnswersOn (TellsRemarks (running_speed_told speed) bytes.now remarks.old remarks.new) result }
+    ensures { AnswersOn (TellsRemarks (running_speed_given speed) bytes.now remarks.old remarks.new) result }
 {
     tell_remarks(alloc, bytes, running_speed(speed), remarks).answer()
 }

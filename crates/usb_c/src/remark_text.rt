@@ -5,8 +5,8 @@ ghost use Rattle.usb_remarks.specs.RemarkValues.{there};
 ghost use Rattle.usb_remarks.specs.Remarks.{remarks_on};
 ghost use Rattle.usb_text.specs.Shown.{showing_all};
 ghost use Rattle.usb_c.specs.Answers.{AnswersOn};
-ghost use Rattle.usb_c.specs.Texts.{running_speed_told};
-ghost use Rattle.usb_c.specs.Words.{TellsIfMemory, TellsRemark, remark_by, remark_told, shown_by, told_shown};
+ghost use Rattle.usb_c.specs.Texts.{running_speed_given};
+ghost use Rattle.usb_c.specs.Words.{TellsIfMemory, TellsRemark, remark_by, remark_given, shown_by, reported_shown};
 
 use crate::answer::{Answer, Verdict, refused_input};
 use crate::buffer::fill_done;
@@ -29,7 +29,7 @@ pub extern "C" fn nzg_remark_text(
     remark: &NzgRemark,
     text: &mut [u8],
 ) -> Answer
-    ensures { AnswersOn (TellsRemark remark.now (running_speed_told speed) bytes.now text.old text.new) result }
+    ensures { AnswersOn (TellsRemark remark.now (running_speed_given speed) bytes.now text.old text.new) result }
 {
     tell_remark(alloc, bytes, running_speed(speed), remark, text).answer()
 }
@@ -50,7 +50,7 @@ fn tell_remark(
     }
 }
 
-#[tactic(auto, using(crate::proofs::Worded::words_told))]
+#[tactic(auto, using(crate::proofs::Worded::words_reported))]
 fn tell_in(
     alloc: Global,
     input: &Input,
@@ -59,7 +59,7 @@ fn tell_in(
     remark: &NzgRemark,
     out: &mut [u8],
 ) -> Verdict
-    ensures { TellsIfMemory (told_shown remark.now running bytes.now input.now) out.old out.new result }
+    ensures { TellsIfMemory (reported_shown remark.now running bytes.now input.now) out.old out.new result }
 {
     let mut words = Lines::new(alloc, false);
     match put_words(alloc, &mut words, input, bytes, running, remark) {
@@ -78,8 +78,8 @@ fn put_words<P: Page>(
     running: Option<SetSpeed>,
     remark: &NzgRemark,
 ) -> Result<bool, AllocError>
-    ensures there { IfOk result (λ there. there ≡ is_some (told_shown remark.now running bytes.now input.now)) }
-    ensures shows { OnOk result (P.seen page.new ≡ showing_all P.showing (shown_by (told_shown remark.now running bytes.now input.now)) (P.seen page.old)) }
+    ensures there { IfOk result (λ there. there ≡ is_some (reported_shown remark.now running bytes.now input.now)) }
+    ensures shows { OnOk result (P.seen page.new ≡ showing_all P.showing (shown_by (reported_shown remark.now running bytes.now input.now)) (P.seen page.old)) }
 {
     let found = found_in_order(alloc, input)?;
     match remark_in(Outline::of(bytes, running, &found), remark) {
@@ -93,7 +93,7 @@ fn put_words<P: Page>(
 
 /// The remark on the descriptor at the place of this one, by its number.
 fn remark_in(outline: Outline<'_>, remark: &NzgRemark) -> Option<Remark>
-    ensures { result ≡ remark_told remark.now outline.entry }
+    ensures { result ≡ remark_given remark.now outline.entry }
 {
     for descriptor in outline {
         if descriptor.at == remark.place {

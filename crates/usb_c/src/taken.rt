@@ -22,7 +22,7 @@ pub(crate) fn read_shown(alloc: Global, bytes: &[u8], any: bool) -> Result<Input
     }
 }
 
-/// A dump is no file: it ends where the language list is due.
+/// A dump is no file: it ends where the language list comes next.
 #[tactic(auto, using(crate::proofs::Taking::refused_without, crate::proofs::Taking::dump_ends))]
 fn read_set_or_file(alloc: Global, bytes: &[u8]) -> Result<Input, InputFault>
     ensures ok { IfOk result (λ input. IsShown false input bytes.now) }

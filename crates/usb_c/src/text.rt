@@ -7,7 +7,7 @@ ghost use Rattle.usb_listing.specs.Listing.{set_lines, input_lines};
 ghost use Rattle.usb_file_data.specs.FindingLine.{check_text};
 ghost use Rattle.usb_c.specs.Answers.{Fills};
 ghost use Rattle.usb_c.specs.Hosts.{PutsFile};
-ghost use Rattle.usb_c.specs.Texts.{Builds, Checks, Explains, Shows, manner_told, running_speed_told};
+ghost use Rattle.usb_c.specs.Texts.{Builds, Checks, Explains, Shows, manner_given, running_speed_given};
 ghost use Rattle.usb_c.specs.declared.answer.Verdict.TheVariants as verdicts;
 
 use crate::answer::{Verdict, refused_input, refused_list, wants_memory};
@@ -90,7 +90,7 @@ fn check_text(alloc: Global, input: &Input) -> Result<Vec<u8>, AllocError>
 
 /// How an explanation is written.
 pub(crate) fn manner(options: u32, speed: u8) -> Manner
-    ensures { result ≡ manner_told options speed }
+    ensures { result ≡ manner_given options speed }
 {
     Manner {
         look: Look {
@@ -105,7 +105,7 @@ pub(crate) fn manner(options: u32, speed: u8) -> Manner
 }
 
 pub(crate) fn running_speed(number: u8) -> Option<SetSpeed>
-    ensures { result ≡ running_speed_told number }
+    ensures { result ≡ running_speed_given number }
 {
     match number {
         1 => Some(SetSpeed::Low),

@@ -4,7 +4,7 @@ ghost use Rattle.std.specs.Option.{option_map};
 ghost use Rattle.usb_fields.specs.Packets.{reply_of, sent_of};
 ghost use Rattle.usb_device.specs.Replies.{HasRoom};
 ghost use Rattle.usb_device.specs.Stages.{toggle_number};
-ghost use Rattle.usb_c.specs.Transactions.{packet_of, packet_told, reply_told, sent_told, speed_told, toggle_told, transaction_of};
+ghost use Rattle.usb_c.specs.Transactions.{packet_of, packet_given, reply_given, sent_given, speed_given, toggle_given, transaction_of};
 
 use usb_fields::{Answer, Speed, Stage, Toggle, Transaction};
 
@@ -37,7 +37,7 @@ pub struct NzgPacket {
 
 /// The toggle of this number, or `None` where it has no meaning.
 pub(crate) fn toggle_of(number: u8) -> Option<Toggle>
-    ensures { result ≡ toggle_told number }
+    ensures { result ≡ toggle_given number }
 {
     match number {
         0 => Some(Toggle::Data0),
@@ -49,7 +49,7 @@ pub(crate) fn toggle_of(number: u8) -> Option<Toggle>
 /// The number of a toggle.
 pub(crate) fn toggle_number(toggle: Toggle) -> u8
     ensures number { result ≡ toggle_number toggle }
-    ensures back { toggle_told result ≡ Some toggle }
+    ensures back { toggle_given result ≡ Some toggle }
 {
     match toggle {
         Toggle::Data0 => 0,
@@ -59,7 +59,7 @@ pub(crate) fn toggle_number(toggle: Toggle) -> u8
 
 /// The speed of this number, or `None` where it has no meaning.
 pub(crate) fn speed_of(number: u8) -> Option<Speed>
-    ensures { result ≡ speed_told number }
+    ensures { result ≡ speed_given number }
 {
     match number {
         1 => Some(Speed::Low),
@@ -70,26 +70,29 @@ pub(crate) fn speed_of(number: u8) -> Option<Speed>
 }
 
 /// The transaction that these numbers are, whose OUT has these bytes. `None` where a stage or a toggle has no meaning.
-pub(crate) fn sent<'a>(told: &NzgTransaction, bytes: &'a [u8]) -> Option<Transaction<'a>>
-    ensures { option_map sent_of result ≡ sent_told told.now bytes.now }
+pub(crate) fn sent<'a>(
+    transaction_numbers: &NzgTransaction,
+    bytes: &'a [u8],
+) -> Option<Transaction<'a>>
+    ensures { option_map sent_of result ≡ sent_given transaction_numbers.now bytes.now }
 {
-    let stage = match told.stage {
-        0 => Stage::Setup(told.setup),
+    let stage = match transaction_numbers.stage {
+        0 => Stage::Setup(transaction_numbers.setup),
         1 => Stage::In,
-        2 => match toggle_of(told.toggle) {
+        2 => match toggle_of(transaction_numbers.toggle) {
             Some(toggle) => Stage::Out(toggle, bytes),
             None => return None,
         },
         _ => return None,
     };
     Some(Transaction {
-        address: told.address,
+        address: transaction_numbers.address,
         stage,
     })
 }
 
 /// A transaction as numbers; of OUT without its bytes.
-pub(crate) fn told(transaction: &Transaction<'_>) -> NzgTransaction
+pub(crate) fn transaction_numbers(transaction: &Transaction<'_>) -> NzgTransaction
     ensures { result ≡ transaction_of (sent_of transaction.now) }
 {
     let address = transaction.address;
@@ -149,7 +152,7 @@ fn tell_data(toggle: Toggle, bytes: &[u8], packet: &mut NzgPacket)
 
 /// The answer that these numbers are, or `None` where a reply or the toggle of a data packet has no meaning.
 pub(crate) fn answer_of<'a>(reply: u8, toggle: u8, bytes: &'a [u8]) -> Option<Answer<'a>>
-    ensures { option_map reply_of result ≡ reply_told reply toggle bytes.now }
+    ensures { option_map reply_of result ≡ reply_given reply toggle bytes.now }
 {
     match reply {
         0 => Some(Answer::Ack),
@@ -166,7 +169,7 @@ pub(crate) fn answer_of<'a>(reply: u8, toggle: u8, bytes: &'a [u8]) -> Option<An
 
 /// The answer that a packet says, or `None` where its numbers have no meaning.
 pub(crate) fn answer_in(packet: &NzgPacket) -> Option<Answer<'_>>
-    ensures { option_map reply_of result ≡ packet_told packet.now }
+    ensures { option_map reply_of result ≡ packet_given packet.now }
 {
     if packet.length > 64 {
         return None;

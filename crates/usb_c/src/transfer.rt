@@ -6,12 +6,12 @@ ghost use Rattle.usb_fields.specs.Setup.{setup_of};
 ghost use Rattle.usb_host.specs.Heard.{heard_of};
 ghost use Rattle.usb_host.specs.Transfer.{begun, due, taken};
 ghost use Rattle.usb_c.specs.Answers.{AnswersOn};
-ghost use Rattle.usb_c.specs.Transfers.{Opens, TakesReply, heard_told, transfer_in, wrong_transfer};
-ghost use Rattle.usb_c.specs.Transactions.{reply_told, sent_told, transaction_of};
+ghost use Rattle.usb_c.specs.Transfers.{Opens, TakesReply, received_reported, transfer_in, wrong_transfer};
+ghost use Rattle.usb_c.specs.Transactions.{reply_given, sent_given, transaction_of};
 
 use crate::answer::{Answer, Verdict};
 use crate::device_owner::NzgSetup;
-use crate::transaction::{NzgTransaction, answer_of, told};
+use crate::transaction::{NzgTransaction, answer_of, transaction_numbers};
 use crate::transfer_numbers::NzgTransfer;
 use usb_host::Heard;
 
@@ -72,7 +72,7 @@ pub extern "C" fn nzg_transfer_next(
     ensures due { transaction.new ≡ unwrap_or (option_map transaction_of (option_and_then due (transfer_in transfer.now))) transaction.old }
     ensures found { result ≡ is_some (option_and_then due (transfer_in transfer.now)) }
     // With no bytes what is reported is the whole transaction.
-    ensures whole { (sent : Sent) → option_and_then due (transfer_in transfer.now) ≡ Some sent → sent_told transaction.new [] ≡ Some sent }
+    ensures whole { (sent : Sent) → option_and_then due (transfer_in transfer.now) ≡ Some sent → sent_given transaction.new [] ≡ Some sent }
 {
     let Some(transfer) = transfer.transfer() else {
         return false;
@@ -80,7 +80,7 @@ pub extern "C" fn nzg_transfer_next(
     let Some(due) = transfer.next() else {
         return false;
     };
-    *transaction = told(&due);
+    *transaction = transaction_numbers(&due);
     true
 }
 
@@ -94,13 +94,13 @@ pub extern "C" fn nzg_transfer_take(
     toggle: u8,
     bytes: &[u8],
 ) -> Answer
-    ensures { AnswersOn (TakesReply taken transfer.old (reply_told reply toggle bytes.now) transfer.new) result }
+    ensures { AnswersOn (TakesReply taken transfer.old (reply_given reply toggle bytes.now) transfer.new) result }
 {
     take(transfer, reply, toggle, bytes).answer()
 }
 
 fn take(numbers: &mut NzgTransfer, reply: u8, toggle: u8, bytes: &[u8]) -> Verdict
-    ensures { TakesReply taken numbers.old (reply_told reply toggle bytes.now) numbers.new result }
+    ensures { TakesReply taken numbers.old (reply_given reply toggle bytes.now) numbers.new result }
 {
     let Some(answer) = answer_of(reply, toggle, bytes) else {
         return Verdict::BadArgument(8);
@@ -108,15 +108,15 @@ fn take(numbers: &mut NzgTransfer, reply: u8, toggle: u8, bytes: &[u8]) -> Verdi
     let Some(mut transfer) = numbers.transfer() else {
         return Verdict::BadArgument(11);
     };
-    let heard = transfer.take(answer);
+    let received = transfer.take(answer);
     numbers.set_fields(transfer.fields());
-    tell_heard(heard)
+    tell_received(received)
 }
 
-pub(crate) fn tell_heard(heard: Heard<'_>) -> Verdict
-    ensures { result ≡ heard_told (heard_of heard.entry) }
+pub(crate) fn tell_received(received: Heard<'_>) -> Verdict
+    ensures { result ≡ received_reported (heard_of received.entry) }
 {
-    match heard {
+    match received {
         Heard::Again => Verdict::Open(0),
         Heard::Bytes(bytes) => Verdict::Open(bytes.len()),
         Heard::Complete => Verdict::Done(0),

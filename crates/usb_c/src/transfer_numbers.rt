@@ -1,6 +1,6 @@
 //! A control transfer as numbers.
 ghost use Rattle.std.specs.Prelude.{IfSome, Some, true, ◌≡◌, ◌<◌};
-ghost use Rattle.usb_c.specs.Transactions.{toggle_told};
+ghost use Rattle.usb_c.specs.Transactions.{toggle_given};
 ghost use Rattle.usb_fields.specs.Setup.{setup_of};
 ghost use Rattle.usb_host.specs.Transfer.{begun, is_transfer};
 ghost use Rattle.usb_c.specs.Transfers.{fields_in, stage_in, stage_of, transfer_in, why_in};

@@ -1,7 +1,7 @@
 //! Why an enumeration failed, in words.
 ghost use Rattle.std.specs.Prelude.{◌≡◌};
 ghost use Rattle.usb_c.specs.Answers.{AnswersOn};
-ghost use Rattle.usb_c.specs.Words.{TellsTrouble, step_told, trouble_told};
+ghost use Rattle.usb_c.specs.Words.{TellsTrouble, step_given, trouble_given};
 
 use crate::answer::{Answer, Verdict};
 use crate::buffer::fill_done;
@@ -13,7 +13,7 @@ use usb_host::{Step, Trouble};
 /// Puts why an enumeration ended without success, and at which step, into the buffer, in the words of `usbdesc enumerate`.
 #[unsafe(no_mangle)]
 pub extern "C" fn nzg_trouble_text(alloc: Global, trouble: &NzgTrouble, text: &mut [u8]) -> Answer
-    ensures { AnswersOn (TellsTrouble (trouble_told trouble.now) text.old text.new) result }
+    ensures { AnswersOn (TellsTrouble (trouble_given trouble.now) text.old text.new) result }
 {
     tell_trouble(alloc, trouble_of(trouble), text).answer()
 }
@@ -32,7 +32,7 @@ fn tell_trouble(alloc: Global, trouble: Option<Trouble>, out: &mut [u8]) -> Verd
 
 /// The trouble of these numbers, if they are of one.
 fn trouble_of(numbers: &NzgTrouble) -> Option<Trouble>
-    ensures { result ≡ trouble_told numbers.now }
+    ensures { result ≡ trouble_given numbers.now }
 {
     let step = step_of(numbers.step, numbers.index, numbers.language)?;
     let why = why_in(numbers.why)?;
@@ -41,7 +41,7 @@ fn trouble_of(numbers: &NzgTrouble) -> Option<Trouble>
 
 /// The step of this number, with the index and the language of what is read.
 fn step_of(step: u8, index: u8, language: u16) -> Option<Step>
-    ensures { result ≡ step_told step index language }
+    ensures { result ≡ step_given step index language }
 {
     match step {
         1 => Some(Step::First),

@@ -3,7 +3,7 @@ ghost use Rattle.std.specs.Prelude.{◌≡◌, Some};
 ghost use Rattle.usb_fields.specs.Packets.{sent_of};
 ghost use Rattle.usb_fields.specs.Setup.{setup_of};
 ghost use Rattle.usb_device.specs.Beside.{brings_bytes};
-ghost use Rattle.usb_c.specs.Transactions.{reply_told};
+ghost use Rattle.usb_c.specs.Transactions.{reply_given};
 ghost use Rattle.usb_host.specs.Transfer.{begun};
 ghost use Rattle.usb_host.specs.Write.{written};
 ghost use Rattle.usb_c.specs.Answers.{AnswersOn};
@@ -12,8 +12,8 @@ ghost use Rattle.usb_c.specs.Writes.{TellsNext, bytes_of, wrong_write};
 
 use crate::answer::{Answer, Verdict};
 use crate::device_owner::NzgSetup;
-use crate::transaction::{NzgTransaction, answer_of, told};
-use crate::transfer::{tell_heard, wrong_transfer};
+use crate::transaction::{NzgTransaction, answer_of, transaction_numbers};
+use crate::transfer::{tell_received, wrong_transfer};
 use crate::transfer_numbers::NzgTransfer;
 use usb_fields::{Direction, Setup, Stage, Transaction};
 use usb_host::Write;
@@ -68,7 +68,7 @@ fn open_at(numbers: &mut NzgTransfer, address: u8, packet: u8, naks: u16, setup:
 
 /// The next transaction, where these are the data: a data packet has this many of them, from the place on. Open once the
 /// write has ended. Data that are not wLength bytes are argument 10, and numbers that are none of a write are argument 11. Where
-/// none is due the transaction is as it was.
+/// none comes next the transaction is as it was.
 #[unsafe(no_mangle)]
 pub extern "C" fn nzg_write_next(
     write: &NzgWrite,
@@ -98,7 +98,7 @@ fn tell_next(write: &Write, bytes: &[u8], transaction: &mut NzgTransaction) -> V
     let Some(due) = write.next(bytes) else {
         return Verdict::Open(0);
     };
-    *transaction = told(&due);
+    *transaction = transaction_numbers(&due);
     Verdict::Due(usize::from(write.acknowledged()), count_bytes(&due))
 }
 
@@ -121,13 +121,13 @@ pub extern "C" fn nzg_write_take(
     toggle: u8,
     bytes: &[u8],
 ) -> Answer
-    ensures { AnswersOn (TakesReply written write.old.transfer (reply_told reply toggle bytes.now) write.new.transfer) result }
+    ensures { AnswersOn (TakesReply written write.old.transfer (reply_given reply toggle bytes.now) write.new.transfer) result }
 {
     take(&mut write.transfer, reply, toggle, bytes).answer()
 }
 
 fn take(numbers: &mut NzgTransfer, reply: u8, toggle: u8, bytes: &[u8]) -> Verdict
-    ensures { TakesReply written numbers.old (reply_told reply toggle bytes.now) numbers.new result }
+    ensures { TakesReply written numbers.old (reply_given reply toggle bytes.now) numbers.new result }
 {
     let Some(answer) = answer_of(reply, toggle, bytes) else {
         return Verdict::BadArgument(8);
@@ -135,7 +135,7 @@ fn take(numbers: &mut NzgTransfer, reply: u8, toggle: u8, bytes: &[u8]) -> Verdi
     let Some(mut write) = numbers.write() else {
         return Verdict::BadArgument(11);
     };
-    let heard = write.take(answer);
+    let received = write.take(answer);
     numbers.set_fields(write.fields());
-    tell_heard(heard)
+    tell_received(received)
 }

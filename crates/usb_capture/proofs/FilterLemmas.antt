@@ -1,6 +1,6 @@
 -- What is found in a list that was filtered.
 use Rattle.std.proofs.Common.{◌≡◌, Bool, true, false, List, [], ◌∷◌, refl, sym, ◌∙◌, ap}
-use Rattle.std.specs.Prelude.{Option, Some, None, filter, cond, if◌then◌else◌}
+use Rattle.std.specs.Prelude.{Some, None, filter, cond, if◌then◌else◌}
 use Rattle.std.specs.List.{find}
 
 -- nothing, where the filter passes none of what is looked for

@@ -1,16 +1,15 @@
 -- What is found doesn't depend on transfers of other devices, and a file has readings of its device.
-use Rattle.std.proofs.Common.{◌≡◌, ℕ, Bool, true, false, not, List, [], ◌∷◌, ◌++◌, length, drop, refl, sym, subst, ◌∙◌, ap, arith}
+use Rattle.std.proofs.Common.{◌≡◌, ℕ, Bool, true, false, not, List, [], ◌∷◌, ◌++◌, length, drop, refl, sym, subst, ◌∙◌, ap}
 use Rattle.std.specs.Prelude.{Option, Some, None, filter, map, cond, ◌==◌, ◌&&◌, ◌||◌, option_and_then, if◌then◌else◌}
 use Rattle.std.specs.List.{All, AllByRecursion, Contains, find, flat_map}
 use Rattle.std.specs.Option.{option_map}
-use Rattle.std.proofs.lemmas.Bool.Decides.{nat_tests}
 use Rattle.std.proofs.lemmas.List.Elements.{All-contains_itself, All-filter, All-head, All-nil, All-tail, All-weaker}
 use Rattle.usb_fields.proofs.Cells.{funext}
 use Rattle.usb_capture.specs.declared.asked.Asked.{Asked}
 use Rattle.usb_capture.specs.declared.control_transfer.ControlTransfer.{ControlTransfer}
 use Rattle.usb_capture.specs.declared.finding.Finding.{Finding}
 use Rattle.usb_capture.specs.declared.finding.Finding.TheVariants.{MoreThanAsked, OtherType, OtherLength, OtherBytes, RefusesGiven, RefusesRequired, RefusesCounted, RefusesNamed, RefusesStatus}
-use Rattle.usb_capture.specs.DeviceFiles.{data_of, part, parts, reading_of}
+use Rattle.usb_capture.specs.DeviceFiles.{data_of, parts, reading_of}
 use Rattle.usb_capture.specs.DeviceReadings.{current_after, current_with, is_other_device, is_past}
 use Rattle.usb_capture.specs.Findings.{all_findings, asked_of, findings, gives, holds, is_named_string, is_of_another, is_same, may_change, resets_port, said, said_after, sets_address, sets_descriptor}
 use Rattle.usb_capture.specs.Readings.{is_reading}

@@ -156,7 +156,7 @@ head_alike form b c h =
     ∙ ap (λ k. made (number_at order c 0) (number_at order c 4) k (number_at order b 12)) e8
     ∙ ap (made (number_at order c 0) (number_at order c 4) (number_at order c 8)) e12
 
--- a part over what is held is told by its first 32 bytes
+-- a part over what is held is known by its first 32 bytes
 alike : (stage : Stage) (interfaces : List Interface) (b c : List ℕ) (last : List ℕ) → 65627 < length c → length c ≤ whole stage c → Agree 32 b c → content stage interfaces b (length c) last ≡ content stage interfaces c (length c) last
 alike Start interfaces b c last long few h =
     let e = start_long c (omega (arith, long)) in

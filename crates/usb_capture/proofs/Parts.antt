@@ -8,10 +8,10 @@ use Rattle.usb_capture.specs.declared.fault.CaptureFault.TheVariants.{Memory}
 use Rattle.usb_capture.specs.declared.frame.Frame.{Frame}
 use Rattle.usb_capture.specs.declared.reader.CaptureReader.{CaptureReader}
 use Rattle.usb_capture.specs.Files.{AreParts, IsPart, IsRefusedAfter, State, after_content, bytes_of, content, content_of, frame_list, frames_of, frames_with, last_four, next, start, state_after, whole}
-use Rattle.usb_capture.specs.Reading.{IsKept, IsRead, state_of}
+use Rattle.usb_capture.specs.Reading.{IsFront, IsKept, IsRead, state_of}
 use Rattle.usb_capture.proofs.Held.{content_held, frames_held}
 use Rattle.usb_capture.proofs.Numbers.{held_more}
-use Rattle.usb_capture.proofs.Whole.{some_bytes, whole_grows, whole_held}
+use Rattle.usb_capture.proofs.Whole.{some_bytes, whole_front, whole_grows, whole_held}
 
 -- one part more
 parts_push : (s : State) (parts : List (List ℕ)) (part : List ℕ) → AreParts s parts → IsPart (state_after s parts) part → AreParts s (parts ++ part ∷ [])
@@ -105,56 +105,106 @@ exact old enough all frames kept =
     let stage : old.stage ≡ (state_after start kept.0).stage = ap (λ s. s.stage) has.state in
     subst (λ s. length kept.1 ≡ whole s kept.1) stage (omega (arith, same, enough, has.count, kept.3))
 
--- a part is whole and has no fault
-pub ended : (old new : CaptureReader) (what : Content) (added : List Frame) → whole old.stage old.held.items ≤ old.count → Ok what ≡ content old.stage old.interfaces.items old.held.items old.count old.last → added ≡ frame_list what old.held.items → state_of new ≡ next (state_of old) what → new.held.items ≡ [] → new.last ≡ last_four [] → new.count ≡ 0 → new.place ≡ min (old.place + old.count) (2 ^ 64 - 1) → (all : List ℕ) (frames : List Frame) → IsKept all frames old → IsRead all (frames ++ added) new
-ended old new what added enough says is state held last count place all frames has_kept =
-    let parts = has_kept.0 in
-    let part = has_kept.1 in
-    let has = has_kept.2 in
+-- a part more that is whole and says this
+one_more : (new : CaptureReader) (what : Content) (added : List Frame) (parts : List (List ℕ)) (part all : List ℕ) (frames : List Frame) → all ≡ bytes_of parts ++ part → AreParts start parts → frames ≡ frames_of start parts → length part ≡ whole (state_after start parts).stage part → content_of (state_after start parts) part ≡ Ok what → added ≡ frame_list what part → state_of new ≡ next (state_after start parts) what → new.held.items ≡ [] → new.last ≡ last_four [] → new.count ≡ 0 → new.place ≡ min (length (bytes_of parts) + length part) (2 ^ 64 - 1) → IsRead all (frames ++ added) new
+one_more new what added parts part all frames bytes_are each read long right is state held last count place =
     let s = state_after start parts in
-    let right : content_of s part ≡ Ok what = sym (says ∙ said old all frames has_kept) in
-    let one : IsPart s part = record { long = exact old enough all frames has_kept; right = subst IsOk (sym right) (search rules) } in
-    let frames_are : added ≡ frames_with (content_of s part) part =
-    is ∙ ap (frame_list what) has.held ∙ frames_held what part ∙ ap (λ r. frames_with r part) (sym right) in
-    let state_is : state_of new ≡ state_after start (parts ++ part ∷ []) =
-    state ∙ ap (λ t. next t what) has.state ∙ ap (after_content s) (sym right) ∙ sym (state_push start parts part) in
+    let one : IsPart s part = record { long = long; right = subst IsOk (sym right) (search rules) } in
     let bytes = bytes_push parts part in
     let sum = length-append (bytes_of parts) part in
     let total = ap length bytes in (
       parts ++ part ∷ [],
       [],
       record {
-        bytes = has.bytes ∙ sym bytes ∙ sym (append-nil (bytes_of (parts ++ part ∷ [])));
-        each = parts_push start parts part has.each one;
-        read = ap (λ f. f ++ added) has.read ∙ ap (λ f. frames_of start parts ++ f) frames_are ∙ sym (frames_push start parts part);
-        state = state_is;
+        bytes = bytes_are ∙ sym bytes ∙ sym (append-nil (bytes_of (parts ++ part ∷ [])));
+        each = parts_push start parts part each one;
+        read = ap (λ f. f ++ added) read ∙ ap (λ f. frames_of start parts ++ f) (is ∙ ap (λ r. frames_with r part) (sym right)) ∙ sym (frames_push start parts part);
+        state = state ∙ ap (after_content s) (sym right) ∙ sym (state_push start parts part);
         held = held;
         last = last;
         count = count;
-        place = omega (arith, place, has.place, has.count, sum, total);
+        place = omega (arith, place, sum, total);
       },
       some_bytes new.stage [],
     )
+
+-- a part that is whole and has this fault
+one_bad : (fault : CaptureFault) (parts : List (List ℕ)) (part all : List ℕ) (frames : List Frame) → all ≡ bytes_of parts ++ part → AreParts start parts → frames ≡ frames_of start parts → length part ≡ whole (state_after start parts).stage part → content_of (state_after start parts) part ≡ Err fault → IsRefusedAfter all frames fault (length (bytes_of parts))
+one_bad fault parts part all frames bytes_are each read long wrong = record {
+  refused = record {
+    parts = parts;
+    bad = part;
+    rest = [];
+    bytes_are = bytes_are ∙ ap (λ b. bytes_of parts ++ b) (sym (append-nil part));
+    before = each;
+    long = long;
+    wrong = wrong;
+    place_is = refl;
+  };
+  read = read;
+}
+
+-- a part is whole and has no fault
+pub ended : (old new : CaptureReader) (what : Content) (added : List Frame) → whole old.stage old.held.items ≤ old.count → Ok what ≡ content old.stage old.interfaces.items old.held.items old.count old.last → added ≡ frame_list what old.held.items → state_of new ≡ next (state_of old) what → new.held.items ≡ [] → new.last ≡ last_four [] → new.count ≡ 0 → new.place ≡ min (old.place + old.count) (2 ^ 64 - 1) → (all : List ℕ) (frames : List Frame) → IsKept all frames old → IsRead all (frames ++ added) new
+ended old new what added enough says is state held last count place all frames has_kept =
+    let part = has_kept.1 in
+    let has = has_kept.2 in
+    one_more new what added has_kept.0 part all frames has.bytes has.each has.read (exact old enough all frames has_kept)
+    (sym (says ∙ said old all frames has_kept)) (is ∙ ap (frame_list what) has.held ∙ frames_held what part) (state ∙ ap (λ t. next t what) has.state) held last count
+    (omega (arith, place, has.place, has.count))
 
 -- a part is whole and has a fault
 pub refused : (old : CaptureReader) (fault : CaptureFault) → whole old.stage old.held.items ≤ old.count → Err fault ≡ content old.stage old.interfaces.items old.held.items old.count old.last → (all : List ℕ) (frames : List Frame) → IsKept all frames old → (place : ℕ) × IsRefusedAfter all frames fault place × (old.place ≡ min place (2 ^ 64 - 1))
 refused old fault enough says all frames kept = (
   length (bytes_of kept.0),
-  record {
-    refused = record {
-      parts = kept.0;
-      bad = kept.1;
-      rest = [];
-      bytes_are = kept.2.bytes ∙ ap (λ b. bytes_of kept.0 ++ b) (sym (append-nil kept.1));
-      before = kept.2.each;
-      long = exact old enough all frames kept;
-      wrong = sym (says ∙ said old all frames kept);
-      place_is = refl;
-    };
-    read = kept.2.read;
-  },
+  one_bad fault kept.0 kept.1 all frames kept.2.bytes kept.2.each kept.2.read (exact old enough all frames kept) (sym (says ∙ said old all frames kept)),
   kept.2.place,
 )
+
+-- a reader that holds nothing of a part has read whole parts, after which that part may follow
+none_held : (old : CaptureReader) (all : List ℕ) (parts : List (List ℕ)) (before : List ℕ) (part : List ℕ) → all ≡ bytes_of parts ++ before → old.count ≡ length before → old.count ≡ 0 → (before ≡ []) × (all ++ part ≡ bytes_of parts ++ part)
+none_held old all parts [] part bytes count none = (refl, ap (λ b. b ++ part) (bytes ∙ append-nil (bytes_of parts)))
+none_held old all parts (c ∷ before) part bytes count none = absurd (omega (arith, count, none))
+
+in_place : (old : CaptureReader) (what : Result Content CaptureFault) (part : List ℕ) (n : ℕ) (last : List ℕ) (parts : List (List ℕ)) → n ≡ length part → last ≡ last_four part → what ≡ content old.stage old.interfaces.items part n last → state_of old ≡ state_after start parts → content_of (state_after start parts) part ≡ what
+in_place old what part n last parts long ends says state =
+    let of : ℕ → List ℕ → Result Content CaptureFault = content old.stage old.interfaces.items part in
+    sym (says ∙ ap (λ k. of k last) long ∙ ap (of (length part)) ends ∙ ap (λ s. content_of s part) state)
+
+-- a piece begins with a whole part
+pub front_of : (reader : CaptureReader) (piece : List ℕ) (n : ℕ) → n ≡ whole reader.stage piece → reader.count ≡ 0 → n ≤ length piece → IsFront reader piece n
+front_of reader piece n is none within = record { none = none; long = whole_front reader.stage piece n is within; within = within }
+
+pub front_ended : (old new : CaptureReader) (what : Content) (added : List Frame) (piece part : List ℕ) (used : ℕ) (last : List ℕ) → IsFront old piece used → part ≡ take used piece → last ≡ last_four part → Ok what ≡ content old.stage old.interfaces.items part used last → added ≡ frame_list what part → state_of new ≡ next (state_of old) what → new.held.items ≡ old.held.items → new.last ≡ old.last → new.count ≡ old.count → new.place ≡ min (old.place + used) (2 ^ 64 - 1) → (all : List ℕ) (frames : List Frame) → IsRead all frames old → IsRead (all ++ take used piece) (frames ++ added) new
+front_ended old new what added piece part used ends front begins ends_are says is state held last count place all frames read =
+    let parts = read.0 in
+    let has = read.2 in
+    let size : used ≡ length part = sym (ap length begins ∙ length-take-le used piece front.within) in
+    let nothing = none_held old all parts read.1 (take used piece) has.bytes has.count front.none in
+    let stage : old.stage ≡ (state_after start parts).stage = ap (λ s. s.stage) has.state in
+    let long : length part ≡ whole old.stage part = sym size ∙ front.long ∙ ap (whole old.stage) (sym begins) in
+    one_more new what added parts part (all ++ take used piece) frames (nothing.1 ∙ ap (λ b. bytes_of parts ++ b) (sym begins)) has.each has.read
+    (subst (λ s. length part ≡ whole s part) stage long)
+    (in_place old (Ok what) part used ends parts size ends_are says has.state) is (state ∙ ap (λ t. next t what) has.state)
+    (held ∙ has.held ∙ ap (take 65627) nothing.0) (last ∙ has.last ∙ ap last_four nothing.0) (count ∙ front.none)
+    (omega (arith, place, has.place, size))
+
+pub front_refused : (old : CaptureReader) (fault : CaptureFault) (piece part : List ℕ) (used : ℕ) (last : List ℕ) → IsFront old piece used → part ≡ take used piece → last ≡ last_four part → Err fault ≡ content old.stage old.interfaces.items part used last → (all : List ℕ) (frames : List Frame) → IsRead all frames old → (place : ℕ) × IsRefusedAfter (all ++ take used piece) frames fault place × (old.place ≡ min place (2 ^ 64 - 1))
+front_refused old fault piece part used ends front begins ends_are says all frames read =
+    let parts = read.0 in
+    let has = read.2 in
+    let size : used ≡ length part = sym (ap length begins ∙ length-take-le used piece front.within) in
+    let nothing = none_held old all parts read.1 (take used piece) has.bytes has.count front.none in
+    let stage : old.stage ≡ (state_after start parts).stage = ap (λ s. s.stage) has.state in
+    let long : length part ≡ whole old.stage part = sym size ∙ front.long ∙ ap (whole old.stage) (sym begins) in (
+      length (bytes_of parts),
+      one_bad fault parts part (all ++ take used piece) frames (nothing.1 ∙ ap (λ b. bytes_of parts ++ b) (sym begins)) has.each has.read
+          (subst (λ s. length part ≡ whole s part) stage long) (in_place old (Err fault) part used ends parts size ends_are says has.state),
+      has.place,
+    )
+
+pub front_some : (old : CaptureReader) (piece : List ℕ) (used : ℕ) → IsFront old piece used → 0 < used
+front_some old piece used front = (let some = some_bytes old.stage (take used piece) in let long = front.long in omega (arith, some, long))
 
 -- what follows changes no refusal
 refused_more : (bytes x : List ℕ) (frames : List Frame) (fault : CaptureFault) (place : ℕ) → IsRefusedAfter bytes frames fault place → IsRefusedAfter (bytes ++ x) frames fault place

@@ -1,4 +1,4 @@
--- Transactions that were recorded are heard again.
+-- Transactions that were recorded are received again.
 use Rattle.std.proofs.Common.{◌≡◌, ℕ, ◌+◌, ◌-◌, ◌==◌, true, false, List, [], ◌∷◌, ◌++◌, append_assoc, refl, sym, ◌∙◌, ap, arith}
 use Rattle.std.specs.Prelude.{◌^◌, min, Option, Some, None, Result, Ok, Err, nat_lt, if◌then◌else◌}
 use Rattle.std.specs.Option.{option_map, option_to_list}
@@ -19,7 +19,7 @@ use Rattle.usb_capture.specs.declared.transaction.DataPacket.{DataPacket}
 use Rattle.usb_capture.specs.declared.transaction.Transaction.{Transaction}
 use Rattle.usb_capture.specs.BusPackets.{IsPacketOf, packet_fault}
 use Rattle.usb_capture.specs.Folds.{after_all, given_in}
-use Rattle.usb_capture.specs.Recordings.{AreRecorded, MayHave, RecordAll, Records, data_packets, handshake_packets, heard_from, transactions_in}
+use Rattle.usb_capture.specs.Recordings.{AreRecorded, MayHave, RecordAll, Records, data_packets, handshake_packets, received_from, transactions_in}
 use Rattle.usb_capture.specs.Transactions.{Bus, begun, begun_at, bus_after, bus_with, ended_by, may_have, over_by, over_with, with_data}
 
 -- what is read of a frame with the bytes of a packet is that packet
@@ -53,91 +53,91 @@ handshake_of kind (packets.Handshake other) same = let k : other ≡ kind = cc i
 handshake_of kind (packets.Split fields) same = absurd (let w : ⊥ = cc in w)
 handshake_of kind packets.Pre same = absurd (let w : ⊥ = cc in w)
 
--- a bus at which this is open, and so many tokens went to other endpoints
+-- a bus at which this is open, and this many tokens went to other endpoints
 abbrev bus_at : Option Transaction → ℕ → Bus
 bus_at current n = record { current = current; is_split = false; others = n }
 
-heard_first : (bus : Bus) (r : RecordedPacket) (rs : List RecordedPacket) → heard_from bus (r ∷ rs) ≡ option_to_list (over_with r bus) ++ heard_from (bus_after r bus) rs
-heard_first bus r rs =
+received_first : (bus : Bus) (r : RecordedPacket) (rs : List RecordedPacket) → received_from bus (r ∷ rs) ≡ option_to_list (over_with r bus) ++ received_from (bus_after r bus) rs
+received_first bus r rs =
     append_assoc (option_to_list (over_with r bus)) (given_in bus_after over_with (bus_after r bus) rs) (option_to_list (after_all bus_after over_with (bus_after r bus) rs).current)
 
 -- a token, data and a handshake of a recording
-heard_token : (t : Transaction) (r : RecordedPacket) (rs : List RecordedPacket) (o : Option Transaction) (n : ℕ) → Records (TokenPacket t.token t.to) r → t.to.endpoint ≡ 0
-    → heard_from (bus_at o n) (r ∷ rs) ≡ option_to_list o ++ heard_from (bus_at (Some (begun r t.token t.to)) n) rs
-heard_token t r rs o n records zero =
+received_token : (t : Transaction) (r : RecordedPacket) (rs : List RecordedPacket) (o : Option Transaction) (n : ℕ) → Records (TokenPacket t.token t.to) r → t.to.endpoint ≡ 0
+    → received_from (bus_at o n) (r ∷ rs) ≡ option_to_list o ++ received_from (bus_at (Some (begun r t.token t.to)) n) rs
+received_token t r rs o n records zero =
     let h = taken (TokenPacket t.token t.to) r records in
     let is : r.packet ≡ Ok (packets.Token t.token t.to) = h.1 ∙ ap (λ (p : Packet). Ok p) (token_of t.token t.to h.0 h.2) in
     let test : (t.to.endpoint == 0) ≡ true = grind (arith, nat_tests) in
     let begins : begun_at r t.token t.to (bus_at None n) ≡ bus_at (Some (begun r t.token t.to)) n =
     ap (λ b. if b then bus_at (Some (begun r t.token t.to)) n else (record (bus_at None n) { others = (begun_other n) })) test in
-    heard_first (bus_at o n) r rs
-    ∙ ap (λ read. option_to_list (over_by read o) ++ heard_from (bus_with r read (bus_at o n)) rs) is
-    ∙ ap (λ bus. option_to_list o ++ heard_from bus rs) begins
+    received_first (bus_at o n) r rs
+    ∙ ap (λ read. option_to_list (over_by read o) ++ received_from (bus_with r read (bus_at o n)) rs) is
+    ∙ ap (λ bus. option_to_list o ++ received_from bus rs) begins
   where
     begun_other : ℕ → ℕ
     begun_other n = min (n + 1) (2 ^ 64 - 1)
 
-heard_handshake : (t : Transaction) (kind : Handshake) (r : RecordedPacket) (rs : List RecordedPacket) (n : ℕ) → Records (HandshakePacket kind) r
-    → heard_from (bus_at (Some t) n) (r ∷ rs) ≡ ended_by kind t ∷ heard_from (bus_at None n) rs
-heard_handshake t kind r rs n records =
+received_handshake : (t : Transaction) (kind : Handshake) (r : RecordedPacket) (rs : List RecordedPacket) (n : ℕ) → Records (HandshakePacket kind) r
+    → received_from (bus_at (Some t) n) (r ∷ rs) ≡ ended_by kind t ∷ received_from (bus_at None n) rs
+received_handshake t kind r rs n records =
     let h = taken (HandshakePacket kind) r records in
     let is : r.packet ≡ Ok (packets.Handshake kind) = h.1 ∙ ap (λ (p : Packet). Ok p) (handshake_of kind h.0 h.2) in
-    heard_first (bus_at (Some t) n) r rs
-    ∙ ap (λ read. option_to_list (over_by read (Some t)) ++ heard_from (bus_with r read (bus_at (Some t) n)) rs) is
+    received_first (bus_at (Some t) n) r rs
+    ∙ ap (λ read. option_to_list (over_by read (Some t)) ++ received_from (bus_with r read (bus_at (Some t) n)) rs) is
 
 -- of a transaction without data yet
 module _ (number : ℕ) (time : Option ℕ) (token : TokenKind) (to : AddressFields) where
   abbrev it : Option DataPacket → Option Handshake → Transaction
   it packet handshake = record { number = number; time = time; token = token; to = to; «data» = packet; handshake = handshake }
 
-  heard_data : (packet : DataPacket) (r : RecordedPacket) (rs : List RecordedPacket) (n : ℕ) → Records (DataBytes packet.kind packet.bytes) r → may_have token None ≡ true
-      → heard_from (bus_at (Some (it None None)) n) (r ∷ rs) ≡ heard_from (bus_at (Some (it (Some packet) None)) n) rs
-  heard_data packet r rs n records may = (let h = taken (DataBytes packet.kind packet.bytes) r records in of h.0 h.1 h.2)
+  received_data : (packet : DataPacket) (r : RecordedPacket) (rs : List RecordedPacket) (n : ℕ) → Records (DataBytes packet.kind packet.bytes) r → may_have token None ≡ true
+      → received_from (bus_at (Some (it None None)) n) (r ∷ rs) ≡ received_from (bus_at (Some (it (Some packet) None)) n) rs
+  received_data packet r rs n records may = (let h = taken (DataBytes packet.kind packet.bytes) r records in of h.0 h.1 h.2)
     where
       of : (p : Packet) → r.packet ≡ Ok p → view_of p ≡ DataBytes packet.kind packet.bytes
-          → heard_from (bus_at (Some (it None None)) n) (r ∷ rs) ≡ heard_from (bus_at (Some (it (Some packet) None)) n) rs
+          → received_from (bus_at (Some (it None None)) n) (r ∷ rs) ≡ received_from (bus_at (Some (it (Some packet) None)) n) rs
       of (packets.Data kind bytes) is same =
           let kinds : kind ≡ packet.kind = cc in
           let contents : bytes.now ≡ packet.bytes = cc in
-          heard_first (bus_at (Some (it None None)) n) r rs
-          ∙ ap (λ read. option_to_list (over_by read (Some (it None None))) ++ heard_from (bus_with r read (bus_at (Some (it None None)) n)) rs) is
-          ∙ ap (λ b. option_to_list (if b then None else Some (it None None)) ++ heard_from (bus_at (if b then Some (with_data kind bytes.now (it None None)) else None) n) rs) may
-          ∙ ap (λ k. heard_from (bus_at (Some (with_data k bytes.now (it None None))) n) rs) kinds
-          ∙ ap (λ b. heard_from (bus_at (Some (with_data packet.kind b (it None None))) n) rs) contents
+          received_first (bus_at (Some (it None None)) n) r rs
+          ∙ ap (λ read. option_to_list (over_by read (Some (it None None))) ++ received_from (bus_with r read (bus_at (Some (it None None)) n)) rs) is
+          ∙ ap (λ b. option_to_list (if b then None else Some (it None None)) ++ received_from (bus_at (if b then Some (with_data kind bytes.now (it None None)) else None) n) rs) may
+          ∙ ap (λ k. received_from (bus_at (Some (with_data k bytes.now (it None None))) n) rs) kinds
+          ∙ ap (λ b. received_from (bus_at (Some (with_data packet.kind b (it None None))) n) rs) contents
       of (packets.Token other there) is same = absurd (let w : ⊥ = cc in w)
       of (packets.StartOfFrame other) is same = absurd (let w : ⊥ = cc in w)
       of (packets.Handshake other) is same = absurd (let w : ⊥ = cc in w)
       of (packets.Split fields) is same = absurd (let w : ⊥ = cc in w)
       of packets.Pre is same = absurd (let w : ⊥ = cc in w)
 
-  -- where all that comes after is heard, whatever is open
-  module _ (rs : List RecordedPacket) (ts : List Transaction) (later : (o : Option Transaction) (n : ℕ) → heard_from (bus_at o n) rs ≡ option_to_list o ++ ts) (n : ℕ) where
-    heard_end : (packet : Option DataPacket) (handshake : Option Handshake) (more : List RecordedPacket) → RecordAll (handshake_packets handshake) more
-        → heard_from (bus_at (Some (it packet None)) n) (more ++ rs) ≡ it packet handshake ∷ ts
-    heard_end packet None [] all = later (Some (it packet None)) n
-    heard_end packet None (r ∷ more) all = absurd all
-    heard_end packet (Some kind) [] all = absurd all
-    heard_end packet (Some kind) (r ∷ []) all = heard_handshake (it packet None) kind r rs n all.0 ∙ ap (λ xs. it packet (Some kind) ∷ xs) (later None n)
-    heard_end packet (Some kind) (r ∷ (s ∷ more)) all = absurd all.1
+  -- where all that comes after is received, whatever is open
+  module _ (rs : List RecordedPacket) (ts : List Transaction) (later : (o : Option Transaction) (n : ℕ) → received_from (bus_at o n) rs ≡ option_to_list o ++ ts) (n : ℕ) where
+    received_end : (packet : Option DataPacket) (handshake : Option Handshake) (more : List RecordedPacket) → RecordAll (handshake_packets handshake) more
+        → received_from (bus_at (Some (it packet None)) n) (more ++ rs) ≡ it packet handshake ∷ ts
+    received_end packet None [] all = later (Some (it packet None)) n
+    received_end packet None (r ∷ more) all = absurd all
+    received_end packet (Some kind) [] all = absurd all
+    received_end packet (Some kind) (r ∷ []) all = received_handshake (it packet None) kind r rs n all.0 ∙ ap (λ xs. it packet (Some kind) ∷ xs) (later None n)
+    received_end packet (Some kind) (r ∷ (s ∷ more)) all = absurd all.1
 
-    heard_more : (packet : Option DataPacket) (handshake : Option Handshake) (more : List RecordedPacket) → MayHave (it packet handshake) packet
+    received_more : (packet : Option DataPacket) (handshake : Option Handshake) (more : List RecordedPacket) → MayHave (it packet handshake) packet
         → RecordAll (data_packets packet ++ handshake_packets handshake) more
-        → heard_from (bus_at (Some (it None None)) n) (more ++ rs) ≡ it packet handshake ∷ ts
-    heard_more None handshake more may all = heard_end None handshake more all
-    heard_more (Some packet) handshake [] may all = absurd all
-    heard_more (Some packet) handshake (r ∷ more) may all =
-        heard_data packet r (more ++ rs) n all.0 may ∙ heard_end (Some packet) handshake more all.1
+        → received_from (bus_at (Some (it None None)) n) (more ++ rs) ≡ it packet handshake ∷ ts
+    received_more None handshake more may all = received_end None handshake more all
+    received_more (Some packet) handshake [] may all = absurd all
+    received_more (Some packet) handshake (r ∷ more) may all =
+        received_data packet r (more ++ rs) n all.0 may ∙ received_end (Some packet) handshake more all.1
 
-heard_all : (ts : List Transaction) (rs : List RecordedPacket) (o : Option Transaction) (n : ℕ) → AreRecorded ts rs → heard_from (bus_at o n) rs ≡ option_to_list o ++ ts
-heard_all [] rs o n none = ap (heard_from (bus_at o n)) none ∙ sym (append-nil (option_to_list o))
-heard_all (t ∷ ts) rs o n (r, more, rest, is, one, others) =
+received_all : (ts : List Transaction) (rs : List RecordedPacket) (o : Option Transaction) (n : ℕ) → AreRecorded ts rs → received_from (bus_at o n) rs ≡ option_to_list o ++ ts
+received_all [] rs o n none = ap (received_from (bus_at o n)) none ∙ sym (append-nil (option_to_list o))
+received_all (t ∷ ts) rs o n (r, more, rest, is, one, others) =
     let starts : begun r t.token t.to ≡ it t.number t.time t.token t.to None None =
     ap (λ m. it m r.time t.token t.to None None) (sym one.number) ∙ ap (λ m. it t.number m t.token t.to None None) (sym one.time) in
-    ap (heard_from (bus_at o n)) is
-    ∙ heard_token t r (more ++ rest) o n one.token_is one.to_zero
-    ∙ ap (λ u. option_to_list o ++ heard_from (bus_at (Some u) n) (more ++ rest)) starts
+    ap (received_from (bus_at o n)) is
+    ∙ received_token t r (more ++ rest) o n one.token_is one.to_zero
+    ∙ ap (λ u. option_to_list o ++ received_from (bus_at (Some u) n) (more ++ rest)) starts
     ∙ ap (λ xs. option_to_list o ++ xs)
-    (heard_more t.number t.time t.token t.to rest ts (λ u m. heard_all ts rest u m others) n t.data t.handshake more one.allowed one.more_are)
+    (received_more t.number t.time t.token t.to rest ts (λ u m. received_all ts rest u m others) n t.data t.handshake more one.allowed one.more_are)
 
-pub heard_again : (ts : List Transaction) (rs : List RecordedPacket) → AreRecorded ts rs → transactions_in rs ≡ ts
-heard_again ts rs recorded = heard_all ts rs None 0 recorded
+pub received_again : (ts : List Transaction) (rs : List RecordedPacket) → AreRecorded ts rs → transactions_in rs ≡ ts
+received_again ts rs recorded = received_all ts rs None 0 recorded

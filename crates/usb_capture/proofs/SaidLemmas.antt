@@ -1,6 +1,6 @@
 -- What is held of a descriptor after one transfer more is what was said of it.
 use Rattle.std.proofs.Common.{◌≡◌, ℕ, Bool, true, false, not, List, [], ◌∷◌, ◌++◌, length, drop, refl, sym, subst, ◌∙◌, ap, arith}
-use Rattle.std.specs.Prelude.{Option, Some, None, Result, Ok, Err, IfOk, OnOk, filter, cond, ◌==◌, ◌&&◌, if◌then◌else◌}
+use Rattle.std.specs.Prelude.{Option, Some, None, filter, cond, ◌==◌, ◌&&◌, if◌then◌else◌}
 use Rattle.std.specs.List.{find}
 use Rattle.std.specs.Option.{option_or}
 use Rattle.std.proofs.lemmas.Bool.Decides.{nat_tests}
@@ -9,7 +9,6 @@ use Rattle.usb_fields.proofs.Cells.{funext}
 use Rattle.usb_capture.specs.declared.asked.Asked.{Asked}
 use Rattle.usb_capture.specs.declared.control_transfer.ControlTransfer.{ControlTransfer}
 use Rattle.usb_capture.specs.declared.conversations.Conversations.{Conversations}
-use Rattle.usb_capture.specs.declared.finding.Finding.{Finding}
 use Rattle.usb_capture.specs.declared.said.Said.{Said}
 use Rattle.usb_capture.specs.Conversations.{Knows, adds, bytes_of, held_after, held_of, is_of, said_now, still_held, without}
 use Rattle.usb_capture.specs.Findings.{all_findings, asked_of, findings, gives, holds, is_same, may_change, said, said_after}

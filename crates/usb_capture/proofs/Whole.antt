@@ -1,6 +1,6 @@
 -- How many bytes a part has, as more of it come or as only the first are held.
-use Rattle.std.proofs.Common.{◌≡◌, ℕ, ◌+◌, ◌<◌, ◌≤◌, List, ◌++◌, length, take, Bool, true, false, nat_lt, nat_eq, slice_index, inl, inr, refl, sym, ◌∙◌, ap, arith, length-append}
-use Rattle.std.proofs.lemmas.List.{length-take-le, take_all}
+use Rattle.std.proofs.Common.{◌≡◌, ℕ, ◌+◌, ◌<◌, ◌≤◌, List, ◌++◌, length, take, drop, Bool, true, false, nat_lt, nat_eq, slice_index, inl, inr, refl, sym, ◌∙◌, ap, arith, length-append}
+use Rattle.std.proofs.lemmas.List.{length-take-le, take_all, take-append-drop}
 use Rattle.std.proofs.lemmas.Bool.Decides.{nat_tests}
 use Rattle.std.specs.Prelude.{Option, Some, None, is_some, ◌&&◌, if◌then◌else◌}
 use Rattle.usb_capture.specs.declared.order.ByteOrder.{ByteOrder}
@@ -18,7 +18,7 @@ use Rattle.usb_capture.specs.Words.{digit}
 use Rattle.usb_capture.proofs.LineLengths.{least_line, line_grows, line_held, line_steady}
 use Rattle.usb_capture.proofs.Numbers.{Agree, front, le_or, more, same_number}
 
--- what the first bytes tell is told by whatever agrees with them
+-- what the first bytes tell is known by whatever agrees with them
 pub order_same : (order : ByteOrder) (b c : List ℕ) → Agree 12 b c → block_order order b ≡ block_order order c
 order_same order b c h =
     let type = same_number 12 Big b c 0 (omega arith) h in
@@ -211,3 +211,12 @@ whole_held stage b =
       | inl all ↦ ap (whole stage) (take_all 65627 b all)
       | inr some ↦ held_same stage b (let n = length-take-le 65627 b (omega (arith, some)) in omega (arith, n)) (omega (arith, some))
     ]
+
+-- a piece that has a whole part begins with it
+pub whole_front : (stage : Stage) (b : List ℕ) (n : ℕ) → n ≡ whole stage b → n ≤ length b → n ≡ whole stage (take n b)
+whole_front stage b n is within =
+    let long = length-take-le n b within in
+    let same : whole stage (take n b ++ drop n b) ≡ whole stage b = ap (whole stage) (take-append-drop n b) in
+    let grows = whole_grows stage (take n b) (drop n b) in
+    let steady = whole_steady stage (take n b) (drop n b) (omega (arith, grows, same, is, long)) in
+    omega (arith, steady, same, is)

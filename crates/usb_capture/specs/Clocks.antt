@@ -9,7 +9,7 @@ use Rattle.usb_capture.specs.Numbers.{long_at, short_at}
 abbrev pub units_per_second : ℕ → ℕ
 units_per_second resolution = if nat_lt resolution 128 then 10 ^ resolution else 2 ^ (resolution - 128)
 
--- so many units in nanoseconds, rounded down
+-- this many units in nanoseconds, rounded down
 abbrev pub elapsed : ℕ → ℕ → ℕ
 elapsed resolution units = units * 1000000000 / units_per_second resolution
 
@@ -39,7 +39,7 @@ clock_with order b clock =
 abbrev pub options_end : ByteOrder → List ℕ → Bool
 options_end order b = nat_lt (length b) 4 || short_at order b 0 == 0
 
--- the clock after these options, of which there are so many at most
+-- the clock after these options, of which there are this many at most
 abbrev pub clock_after : ByteOrder → ℕ → List ℕ → Clock → Option Clock
 clock_after order zero b clock = Some clock
 clock_after order (suc most) b clock =

@@ -1,5 +1,5 @@
 -- The descriptors of a device that came whole, as a descriptor file or as Linux's file `descriptors` (USB 2.0, 9.4.3 and 9.6).
-use Rattle.std.specs.Prelude.{◌≡◌, ◌≢◌, ⊤, ℕ, ◌+◌, ◌*◌, ◌%◌, ◌||◌, List, [], ◌∷◌, ◌++◌, length, drop, map, filter, find, slice_index, Option, Some, None, option_and_then, unwrap_or}
+use Rattle.std.specs.Prelude.{◌≡◌, ⊤, ℕ, ◌+◌, ◌*◌, ◌%◌, ◌||◌, List, [], ◌∷◌, ◌++◌, length, drop, map, filter, find, slice_index, Option, Some, None, option_and_then, unwrap_or}
 use Rattle.std.specs.List.{flat_map, range_with_len}
 use Rattle.std.specs.Option.{option_map}
 use Rattle.usb_capture.specs.declared.asked.Asked.{Asked}
@@ -25,7 +25,7 @@ abbrev pub parts : List ControlTransfer → List Asked → Option (List ℕ)
 parts kept [] = Some []
 parts kept (asked ∷ more) = option_and_then (λ b. option_map (λ rest. b ++ rest) (parts kept more)) (part kept asked)
 
--- so many configurations, from this wValue on: 0200 of the device, 0700 at the other speed
+-- this many configurations, from this wValue on: 0200 of the device, 0700 at the other speed
 abbrev pub configurations : Asked → ℕ → ℕ → List Asked
 configurations device value count = map (λ i. beside device (value + i)) (range_with_len 0 count)
 

@@ -1,5 +1,5 @@
 -- Whole readings of the descriptors of the devices that have their addresses now (USB 2.0, 9.4.3 and 9.4.6).
-use Rattle.std.specs.Prelude.{◌≡◌, ℕ, ◌==◌, ◌&&◌, ◌||◌, Bool, not, List, [], ◌∷◌, length, filter}
+use Rattle.std.specs.Prelude.{◌≡◌, ◌==◌, ◌&&◌, ◌||◌, Bool, not, List, [], ◌∷◌, length, filter}
 use Rattle.std.specs.List.{list_any}
 use Rattle.usb_capture.specs.declared.control_transfer.ControlTransfer.{ControlTransfer}
 use Rattle.usb_capture.specs.declared.device_readings.DeviceReadings.{DeviceReadings}

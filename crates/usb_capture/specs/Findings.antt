@@ -1,7 +1,6 @@
 -- What USB 2.0 forbids in control transfers, over a list of them (USB 2.0, 8.5.3, 9.3.5, 9.4.3, 9.4.5 and 9.6).
-use Rattle.std.specs.Prelude.{◌≡◌, ℕ, zero, suc, ◌+◌, ◌*◌, ◌/◌, ◌%◌, ◌==◌, ◌&&◌, ◌||◌, Bool, true, false, not, List, [], ◌∷◌, ◌++◌, length, take, drop, min, filter, slice_index, nat_lt, if◌then◌else◌}
+use Rattle.std.specs.Prelude.{ℕ, zero, suc, ◌+◌, ◌*◌, ◌/◌, ◌%◌, ◌==◌, ◌&&◌, ◌||◌, Bool, true, false, not, List, [], ◌∷◌, ◌++◌, length, take, drop, min, filter, slice_index, nat_lt, if◌then◌else◌}
 use Rattle.std.specs.List.{list_any, range_with_len, zip}
-use Rattle.usb_fields.specs.Bytes.{little_endian_at}
 use Rattle.usb_fields.specs.declared.setup.Setup.{Setup}
 use Rattle.usb_capture.specs.declared.asked.Asked.{Asked}
 use Rattle.usb_capture.specs.declared.control_transfer.ControlTransfer.{ControlTransfer}
@@ -107,7 +106,7 @@ string_index b =
     else if slice_index b 1 == 11 then slice_index b 7
     else 0
 
--- whether one of the first so many descriptors that stand one after another names the string of this index
+-- whether one of the first this many descriptors that stand one after another names the string of this index
 unfoldable pub names_in : ℕ → ℕ → List ℕ → Bool
 names_in zero n b = false
 names_in (suc most) n b =

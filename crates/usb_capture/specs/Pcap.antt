@@ -28,7 +28,7 @@ pub record IsHeader (form : Form) (header : List ℕ) : Type 0 where
   pub begins : writer_of header ≡ Some form.writer
   pub link : form ≡ form_with form.writer header
 
--- Packet Record: Captured Packet Length is at 8, and so many bytes follow the 16 of the record's own header
+-- Packet Record: Captured Packet Length is at 8, and this many bytes follow the 16 of the record's own header
 abbrev pub record_length : ByteOrder → List ℕ → ℕ
 record_length order bytes = 16 + number_at order bytes 8
 

@@ -57,8 +57,8 @@ AreRecorded (transaction ∷ transactions) recorded =
     × (recorded ≡ token ∷ (more ++ rest)) × IsRecorded transaction token more × AreRecorded transactions rest
 
 -- the transactions of a recording, with the one that is open at its end
-abbrev pub heard_from : Bus → List RecordedPacket → List Transaction
-heard_from bus recorded = given_in bus_after over_with bus recorded ++ option_to_list (after_all bus_after over_with bus recorded).current
+abbrev pub received_from : Bus → List RecordedPacket → List Transaction
+received_from bus recorded = given_in bus_after over_with bus recorded ++ option_to_list (after_all bus_after over_with bus recorded).current
 
 abbrev pub transactions_in : List RecordedPacket → List Transaction
-transactions_in recorded = heard_from idle recorded
+transactions_in recorded = received_from idle recorded

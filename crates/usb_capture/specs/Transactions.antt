@@ -112,6 +112,6 @@ abbrev pub over_with : RecordedPacket → Bus → Option Transaction
 over_with recorded bus = over_by recorded.packet bus.current
 
 -- who has taken these packets and given these transactions
-abbrev pub HasHeard : List RecordedPacket → List Transaction → BusTransactions → Type 0
-HasHeard packets transactions bus =
+abbrev pub HasReceived : List RecordedPacket → List Transaction → BusTransactions → Type 0
+HasReceived packets transactions bus =
     (bus_of bus ≡ after_all bus_after over_with idle packets) × (transactions ≡ given_in bus_after over_with idle packets)

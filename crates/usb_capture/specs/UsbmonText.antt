@@ -111,7 +111,7 @@ byte_in n b = do
 abbrev pub no_bytes : List ℕ
 no_bytes = replicate 32 0
 
--- so many bytes, and zeros after them
+-- this many bytes, and zeros after them
 unfoldable pub bytes_in : ℕ → List ℕ → Option (List ℕ)
 bytes_in zero b = Some no_bytes
 bytes_in (suc n) b = do

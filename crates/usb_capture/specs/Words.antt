@@ -16,12 +16,12 @@ place_of byte b = position_or_len (is_byte byte) b
 abbrev pub after_part : ℕ → List ℕ → List ℕ
 after_part byte b = drop 1 (drop (place_of byte b) b)
 
--- what follows the first so many parts, between which this byte stands
+-- what follows the first this many parts, between which this byte stands
 unfoldable pub after_parts : ℕ → ℕ → List ℕ → List ℕ
 after_parts byte zero b = b
 after_parts byte (suc n) b = after_part byte (after_parts byte n b)
 
--- the part after so many
+-- the part after this many
 unfoldable pub part : ℕ → ℕ → List ℕ → List ℕ
 part byte n b = take (place_of byte (after_parts byte n b)) (after_parts byte n b)
 

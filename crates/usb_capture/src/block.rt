@@ -52,7 +52,7 @@ fn block_order(order: ByteOrder, b: &[u8]) -> Option<ByteOrder>
     }
 }
 
-/// Whether a block can have so many bytes.
+/// Whether a block can have this many bytes.
 fn is_total(n: u32) -> bool
     ensures { result ≡ is_total n }
 {
@@ -236,7 +236,7 @@ fn simple(
     }))
 }
 
-/// How many of so many bytes an interface captures.
+/// How many of this many bytes an interface captures.
 fn simple_length(interface: Interface, original: u32) -> u32
     ensures { result ≡ simple_length interface original }
 {

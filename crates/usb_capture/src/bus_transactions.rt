@@ -3,7 +3,7 @@ ghost use Rattle.std.specs.Prelude.{◌≡◌, ◌++◌, ◌∷◌, [], None, fa
 ghost use Rattle.std.specs.Option.{option_map, option_to_list};
 ghost use Rattle.usb_capture.specs.declared.recorded_packet.RecordedPacket.{RecordedPacket};
 ghost use Rattle.usb_capture.specs.declared.transaction.Transaction.{Transaction};
-ghost use Rattle.usb_capture.specs.Transactions.{HasHeard, after_data, after_token, broken_off, bus_after, bus_of, ended_by, over_with, over_with_data};
+ghost use Rattle.usb_capture.specs.Transactions.{HasReceived, after_data, after_token, broken_off, bus_after, bus_of, ended_by, over_with, over_with_data};
 
 use crate::bus_packet::PacketFault;
 use crate::recorded_packet::RecordedPacket;
@@ -25,7 +25,7 @@ pub struct BusTransactions {
 impl BusTransactions {
     /// One that has taken no packet.
     pub fn new(alloc: Global) -> BusTransactions
-        ensures { HasHeard [] [] result }
+        ensures { HasReceived [] [] result }
     {
         BusTransactions {
             alloc,
@@ -42,8 +42,8 @@ impl BusTransactions {
     ///
     /// Out of memory; the transaction is then forgotten.
     pub fn take(&mut self, recorded: &RecordedPacket<'_>) -> Result<Option<Transaction>, AllocError>
-        ensures ok { IfOk result (λ over. (packets : List RecordedPacket) (transactions : List Transaction) → HasHeard packets transactions self.old
-            → HasHeard (packets ++ recorded.now ∷ []) (transactions ++ option_to_list over) self.new) }
+        ensures ok { IfOk result (λ over. (packets : List RecordedPacket) (transactions : List Transaction) → HasReceived packets transactions self.old
+            → HasReceived (packets ++ recorded.now ∷ []) (transactions ++ option_to_list over) self.new) }
         ensures err { OnErr result (bus_of self.new ≡ record (bus_of self.old) { current = None }) }
     {
         self.step(recorded)

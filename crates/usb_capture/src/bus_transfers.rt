@@ -52,7 +52,7 @@ impl BusTransfers {
         Ok(over)
     }
 
-    /// Those whose end hasn't come, each with its address, in the order in which they were last heard of.
+    /// Those whose end hasn't come, each with its address, in the order in which they were last seen.
     pub fn unended(&self) -> &[OpenTransfer]
         ensures { result.now ≡ self.now.pipes.held.held.items }
     {

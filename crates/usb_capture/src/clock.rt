@@ -65,7 +65,7 @@ impl Clock {
         }
     }
 
-    /// When so many units have passed, in nanoseconds from the beginning of 1970, if it is then and 64 bits hold it. What
+    /// When this many units have passed, in nanoseconds from the beginning of 1970, if it is then and 64 bits hold it. What
     /// is finer than a nanosecond is rounded down.
     pub fn time(self, units: u64) -> Option<u64>
         ensures { result ≡ time_of self units }
@@ -83,7 +83,7 @@ impl Clock {
         }
     }
 
-    /// So many units in nanoseconds. No number of 128 bits is divided: a processor has no instruction for it, and a library for C no
+    /// This many units in nanoseconds. No number of 128 bits is divided: a processor has no instruction for it, and a library for C no
     /// function.
     #[tactic(auto, using(crate::proofs::Clocks::elapsed_coarse, crate::proofs::Clocks::elapsed_fine, crate::proofs::Clocks::elapsed_binary))]
     fn elapsed(self, units: u64) -> u128
@@ -100,7 +100,7 @@ impl Clock {
     }
 }
 
-/// So many units in nanoseconds, of which one has 10 to the power of this.
+/// This many units in nanoseconds, of which one has 10 to the power of this.
 fn nanoseconds_of(units: u64, exponent: u32) -> u64
     ensures { result ≡ units / 10 ^ exponent }
 {

@@ -35,7 +35,7 @@ impl ControlPipes {
         }
     }
 
-    /// Those whose end hasn't come, in the order in which they were last heard of.
+    /// Those whose end hasn't come, in the order in which they were last seen.
     pub(crate) fn unended(&self) -> &[OpenTransfer]
         ensures { result.now ≡ self.now.held.held.items }
     {

@@ -82,7 +82,7 @@ impl ControlTransfer {
     }
 }
 
-/// How many bytes there were, where an event speaks of so many.
+/// How many bytes there were, where an event speaks of this many.
 fn length_after(system: System, before: u32, said: u32) -> u32
     ensures { result ≡ length_after system before said }
 {

@@ -46,7 +46,7 @@ impl ControlTransfers {
         self.step(event)
     }
 
-    /// Those whose end hasn't come, in the order in which they were last heard of.
+    /// Those whose end hasn't come, in the order in which they were last seen.
     pub fn unended(&self) -> &[OpenTransfer]
         ensures { result.now ≡ self.now.held.items }
     {

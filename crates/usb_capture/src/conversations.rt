@@ -71,7 +71,7 @@ impl Conversations {
             → (found.items ≡ findings earlier transfer.now) × Knows (transfer.now ∷ earlier) self.new) }
     {
         let found = self.findings(transfer)?;
-        self.hear(transfer)?;
+        self.take_answer(transfer)?;
         Ok(found)
     }
 
@@ -164,7 +164,7 @@ impl Conversations {
         device_names(index, device) || self.is_named_in(asked, index, byte_at(device, 17))
     }
 
-    /// Whether one of so many configurations names a string.
+    /// Whether one of this many configurations names a string.
     fn is_named_in(&self, asked: Asked, index: u16, count: u8) -> bool
         ensures { result ≡ list_any (λ i. names index (held_of self.now.held.items (beside asked (512 + i)))) (range_with_len 0 count) }
     {
@@ -172,7 +172,7 @@ impl Conversations {
     }
 
     /// Holds what a transfer says, and no longer what may have changed by it.
-    fn hear(&mut self, transfer: &ControlTransfer) -> Result<(), AllocError>
+    fn take_answer(&mut self, transfer: &ControlTransfer) -> Result<(), AllocError>
         ensures { OnOk result (self.new.held.items ≡ held_after transfer.now self.old.held.items) }
     {
         if !adds(transfer) {

@@ -7,9 +7,11 @@ use crate::transaction::{DataPacket, Transaction};
 use usb_fields::{Direction, Toggle};
 use usb_wire::{DataKind, Handshake, TokenKind};
 
-/// What a transaction is in the control transfer of its device.
+/// What a transaction is in the control transfer of its device, by its token, its toggle and its handshake (USB 2.0, 8.5.3).
+///
+/// Laws of what [`BusTransfers`](crate::BusTransfers) makes of transactions speak of it.
 #[derive(Clone, Copy, Debug)]
-pub(crate) enum Part {
+pub enum Part {
     /// It brought the next packet of the data stage.
     Data,
     /// It ended the transfer so.
@@ -18,15 +20,15 @@ pub(crate) enum Part {
     Neither,
 }
 
-/// Which packet of a data stage comes next.
+/// Which packet of a data stage comes next (USB 2.0, 8.6).
 #[derive(Clone, Copy, Debug)]
-pub(crate) struct DataToggle {
+pub struct DataToggle {
     /// Its toggle.
-    pub(crate) next: Toggle,
+    pub next: Toggle,
     /// Whether the packet before it went without an ACK, so that it may come again.
-    pub(crate) may_repeat: bool,
+    pub may_repeat: bool,
     /// How many bytes the last packet of the data stage had.
-    pub(crate) last: usize,
+    pub last: usize,
 }
 
 impl DataToggle {

@@ -31,7 +31,7 @@ pub enum Finding {
 }
 
 impl Finding {
-    /// All findings, in the order in which those of one transfer are told.
+    /// All findings, in the order in which those of one transfer are reported.
     pub const ALL: [Finding; 9] = [
         Finding::MoreThanAsked,
         Finding::OtherType,

@@ -103,7 +103,7 @@ pub fn what_is_current_came()
     ensures { (transfers : List ControlTransfer) → All (λ t. Contains transfers t × (is_reading t ≡ true)) (current_after [] transfers) }
 {}
 
-/// Each descriptor of a file or of a dump is a reading that is kept, of just the descriptor of that device that is due there.
+/// Each descriptor of a file or of a dump is a reading that is kept, of just the descriptor of that device that comes next there.
 pub fn a_file_has_readings_of_its_device()
     ensures { (kept : List ControlTransfer) (asked : List Asked) (bytes : List ℕ) → parts kept asked ≡ Some bytes
         → (readings : List ControlTransfer) × (bytes ≡ flat_map data_of readings) × (map asked_of readings ≡ asked) × AllByRecursion (Contains kept) readings }

@@ -73,6 +73,7 @@ pub use clock::Clock;
 pub use control_transfer::ControlTransfer;
 pub use control_transfers::ControlTransfers;
 pub use conversations::Conversations;
+pub use data_toggle::{DataToggle, Part};
 pub use device_file::{DeviceFile, FileLack};
 pub use device_readings::DeviceReadings;
 pub use ending::Ending;

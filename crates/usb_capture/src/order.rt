@@ -20,12 +20,22 @@ impl ByteOrder {
         ensures { result ≡ number_at self b.now at }
     {
         let at = usize::from(at);
-        let bytes = [
+        if at + 4 <= b.len() {
+            return self.number([b[at], b[at + 1], b[at + 2], b[at + 3]]);
+        }
+        self.number([
             byte_at(b, at),
             byte_at(b, at + 1),
             byte_at(b, at + 2),
             byte_at(b, at + 3),
-        ];
+        ])
+    }
+
+    /// The number of these bytes.
+    #[tactic(auto, unfolding(crate::specs::Numbers::number_at))]
+    fn number(self, bytes: [u8; 4]) -> u32
+        ensures { result ≡ number_at self bytes 0 }
+    {
         match self {
             ByteOrder::Little => u32::from_le_bytes(bytes),
             ByteOrder::Big => u32::from_be_bytes(bytes),
@@ -45,6 +55,7 @@ impl ByteOrder {
     }
 
     /// The number of 64 bits at this place.
+    #[inline(always)]
     pub(crate) fn long_at(self, b: &[u8], at: u8) -> u64
         requires { at + 4 < 256 }
         ensures { result ≡ long_at self b.now at }

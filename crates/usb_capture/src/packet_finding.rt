@@ -29,7 +29,7 @@ pub enum PacketFinding {
 }
 
 impl PacketFinding {
-    /// Those that a transaction can have, in the order in which they are told.
+    /// Those that a transaction can have, in the order in which they are reported.
     pub const OF_TRANSACTIONS: [PacketFinding; 6] = [
         PacketFinding::NoHandshake,
         PacketFinding::NoRequest,

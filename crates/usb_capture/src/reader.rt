@@ -1,5 +1,5 @@
 //! A capture file, read from pieces of any length.
-ghost use Rattle.std.specs.Prelude.{◌≡◌, ◌+◌, ◌-◌, ◌≤◌, ◌<◌, ◌++◌, ◌⊎◌, ℕ, List, [], min, length, take, drop, Err, IfOk, IfErr, OnOk};
+ghost use Rattle.std.specs.Prelude.{◌≡◌, ◌+◌, ◌-◌, ◌≤◌, ◌<◌, ◌++◌, ◌⊎◌, ℕ, List, [], min, length, take, drop, Err, IfOk, IfErr, IfSome, OnOk};
 ghost use Rattle.usb_capture.specs.declared.fault.CaptureFault.TheVariants as faults;
 ghost use Rattle.usb_capture.specs.declared.frame.Frame.{Frame};
 ghost use Rattle.usb_capture.specs.Files.{IsRefusedAfter, next, whole};
@@ -8,7 +8,8 @@ use crate::content::{Content, Head};
 use crate::fault::CaptureFault;
 use crate::frame::{Frame, MOST_BYTES};
 use crate::interface::Interface;
-use crate::stage::Stage;
+use crate::pcap::Form;
+use crate::stage::{Stage, record_head};
 use std::alloc::{AllocError, Global};
 use usb_fields::{Sequence, after, prefix};
 
@@ -63,8 +64,9 @@ pub struct CaptureReader {
 impl CaptureReader {
     ghost use Rattle.std.specs.Prelude.{◌^◌, None, Some};
     ghost use Rattle.usb_capture.specs.Files.{content, frame_list, frame_with, last_four};
-    ghost use Rattle.usb_capture.specs.Reading.{IsKept, IsRead, state_of};
+    ghost use Rattle.usb_capture.specs.Reading.{IsFront, IsKept, IsRead, front_length, state_of};
     ghost use Rattle.std.specs.Option.{option_to_list};
+    ghost use Rattle.usb_capture.specs.declared.stage.Stage.TheVariants.{Records};
 
     /// A reader that has taken no byte.
     pub fn new(alloc: Global) -> CaptureReader
@@ -139,9 +141,76 @@ impl CaptureReader {
             → (fault ≡ faults.Memory) ⊎ ((place : ℕ) × IsRefusedAfter (all ++ piece.now) frames fault place × (self.new.place ≡ min place (2 ^ 64 - 1)))) }
         ensures going { self.new.failed ≡ self.old.failed }
     {
+        if let Some(used) = self.front(piece) {
+            return match self.stage {
+                Stage::Records(form) => self.take_record(form, piece, used),
+                _ => self.take_front(piece, used),
+            };
+        }
         let used = self.keep(piece)?;
         let frame = self.end_part()?;
         Ok(Step { used, frame })
+    }
+
+    /// How many bytes the part has that a piece begins with, where nothing of it came before and all of it is there.
+    fn front(&self, piece: &[u8]) -> Option<usize>
+        ensures length { result ≡ front_length self.now piece.now }
+        ensures is { IfSome result (λ used. IsFront self.now piece.now used) }
+    {
+        if self.count > 0 {
+            return None;
+        }
+        let whole = self.stage.whole(piece);
+        if whole > piece.len() as u64 {
+            return None;
+        }
+        Some(whole as usize)
+    }
+
+    /// Takes a whole part, which it reads where it lies in the piece.
+    #[inline]
+    fn take_front(&mut self, piece: &[u8], used: usize) -> Result<Step, CaptureFault>
+        requires { IsFront self.old piece.now used }
+        ensures within { IfOk result (λ step. step.used ≤ length piece.now) }
+        ensures ok { IfOk result (λ step. (all : List ℕ) (frames : List Frame) → IsRead all frames self.old
+            → IsRead (all ++ take step.used piece.now) (frames ++ option_to_list step.frame) self.new) }
+        ensures goes_on { IfOk result (λ step. (all : List ℕ) (frames : List Frame) → IsRead all frames self.old
+            → 0 < length piece.now → 0 < step.used) }
+        ensures refused { IfErr result (λ fault. (all : List ℕ) (frames : List Frame) → IsRead all frames self.old
+            → (fault ≡ faults.Memory) ⊎ ((place : ℕ) × IsRefusedAfter (all ++ piece.now) frames fault place × (self.new.place ≡ min place (2 ^ 64 - 1)))) }
+        ensures going { self.new.failed ≡ self.old.failed }
+    {
+        let part = prefix(piece, used);
+        let last = last_four([0; 4], part);
+        let content = self
+            .stage
+            .content(&self.interfaces, part, used as u64, &last)?;
+        let frame = self.frame_of(&content, part)?;
+        self.go_on(content)?;
+        self.place = self.place.saturating_add(used as u64);
+        Ok(Step { used, frame })
+    }
+
+    /// Takes a whole record of pcap so. What any part may say takes longer to hand on than a record's head.
+    #[inline(always)]
+    fn take_record(&mut self, form: Form, piece: &[u8], used: usize) -> Result<Step, CaptureFault>
+        requires front { IsFront self.old piece.now used }
+        requires stage { self.old.stage ≡ Records form }
+        ensures within { IfOk result (λ step. step.used ≤ length piece.now) }
+        ensures ok { IfOk result (λ step. (all : List ℕ) (frames : List Frame) → IsRead all frames self.old
+            → IsRead (all ++ take step.used piece.now) (frames ++ option_to_list step.frame) self.new) }
+        ensures goes_on { IfOk result (λ step. (all : List ℕ) (frames : List Frame) → IsRead all frames self.old
+            → 0 < length piece.now → 0 < step.used) }
+        ensures memory { IfErr result (λ fault. fault ≡ faults.Memory) }
+        ensures going { self.new.failed ≡ self.old.failed }
+    {
+        let part = prefix(piece, used);
+        let frame = self.frame_with(&record_head(form, part), part)?;
+        self.place = self.place.saturating_add(used as u64);
+        Ok(Step {
+            used,
+            frame: Some(frame),
+        })
     }
 
     /// How many bytes the part has, as far as those that are held tell.
@@ -180,6 +249,7 @@ impl CaptureReader {
     }
 
     /// Goes on to the next part where this one is whole. The frame is that of a packet.
+    #[inline(never)]
     fn end_part(&mut self) -> Result<Option<Frame>, CaptureFault>
         ensures ok { IfOk result (λ frame. (all : List ℕ) (frames : List Frame) → IsKept all frames self.old
             → IsRead all (frames ++ option_to_list frame) self.new) }
@@ -191,19 +261,20 @@ impl CaptureReader {
             return Ok(None);
         }
         let content = self.content()?;
-        let frame = self.frame_of(&content)?;
+        let frame = self.frame_of(&content, &self.held)?;
         self.go_on(content)?;
         self.clear();
         Ok(frame)
     }
 
-    /// The frame of a part that says this.
-    fn frame_of(&self, content: &Content) -> Result<Option<Frame>, AllocError>
-        ensures { IfOk result (λ frame. option_to_list frame ≡ frame_list content.now self.now.held.items) }
+    /// The frame of a part that begins with these bytes and says this.
+    #[inline(always)]
+    fn frame_of(&self, content: &Content, part: &[u8]) -> Result<Option<Frame>, AllocError>
+        ensures { IfOk result (λ frame. option_to_list frame ≡ frame_list content.now part.now) }
     {
         match content {
             Content::Packet(head) => {
-                let frame = self.frame_with(head)?;
+                let frame = self.frame_with(head, part)?;
                 Ok(Some(frame))
             }
             Content::Line(line) => {
@@ -215,10 +286,11 @@ impl CaptureReader {
     }
 
     /// The frame of a packet that has this head.
-    fn frame_with(&self, head: &Head) -> Result<Frame, AllocError>
-        ensures { IfOk result (λ frame. frame ≡ frame_with head.now self.now.held.items) }
+    #[inline(always)]
+    fn frame_with(&self, head: &Head, part: &[u8]) -> Result<Frame, AllocError>
+        ensures { IfOk result (λ frame. frame ≡ frame_with head.now part.now) }
     {
-        let data = after(&self.held, head.layout.start());
+        let data = after(part, head.layout.start());
         let kept = (head.captured as usize).min(MOST_BYTES);
         Ok(Frame {
             time: head.time,
@@ -231,9 +303,12 @@ impl CaptureReader {
     }
 
     /// Knows what a part says.
+    #[inline(always)]
     fn go_on(&mut self, content: Content) -> Result<(), CaptureFault>
         ensures state { OnOk result (state_of self.new ≡ next (state_of self.old) content) }
         ensures memory { IfErr result (λ fault. fault ≡ faults.Memory) }
+        ensures held { self.new.held.items ≡ self.old.held.items }
+        ensures last { self.new.last ≡ self.old.last }
         ensures count { self.new.count ≡ self.old.count }
         ensures place { self.new.place ≡ self.old.place }
         ensures going { self.new.failed ≡ self.old.failed }

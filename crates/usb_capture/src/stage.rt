@@ -49,6 +49,7 @@ impl Stage {
     /// # Errors
     ///
     /// The first fault of the part.
+    #[inline(always)]
     pub(crate) fn content(
         self,
         interfaces: &[Interface],
@@ -115,7 +116,8 @@ fn first_content(
 }
 
 /// What a record says before its data.
-fn record_head(form: Form, held: &[u8]) -> Head
+#[inline(always)]
+pub(crate) fn record_head(form: Form, held: &[u8]) -> Head
     ensures { result ≡ record_head form held.now }
 {
     let order = form.writer.order;

@@ -14,6 +14,7 @@ pub(crate) const OLD_HEADER_LENGTH: usize = 48;
 pub(crate) const HEADER_LENGTH: usize = 64;
 
 /// What a frame with a header of this length says.
+#[inline(always)]
 pub(crate) fn read(frame: &Frame, header: usize) -> Result<Event<'_>, EventFault>
     ensures ok { IfOk result (λ event. IsUsbmon frame.now.order header frame.now.bytes event) }
     ensures time { IfOk result (λ event. event.time ≡ frame.now.time) }

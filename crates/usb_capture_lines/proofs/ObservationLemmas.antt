@@ -11,7 +11,7 @@ use Rattle.usb_capture.specs.declared.recorded_packet.RecordedPacket.{RecordedPa
 use Rattle.usb_capture.specs.declared.transaction.Transaction.{Transaction}
 use Rattle.usb_capture.specs.BusTransfers.{HasMade, none_open, pipes_after, pipes_in, transfer_over, transfers_in}
 use Rattle.usb_capture.specs.PacketSizes.{sizes_in}
-use Rattle.usb_capture.specs.Transactions.{HasHeard, bus_after, idle, over_with}
+use Rattle.usb_capture.specs.Transactions.{HasReceived, bus_after, idle, over_with}
 use Rattle.usb_capture.specs.Transfers.{HasTaken, over_in}
 use Rattle.usb_capture.proofs.Folds.{given_push}
 use Rattle.usb_capture.proofs.TransferLemmas.{over_push}
@@ -39,12 +39,12 @@ event_observed over observed event old new takes has =
     ((h.0, refl), same_given (over_in [] (events observed)) over (over_by observed (Ok event)) (h.1 ∙ over_push [] (events observed) event))
 
 packet_observed : (over : Option Transaction) (observed : List Observed) (packet : RecordedPacket) (old new : BusTransactions)
-    → ((before : List RecordedPacket) (given : List Transaction) → HasHeard before given old → HasHeard (before ++ packet ∷ []) (given ++ option_to_list over) new)
-    → HasHeard (packets observed) (transactions observed) old
-    → HasHeard (packets (Err packet ∷ observed)) (transactions (Err packet ∷ observed)) new
+    → ((before : List RecordedPacket) (given : List Transaction) → HasReceived before given old → HasReceived (before ++ packet ∷ []) (given ++ option_to_list over) new)
+    → HasReceived (packets observed) (transactions observed) old
+    → HasReceived (packets (Err packet ∷ observed)) (transactions (Err packet ∷ observed)) new
     × (transactions (Err packet ∷ observed) ≡ transactions observed ++ option_to_list over) × (over ≡ transaction_over observed packet)
-packet_observed over observed packet old new hears has =
-    let h = hears (packets observed) (transactions observed) has in (
+packet_observed over observed packet old new receives_reply has =
+    let h = receives_reply (packets observed) (transactions observed) has in (
       (h.0, refl),
       sym h.1,
       same_given (transactions observed) over (transaction_over observed packet) (h.1 ∙ given_push bus_after over_with idle (packets observed) packet),
@@ -61,17 +61,17 @@ transfer_with (Some one) transfer before is =
 
 -- a packet, and the transaction that is over with it, if one is
 pub observed_more : (transfer : Option ControlTransfer) (given : Option Transaction) (packet : RecordedPacket) (observed : List Observed) (old new : Observer) (bus : BusTransactions)
-    → ((before : List RecordedPacket) (so_far : List Transaction) → HasHeard before so_far old.transactions → HasHeard (before ++ packet ∷ []) (so_far ++ option_to_list given) bus)
+    → ((before : List RecordedPacket) (so_far : List Transaction) → HasReceived before so_far old.transactions → HasReceived (before ++ packet ∷ []) (so_far ++ option_to_list given) bus)
     → ((before : List Transaction) (so_far : List ControlTransfer) → HasMade before so_far old.transfers → HasMade (before ++ option_to_list given) (so_far ++ option_to_list transfer) new.transfers)
     → new.controls ≡ old.controls → new.transactions ≡ bus → new.decoded ≡ decoded_with (is_ok packet.packet) old.decoded
     → HasObserved observed old → HasObserved (Err packet ∷ observed) new × (transfer ≡ over_by observed (Err packet)) × (given ≡ transaction_over observed packet)
-observed_more transfer given packet observed old new bus hears makes controls bus-is decoded has =
+observed_more transfer given packet observed old new bus receives_reply makes controls bus-is decoded has =
     let before = transactions observed in
-    let p = packet_observed given observed packet old.transactions bus hears has.bus in
+    let p = packet_observed given observed packet old.transactions bus receives_reply has.bus in
     let m = makes before (transfers_in before) has.made in (
       record {
         taken = subst (HasTaken (events observed) (over_in [] (events observed))) (sym controls) has.taken;
-        bus = subst (HasHeard (packets (Err packet ∷ observed)) (transactions (Err packet ∷ observed))) (sym bus-is) p.0;
+        bus = subst (HasReceived (packets (Err packet ∷ observed)) (transactions (Err packet ∷ observed))) (sym bus-is) p.0;
         made = subst (λ ts. HasMade ts (transfers_in ts) new.transfers) (sym p.1) (m.0, refl, m.2 ∙ ap sizes_in m.1);
         decoded = decoded ∙ ap (decoded_with (is_ok packet.packet)) has.decoded;
       },

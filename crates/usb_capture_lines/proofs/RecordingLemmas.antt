@@ -1,4 +1,4 @@
--- What is told of a recording as its bytes come.
+-- What is reported of a recording as its bytes come.
 use Rattle.std.proofs.Common.{◌≡◌, ℕ, ◌<◌, ◌≤◌, ◌+◌, ◌-◌, ◌^◌, Bool, List, [], ◌∷◌, ◌++◌, length, length-drop, take, drop, take-append-drop, append_assoc, append-nil, arith, refl, sym, ap, ◌∙◌, subst, ◌⊎◌, inl, inr}
 use Rattle.std.proofs.lemmas.List.{reverse-append}
 use Rattle.std.specs.Prelude.{Option, Some, None, min, reverse, true, false, is_some}
@@ -17,8 +17,8 @@ use Rattle.usb_text.specs.declared.output.OutFault.{OutFault}
 use Rattle.usb_text.specs.declared.output.OutFault.TheVariants as outs
 use Rattle.usb_text.proofs.Pages.{appends_more}
 use Rattle.usb_capture_lines.specs.Observations.{Observed, events, decoded_of, transactions}
-use Rattle.usb_capture_lines.specs.Recordings.{ended_text, finds_any, last_lines, readings_in, tally_of, told_text}
-use Rattle.usb_capture_lines.specs.RecordingTellers.{Halts, HasTold, IsRecording, Recorded, RecordedUpTo, TellerTold, ToldBroken, ToldUpTo, ToldWhole, fault_of_output, if_begun, tell_fault_of}
+use Rattle.usb_capture_lines.specs.Recordings.{ended_text, finds_any, last_lines, readings_in, tally_of, reported_text}
+use Rattle.usb_capture_lines.specs.RecordingTellers.{Halts, HasReported, IsRecording, Recorded, RecordedUpTo, TellerReported, ReportedBroken, ReportedUpTo, ReportedWhole, fault_of_output, if_begun, tell_fault_of}
 use Rattle.usb_capture_lines.specs.Telling.{HasSaid}
 use Rattle.usb_capture_lines.specs.declared.recording_teller.RecordingTeller.{RecordingTeller}
 use Rattle.usb_capture_lines.specs.declared.recording_teller.TellFault.{TellFault}
@@ -42,20 +42,20 @@ recording_is bytes frames reader read =
     }
 
 -- the lines so far
-pub lines_told : (s : Selection) (first : ℕ) (frames : List Frame) (teller : Teller) (held holds : Held) (t : TellerTold s first frames teller held holds)
-    → Appends held holds (told_text s first (reverse frames) t.observed)
-lines_told s first frames teller held holds t =
-    subst (λ n. Appends held holds (told_text s n (reverse frames) t.observed)) t.first_is
-    (subst (λ x. Appends held holds (told_text x teller.first (reverse frames) t.observed)) t.selection t.said.written)
+pub lines_reported : (s : Selection) (first : ℕ) (frames : List Frame) (teller : Teller) (held holds : Held) (t : TellerReported s first frames teller held holds)
+    → Appends held holds (reported_text s first (reverse frames) t.observed)
+lines_reported s first frames teller held holds t =
+    subst (λ n. Appends held holds (reported_text s n (reverse frames) t.observed)) t.first_is
+    (subst (λ x. Appends held holds (reported_text x teller.first (reverse frames) t.observed)) t.selection t.said.written)
 
--- the last lines of who told of frames
+-- the last lines of who reported frames
 abbrev pub lines_of_last : Teller → ℕ → ℕ → List ℕ
 lines_of_last teller place left =
     last_lines teller.selection teller.tally teller.observer.decoded teller.observer.controls.held.items teller.observer.transfers.pipes.held.held.items teller.readings.readings.kept.items teller.devices.items place left
 
-pub last_told : (s : Selection) (first : ℕ) (frames : List Frame) (teller : Teller) (held holds : Held) (t : TellerTold s first frames teller held holds) (place left : ℕ)
+pub last_reported : (s : Selection) (first : ℕ) (frames : List Frame) (teller : Teller) (held holds : Held) (t : TellerReported s first frames teller held holds) (place left : ℕ)
     → lines_of_last teller place left ≡ ended_text s (reverse frames) t.observed place left
-last_told s first frames teller held holds t place left =
+last_reported s first frames teller held holds t place left =
     let has = t.said in
     let observer = teller.observer in
     let hosts = observer.controls.held.items in
@@ -74,58 +74,58 @@ last_told s first frames teller held holds t place left =
     ∙ ap (λ x. last_lines s tally (decoded_of t.observed) open_hosts open_pipes (readings_in t.observed) x place left) has.devices
 
 -- what it keeps of readings
-pub readings_told : (s : Selection) (first : ℕ) (frames : List Frame) (teller : Teller) (held holds : Held) (t : TellerTold s first frames teller held holds)
+pub readings_reported : (s : Selection) (first : ℕ) (frames : List Frame) (teller : Teller) (held holds : Held) (t : TellerReported s first frames teller held holds)
     → teller.readings.readings.kept.items ≡ readings_in t.observed
-readings_told s first frames teller held holds t = t.said.kept
+readings_reported s first frames teller held holds t = t.said.kept
 
 -- a recording of which these bytes were read
-abbrev pub recorded : (s : Selection) (first : ℕ) (bytes : List ℕ) (recording : RecordingTeller) (held holds : Held) → HasTold s first bytes recording held holds → Recorded bytes
-recorded s first bytes recording held holds told = record {
-  frames = told.frames;
-  observed = told.told.observed;
+abbrev pub recorded : (s : Selection) (first : ℕ) (bytes : List ℕ) (recording : RecordingTeller) (held holds : Held) → HasReported s first bytes recording held holds → Recorded bytes
+recorded s first bytes recording held holds report = record {
+  frames = report.frames;
+  observed = report.report.observed;
   place = recording.reader.place;
-  left = length told.read.1;
-  recording = recording_is bytes told.frames recording.reader told.read;
-  told = told.told.said.are;
+  left = length report.read.1;
+  recording = recording_is bytes report.frames recording.reader report.read;
+  report = report.report.said.are;
 }
 
 -- all lines, and whether something is found
-pub told_whole : (s : Selection) (first : ℕ) (bytes : List ℕ) (recording : RecordingTeller) (held mid holds : Held) (place left : ℕ) (found : Bool) (told : HasTold s first bytes recording held mid)
-    → place ≡ recording.reader.place → left ≡ length told.read.1
+pub reported_whole : (s : Selection) (first : ℕ) (bytes : List ℕ) (recording : RecordingTeller) (held mid holds : Held) (place left : ℕ) (found : Bool) (report : HasReported s first bytes recording held mid)
+    → place ≡ recording.reader.place → left ≡ length report.read.1
     → found ≡ finds_any recording.teller.selection recording.teller.devices.items
     → Appends mid holds (lines_of_last recording.teller place left)
-    → ToldWhole s first bytes held holds found
-told_whole s first bytes recording held mid holds place left found told place_is left_is found_is last =
-    let t = told.told in
-    let frames = reverse told.frames in
-    let ending = last_told s first told.frames recording.teller held mid t place left
+    → ReportedWhole s first bytes held holds found
+reported_whole s first bytes recording held mid holds place left found report place_is left_is found_is last =
+    let t = report.report in
+    let frames = reverse report.frames in
+    let ending = last_reported s first report.frames recording.teller held mid t place left
     ∙ ap (λ p. ended_text s frames t.observed p left) place_is ∙ ap (λ n. ended_text s frames t.observed recording.reader.place n) left_is in
     record {
-      it = recorded s first bytes recording held mid told;
+      it = recorded s first bytes recording held mid report;
       finds = found_is ∙ ap (λ x. finds_any x recording.teller.devices.items) t.selection ∙ ap (finds_any s) t.said.devices;
-      written = appends_more held mid holds _ _ (lines_told s first told.frames recording.teller held mid t) (subst (Appends mid holds) ending last);
+      written = appends_more held mid holds _ _ (lines_reported s first report.frames recording.teller held mid t) (subst (Appends mid holds) ending last);
     }
 
 -- a recording up to a fault
 abbrev pub recorded_up_to : (s : Selection) (first : ℕ) (bytes : List ℕ) (why : CaptureFault) (at : ℕ) (recording : RecordingTeller) (held holds : Held)
-    → ToldUpTo s first bytes why at recording held holds → RecordedUpTo bytes why at
-recorded_up_to s first bytes why at recording held holds told = record {
-  frames = told.frames;
-  observed = told.told.observed;
-  place = told.place;
-  refused = told.refused;
-  at_is = told.at_is;
-  told = told.told.said.are;
+    → ReportedUpTo s first bytes why at recording held holds → RecordedUpTo bytes why at
+recorded_up_to s first bytes why at recording held holds report = record {
+  frames = report.frames;
+  observed = report.report.observed;
+  place = report.place;
+  refused = report.refused;
+  at_is = report.at_is;
+  report = report.report.said.are;
 }
 
 -- its lines, where a frame came and where none did
-pub told_broken : (s : Selection) (first : ℕ) (bytes : List ℕ) (why : CaptureFault) (at : ℕ) (recording : RecordingTeller) (held mid holds : Held) (lines : List ℕ)
-    → (told : ToldUpTo s first bytes why at recording held mid)
-    → lines ≡ if_begun (tally_of (reverse told.frames)).link (ended_text s (reverse told.frames) told.told.observed at 0)
-    → Appends mid holds lines → ToldBroken s first bytes why at held holds
-told_broken s first bytes why at recording held mid holds lines told is last = record {
-  it = recorded_up_to s first bytes why at recording held mid told;
-  written = appends_more held mid holds _ _ (lines_told s first told.frames recording.teller held mid told.told) (subst (Appends mid holds) is last);
+pub reported_broken : (s : Selection) (first : ℕ) (bytes : List ℕ) (why : CaptureFault) (at : ℕ) (recording : RecordingTeller) (held mid holds : Held) (lines : List ℕ)
+    → (report : ReportedUpTo s first bytes why at recording held mid)
+    → lines ≡ if_begun (tally_of (reverse report.frames)).link (ended_text s (reverse report.frames) report.report.observed at 0)
+    → Appends mid holds lines → ReportedBroken s first bytes why at held holds
+reported_broken s first bytes why at recording held mid holds lines report is last = record {
+  it = recorded_up_to s first bytes why at recording held mid report;
+  written = appends_more held mid holds _ _ (lines_reported s first report.frames recording.teller held mid report.report) (subst (Appends mid holds) is last);
 }
 
 begun_by : (link : Option ℕ) (lines : List ℕ) → is_some link ≡ true → lines ≡ if_begun link lines
@@ -137,36 +137,36 @@ unbegun_by None lines none = refl
 unbegun_by (Some n) lines none = let w : ⊥ = cc in absurd w
 
 -- the last lines where a frame came
-pub ends_begun : (s : Selection) (first : ℕ) (frames : List Frame) (teller : Teller) (held holds : Held) (t : TellerTold s first frames teller held holds) (at : ℕ) → is_some teller.tally.link ≡ true
+pub ends_begun : (s : Selection) (first : ℕ) (frames : List Frame) (teller : Teller) (held holds : Held) (t : TellerReported s first frames teller held holds) (at : ℕ) → is_some teller.tally.link ≡ true
     → lines_of_last teller at 0 ≡ if_begun (tally_of (reverse frames)).link (ended_text s (reverse frames) t.observed at 0)
 ends_begun s first frames teller held holds t at some =
-    last_told s first frames teller held holds t at 0
+    last_reported s first frames teller held holds t at 0
     ∙ begun_by (tally_of (reverse frames)).link (ended_text s (reverse frames) t.observed at 0) (ap (λ (x : Tally). is_some x.link) (sym t.said.tally) ∙ some)
 
 -- and where none did
-pub ends_unbegun : (s : Selection) (first : ℕ) (frames : List Frame) (teller : Teller) (held holds : Held) (t : TellerTold s first frames teller held holds) (at : ℕ) → is_some teller.tally.link ≡ false
+pub ends_unbegun : (s : Selection) (first : ℕ) (frames : List Frame) (teller : Teller) (held holds : Held) (t : TellerReported s first frames teller held holds) (at : ℕ) → is_some teller.tally.link ≡ false
     → [] ≡ if_begun (tally_of (reverse frames)).link (ended_text s (reverse frames) t.observed at 0)
 ends_unbegun s first frames teller held holds t at none =
     unbegun_by (tally_of (reverse frames)).link (ended_text s (reverse frames) t.observed at 0) (ap (λ (x : Tally). is_some x.link) (sym t.said.tally) ∙ none)
 
 -- why a fault of the reader halts it
 pub halts : (s : Selection) (first : ℕ) (bytes piece : List ℕ) (why : CaptureFault) (at : ℕ) (old new : RecordingTeller) (held holds : Held)
-    → (told : HasTold s first bytes old held holds) → new.teller ≡ old.teller
-    → (why ≡ captures.Memory) ⊎ ((place : ℕ) × IsRefusedAfter (bytes ++ piece) told.frames why place × (at ≡ min place (2 ^ 64 - 1)))
+    → (report : HasReported s first bytes old held holds) → new.teller ≡ old.teller
+    → (why ≡ captures.Memory) ⊎ ((place : ℕ) × IsRefusedAfter (bytes ++ piece) report.frames why place × (at ≡ min place (2 ^ 64 - 1)))
     → Halts s first (bytes ++ piece) new held holds (tell_fault_of why at)
-halts s first bytes piece why at old new held holds told same (inl memory) = rw memory tt
-halts s first bytes piece why at old new held holds told same (inr refused) = by why refused.1
+halts s first bytes piece why at old new held holds report same (inl memory) = rw memory tt
+halts s first bytes piece why at old new held holds report same (inr refused) = by why refused.1
   where
-    up_to : (w : CaptureFault) → IsRefusedAfter (bytes ++ piece) told.frames w refused.0 → ToldUpTo s first (bytes ++ piece) w at new held holds
+    up_to : (w : CaptureFault) → IsRefusedAfter (bytes ++ piece) report.frames w refused.0 → ReportedUpTo s first (bytes ++ piece) w at new held holds
     up_to w is = record {
-      frames = told.frames;
+      frames = report.frames;
       place = refused.0;
       refused = is;
       at_is = refused.2;
-      told = subst (λ (t : Teller). TellerTold s first told.frames t held holds) (sym same) told.told;
+      report = subst (λ (t : Teller). TellerReported s first report.frames t held holds) (sym same) report.report;
     }
 
-    by : (w : CaptureFault) → IsRefusedAfter (bytes ++ piece) told.frames w refused.0 → Halts s first (bytes ++ piece) new held holds (tell_fault_of w at)
+    by : (w : CaptureFault) → IsRefusedAfter (bytes ++ piece) report.frames w refused.0 → Halts s first (bytes ++ piece) new held holds (tell_fault_of w at)
     by captures.Memory is = tt
     by captures.Magic is = up_to captures.Magic is
     by captures.Order is = up_to captures.Order is
@@ -180,13 +180,13 @@ halts s first bytes piece why at old new held holds told same (inr refused) = by
     by captures.Data is = up_to captures.Data is
     by captures.Line is = up_to captures.Line is
 
--- one who tells has told of one frame more
+-- one who tells has reported one frame more
 pub tell_more : (s : Selection) (first : ℕ) (frames : List Frame) (f : Frame) (old new : Teller) (held a b : Held)
     → ((fs : List Frame) (xs : List Observed) (h : Held) → HasSaid fs xs old h a → (x : Observed) × HasSaid (f ∷ fs) (x ∷ xs) new h b)
     → new.selection ≡ old.selection → new.first ≡ old.first
-    → TellerTold s first frames old held a → TellerTold s first (frames ++ f ∷ []) new held b
-tell_more s first frames f old new held a b hears selection first_is t =
-    let got = hears (reverse frames) t.observed held t.said in
+    → TellerReported s first frames old held a → TellerReported s first (frames ++ f ∷ []) new held b
+tell_more s first frames f old new held a b receives_reply selection first_is t =
+    let got = receives_reply (reverse frames) t.observed held t.said in
     record {
       observed = got.0 ∷ t.observed;
       said = subst (λ fs. HasSaid fs (got.0 ∷ t.observed) new held b) (sym (reverse-append frames (f ∷ []))) got.1;
@@ -199,41 +199,41 @@ pub output_halts : (s : Selection) (first : ℕ) (bytes : List ℕ) (recording :
 output_halts s first bytes recording held holds outs.Write = tt
 output_halts s first bytes recording held holds outs.Memory = tt
 
--- a piece of which the front was taken, and at most so many bytes are left
+-- a piece of which the front was taken, and at most this many bytes are left
 pub record TakesPiece (s : Selection) (first : ℕ) (bytes piece rest : List ℕ) (index : ℕ) (recording : RecordingTeller) (held holds : Held) : Type 0 where
   pub front : List ℕ
   pub piece_is : piece ≡ front ++ rest
   pub few : length rest + index ≤ length piece
-  pub told : HasTold s first (bytes ++ front) recording held holds
+  pub report : HasReported s first (bytes ++ front) recording held holds
 
-pub takes_nothing : (s : Selection) (first : ℕ) (bytes piece : List ℕ) (recording : RecordingTeller) (held holds : Held) → HasTold s first bytes recording held holds
+pub takes_nothing : (s : Selection) (first : ℕ) (bytes piece : List ℕ) (recording : RecordingTeller) (held holds : Held) → HasReported s first bytes recording held holds
     → TakesPiece s first bytes piece piece 0 recording held holds
-takes_nothing s first bytes piece recording held holds told = record {
+takes_nothing s first bytes piece recording held holds report = record {
   front = [];
   piece_is = refl;
   few = omega arith;
-  told = subst (λ b. HasTold s first b recording held holds) (sym (append-nil bytes)) told;
+  report = subst (λ b. HasReported s first b recording held holds) (sym (append-nil bytes)) report;
 }
 
 pub takes_front : (s : Selection) (first : ℕ) (bytes piece rest : List ℕ) (index used : ℕ) (old new : RecordingTeller) (held mid holds : Held)
     → (before : TakesPiece s first bytes piece rest index old held mid) → 0 < length rest → used ≤ length rest → 0 < used
-    → HasTold s first ((bytes ++ before.front) ++ take used rest) new held holds
+    → HasReported s first ((bytes ++ before.front) ++ take used rest) new held holds
     → TakesPiece s first bytes piece (drop used rest) (index + 1) new held holds
-takes_front s first bytes piece rest index used old new held mid holds before some within more told =
+takes_front s first bytes piece rest index used old new held mid holds before some within more report =
     let x = take used rest in
     let left : length (drop used rest) ≡ length rest - used = length-drop used rest in
     record {
       front = before.front ++ x;
       piece_is = before.piece_is ∙ ap (λ r. before.front ++ r) (sym (take-append-drop used rest)) ∙ sym (append_assoc before.front x (drop used rest));
       few = omega (arith, left, before.few, more, within);
-      told = subst (λ b. HasTold s first b new held holds) (append_assoc bytes before.front x) told;
+      report = subst (λ b. HasReported s first b new held holds) (append_assoc bytes before.front x) report;
     }
 
 -- all of it was taken
 pub takes_all : (s : Selection) (first : ℕ) (bytes piece rest : List ℕ) (index : ℕ) (recording : RecordingTeller) (held holds : Held)
-    → TakesPiece s first bytes piece rest index recording held holds → length rest ≡ 0 → HasTold s first (bytes ++ piece) recording held holds
+    → TakesPiece s first bytes piece rest index recording held holds → length rest ≡ 0 → HasReported s first (bytes ++ piece) recording held holds
 takes_all s first bytes piece [] index recording held holds before none =
-    subst (λ p. HasTold s first (bytes ++ p) recording held holds) (sym (before.piece_is ∙ append-nil before.front)) before.told
+    subst (λ p. HasReported s first (bytes ++ p) recording held holds) (sym (before.piece_is ∙ append-nil before.front)) before.report
 takes_all s first bytes piece (b ∷ rest) index recording held holds before none = absurd (omega (arith, none))
 
 -- it is halted in the middle of it

@@ -1,4 +1,4 @@
--- What is told of a recording that a reader gives.
+-- What is reported of a recording that a reader gives.
 use Rattle.std.proofs.Common.{◌≡◌, ℕ, Bool, List, [], ◌∷◌, ◌++◌, append_assoc, append-nil, refl, sym, subst, arith, inl, inr}
 use Rattle.std.specs.Prelude.{Some, None, Result, Ok, Err, OnOk, IfErr}
 use Rattle.std.specs.Io.KnownBytes.{Consumes, IsAtEnd, Keeps}
@@ -11,8 +11,8 @@ use Rattle.usb_capture.specs.DeviceFiles.{IsLack, IsMade}
 use Rattle.usb_text.specs.Output.{Held}
 use Rattle.usb_text.proofs.Pages.{appends_kept, appends_nothing, keeps_refl}
 use Rattle.usb_capture_lines.specs.Recordings.{asked_at}
-use Rattle.usb_capture_lines.specs.RecordingTellers.{Halts, HasTold, Recorded, ToldBroken, ToldWhole, readings_of}
-use Rattle.usb_capture_lines.specs.RecordingRuns.{EndsBroken, EndsWhole, HasNoFile, IsWriteFault, LacksFile, Left, MakesFile, Pours, PoursInVain, ReadsOn, Stops, StopsTelling, ToldAfter, ToldSoFar, device_fault_of, first_byte, recording_fault_of}
+use Rattle.usb_capture_lines.specs.RecordingTellers.{Halts, HasReported, Recorded, ReportedBroken, ReportedWhole, readings_of}
+use Rattle.usb_capture_lines.specs.RecordingRuns.{EndsBroken, EndsWhole, HasNoFile, IsWriteFault, LacksFile, Left, MakesFile, Pours, PoursInVain, ReadsOn, Stops, StopsTelling, ReportedAfter, ReportedSoFar, device_fault_of, first_byte, recording_fault_of}
 use Rattle.usb_capture_lines.specs.declared.recording.DeviceFault.TheVariants as devices
 use Rattle.usb_capture_lines.specs.declared.recording.RecordingFault.{RecordingFault}
 use Rattle.usb_capture_lines.specs.declared.recording.RecordingFault.TheVariants as faults
@@ -21,7 +21,7 @@ use Rattle.usb_capture_lines.specs.declared.recording_teller.TellFault.{TellFaul
 use Rattle.usb_capture_lines.specs.declared.recording_teller.TellFault.TheVariants as tells
 use Rattle.usb_capture_lines.specs.declared.selection.DeviceAddress.{DeviceAddress}
 use Rattle.usb_capture_lines.specs.declared.selection.Selection.{Selection}
-use Rattle.usb_capture_lines.proofs.RecordingLemmas.{lines_told, readings_told, recorded, recorded_up_to}
+use Rattle.usb_capture_lines.proofs.RecordingLemmas.{lines_reported, readings_reported, recorded, recorded_up_to}
 
 -- one byte, and what is read after it
 pub after_one : (byte : ℕ) (holds : List ℕ → Type 0) (from mid to : Left) → Consumes from mid (byte ∷ []) → ReadsOn (byte ∷ []) holds mid to → ReadsOn [] holds from to
@@ -51,11 +51,11 @@ kept_is_nothing (Some xs) (Some ys) keeps = sym keeps
 -- reading so far, as a loop has it
 pub poured_more : (s : Selection) (first : ℕ) (before piece : List ℕ) (old new : RecordingTeller) (from mid to : Left) (held a b : Held)
     → (so_far : Pours s first before from mid old held a) → Consumes mid to piece
-    → HasTold s first ((before ++ so_far.bytes) ++ piece) new held b → Pours s first before from to new held b
-poured_more s first before piece old new from mid to held a b so_far read told = record {
+    → HasReported s first ((before ++ so_far.bytes) ++ piece) new held b → Pours s first before from to new held b
+poured_more s first before piece old new from mid to held a b so_far read report = record {
   bytes = so_far.bytes ++ piece;
   read = Consumes-trans from mid to so_far.bytes piece so_far.read read;
-  all = subst (λ x. HasTold s first x new held b) (append_assoc before so_far.bytes piece) told;
+  all = subst (λ x. HasReported s first x new held b) (append_assoc before so_far.bytes piece) report;
 }
 
 pub poured_in_vain : (s : Selection) (first : ℕ) (before piece : List ℕ) (old new : RecordingTeller) (from mid to : Left) (held a b : Held) (stop : RecordingFault)
@@ -75,13 +75,13 @@ stops_by s first bytes recording held holds tells.Memory halted = tt
 stops_by s first bytes recording held holds (tells.Capture why at) halted = halted
 
 -- the lines so far
-pub told_so_far : (s : Selection) (bytes : List ℕ) (recording : RecordingTeller) (held holds : Held) → HasTold s (first_byte bytes) bytes recording held holds → ToldSoFar s bytes held holds
-told_so_far s bytes recording held holds told = record {
-  it = recorded s (first_byte bytes) bytes recording held holds told;
-  written = lines_told s (first_byte bytes) told.frames recording.teller held holds told.told;
+pub reported_so_far : (s : Selection) (bytes : List ℕ) (recording : RecordingTeller) (held holds : Held) → HasReported s (first_byte bytes) bytes recording held holds → ReportedSoFar s bytes held holds
+reported_so_far s bytes recording held holds report = record {
+  it = recorded s (first_byte bytes) bytes recording held holds report;
+  written = lines_reported s (first_byte bytes) report.frames recording.teller held holds report.report;
 }
 
--- what is told where a write failed is left open
+-- what is reported where a write failed is left open
 pub stops_writing : (s : Selection) (bytes : List ℕ) (held holds : Held) (fault : RecordingFault) → IsWriteFault fault → StopsTelling s bytes held holds fault
 stops_writing s bytes held holds faults.Write is = tt
 stops_writing s bytes held holds faults.Memory is = tt
@@ -89,36 +89,36 @@ stops_writing s bytes held holds faults.Read is = absurd is
 stops_writing s bytes held holds faults.TooLarge is = absurd is
 stops_writing s bytes held holds (faults.Capture why at) is = absurd is
 
--- what is told of a recording with a fault
+-- what is reported of a recording with a fault
 pub stops_broken : (s : Selection) (bytes : List ℕ) (why : CaptureFault) (at : ℕ) (held holds : Held) (fault : RecordingFault)
     → EndsBroken s (first_byte bytes) bytes why at held holds fault → StopsTelling s bytes held holds fault
 stops_broken s bytes why at held holds fault (inl broken) = subst (StopsTelling s bytes held holds) (sym broken.0) broken.1
 stops_broken s bytes why at held holds fault (inr failed) = stops_writing s bytes held holds fault failed
 
 -- all lines, and a flush
-pub whole_kept : (s : Selection) (first : ℕ) (bytes : List ℕ) (held a b : Held) (found : Bool) → ToldWhole s first bytes held a found → Keeps a b → ToldWhole s first bytes held b found
-whole_kept s first bytes held a b found told keeps = record { it = told.it; finds = told.finds; written = appends_kept held a b _ told.written keeps }
+pub whole_kept : (s : Selection) (first : ℕ) (bytes : List ℕ) (held a b : Held) (found : Bool) → ReportedWhole s first bytes held a found → Keeps a b → ReportedWhole s first bytes held b found
+whole_kept s first bytes held a b found report keeps = record { it = report.it; finds = report.finds; written = appends_kept held a b _ report.written keeps }
 
-pub broken_kept : (s : Selection) (first : ℕ) (bytes : List ℕ) (why : CaptureFault) (at : ℕ) (held a b : Held) → ToldBroken s first bytes why at held a → Keeps a b → ToldBroken s first bytes why at held b
-broken_kept s first bytes why at held a b told keeps = record { it = told.it; written = appends_kept held a b _ told.written keeps }
+pub broken_kept : (s : Selection) (first : ℕ) (bytes : List ℕ) (why : CaptureFault) (at : ℕ) (held a b : Held) → ReportedBroken s first bytes why at held a → Keeps a b → ReportedBroken s first bytes why at held b
+broken_kept s first bytes why at held a b report keeps = record { it = report.it; written = appends_kept held a b _ report.written keeps }
 
 -- a file of what was read
 pub made_of : (device : DeviceAddress) (file : DeviceFile) (recording : RecordingTeller) (s : Selection) (first : ℕ) (bytes : List ℕ) (held holds : Held)
-    → IsMade (readings_of recording) (asked_at device) file → HasTold s first bytes recording held holds → MakesFile device bytes file
-made_of device file recording s first bytes held holds made told = record {
-  it = recorded s first bytes recording held holds told;
-  made = subst (λ kept. IsMade kept (asked_at device) file) (readings_told s first told.frames recording.teller held holds told.told) made;
+    → IsMade (readings_of recording) (asked_at device) file → HasReported s first bytes recording held holds → MakesFile device bytes file
+made_of device file recording s first bytes held holds made report = record {
+  it = recorded s first bytes recording held holds report;
+  made = subst (λ kept. IsMade kept (asked_at device) file) (readings_reported s first report.frames recording.teller held holds report.report) made;
 }
 
 -- and why there is none
 pub none_of : (device : DeviceAddress) (lack : FileLack) (recording : RecordingTeller) (s : Selection) (first : ℕ) (bytes : List ℕ) (held holds : Held) (to : Left)
-    → IsLack (readings_of recording) (asked_at device) lack → HasTold s first bytes recording held holds → IsAtEnd to → HasNoFile device to bytes (device_fault_of lack)
-none_of device lack recording s first bytes held holds to lacked told ended = by lack lacked
+    → IsLack (readings_of recording) (asked_at device) lack → HasReported s first bytes recording held holds → IsAtEnd to → HasNoFile device to bytes (device_fault_of lack)
+none_of device lack recording s first bytes held holds to lacked report ended = by lack lacked
   where
     of : (l : FileLack) → IsLack (readings_of recording) (asked_at device) l → LacksFile device bytes l
     of l is = record {
-      it = recorded s first bytes recording held holds told;
-      lacks = subst (λ kept. IsLack kept (asked_at device) l) (readings_told s first told.frames recording.teller held holds told.told) is;
+      it = recorded s first bytes recording held holds report;
+      lacks = subst (λ kept. IsLack kept (asked_at device) l) (readings_reported s first report.frames recording.teller held holds report.report) is;
     }
 
     by : (l : FileLack) → IsLack (readings_of recording) (asked_at device) l → HasNoFile device to bytes (device_fault_of l)
@@ -157,10 +157,10 @@ poured_still before holds from mid to so_far none = record {
   all = so_far.all;
 }
 
--- all is told after the first byte
-pub told_after : (s : Selection) (first : ℕ) (from to : Left) (recording : RecordingTeller) (held mid holds : Held) (found : Bool) → IsAtEnd to
-    → Pours s first (first ∷ []) from to recording held mid → EndsWhole recording mid holds found → ToldAfter s (first ∷ []) from to held holds found
-told_after s first from to recording held mid holds found ended pours ends =
+-- all is reported after the first byte
+pub reported_after : (s : Selection) (first : ℕ) (from to : Left) (recording : RecordingTeller) (held mid holds : Held) (found : Bool) → IsAtEnd to
+    → Pours s first (first ∷ []) from to recording held mid → EndsWhole recording mid holds found → ReportedAfter s (first ∷ []) from to held holds found
+reported_after s first from to recording held mid holds found ended pours ends =
     (ended, record { bytes = pours.bytes; read = pours.read; all = ends s first (first ∷ pours.bytes) held pours.all })
 
 pub fails_after : (s : Selection) (first : ℕ) (from to : Left) (recording : RecordingTeller) (held mid holds : Held) (fault : RecordingFault)
@@ -173,8 +173,8 @@ pub stops_after : (s : Selection) (first : ℕ) (from to : Left) (recording : Re
     → PoursInVain s first (first ∷ []) from to recording held mid stop
     → ((bytes : List ℕ) → Stops s (first_byte bytes) bytes recording held mid stop → StopsTelling s bytes held holds fault)
     → ReadsOn (first ∷ []) (λ bytes. StopsTelling s bytes held holds fault) from to
-stops_after s first from to recording held mid holds stop fault pours told =
-    record { bytes = pours.bytes; read = pours.read; all = told (first ∷ pours.bytes) pours.all }
+stops_after s first from to recording held mid holds stop fault pours report =
+    record { bytes = pours.bytes; read = pours.read; all = report (first ∷ pours.bytes) pours.all }
 
 -- a recording without a byte
 nothing_recorded : Recorded []
@@ -184,9 +184,9 @@ nothing_recorded = record {
   place = 0;
   left = 0;
   recording = record { parts = []; part = []; bytes_are = refl; each = tt; unfinished = omega arith; read = refl; place_is = refl; left_is = refl };
-  told = tt;
+  report = tt;
 }
 
-pub nothing_told : (s : Selection) (held : Held) → ToldSoFar s [] held held
+pub nothing_is_reported : (s : Selection) (held : Held) → ReportedSoFar s [] held held
 unfolding nothing_recorded
-nothing_told s held = record { it = nothing_recorded; written = appends_nothing held held (keeps_refl held) }
+nothing_is_reported s held = record { it = nothing_recorded; written = appends_nothing held held (keeps_refl held) }

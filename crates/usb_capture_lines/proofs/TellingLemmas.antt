@@ -1,4 +1,4 @@
--- What is told of a recording after one frame more.
+-- What is reported of a recording after one frame more.
 use Rattle.std.proofs.Common.{◌≡◌, ℕ, ◌+◌, ◌<◌, List, [], ◌∷◌, ◌++◌, get_or, length, take, append_assoc, append-nil, refl, sym, ap, ◌∙◌, subst}
 use Rattle.std.proofs.lemmas.Grind.{reverse_onto, take_at_read}
 use Rattle.std.specs.Prelude.{Option, Some, None, Result, Ok, Err, OnOk, reverse}
@@ -10,7 +10,7 @@ use Rattle.usb_capture.specs.DeviceReadings.{HasCurrent}
 use Rattle.usb_text.specs.Output.{Held}
 use Rattle.usb_text.proofs.Pages.{appends_more}
 use Rattle.usb_capture_lines.specs.Observations.{Completes, HasObserved, Observed, IsObserved, found_by, frame_count, one_more, over_by, overs}
-use Rattle.usb_capture_lines.specs.Recordings.{bus_lines, counted, counted_first, first_part, met, met_all, met_in, over_lines, tally_of, told_text}
+use Rattle.usb_capture_lines.specs.Recordings.{bus_lines, counted, counted_first, first_part, met, met_all, met_in, over_lines, tally_of, reported_text}
 use Rattle.usb_capture_lines.specs.BusFindings.{device_of}
 use Rattle.usb_capture_lines.specs.declared.completed.Completed.{Completed}
 use Rattle.usb_capture_lines.specs.declared.bus_finding.BusFinding.{BusFinding}
@@ -55,9 +55,9 @@ said_more frames observed f x completed old mid next new held a b c d has mid-is
     let next-selection : next.selection ≡ new.selection = sym (ap (λ (t : Teller). t.selection) new-is) in
     let same-selection : old.selection ≡ new.selection = sym (ap (λ (t : Teller). t.selection) mid-is) ∙ mid-selection in
     let same-first : old.first ≡ new.first = sym (ap (λ (t : Teller). t.first) new-is ∙ first ∙ ap (λ (t : Teller). t.first) mid-is) in
-    let before : Appends held a (told_text new.selection new.first frames observed) =
-    subst (λ s. Appends held a (told_text s new.first frames observed)) same-selection
-    (subst (λ n. Appends held a (told_text old.selection n frames observed)) same-first has.written) in
+    let before : Appends held a (reported_text new.selection new.first frames observed) =
+    subst (λ s. Appends held a (reported_text s new.first frames observed)) same-selection
+    (subst (λ n. Appends held a (reported_text old.selection n frames observed)) same-first has.written) in
     let begun : Appends a b (first_part new.first (tally_of frames).link f.link) =
     subst (λ n. Appends a b (first_part n (tally_of frames).link f.link)) same-first
     (subst (λ (t : Tally). Appends a b (first_part old.first t.link f.link)) has.tally head) in

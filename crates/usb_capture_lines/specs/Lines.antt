@@ -77,7 +77,7 @@ meaning_part Stall = []
 meaning_part (Failed status) = meaning_line status
 meaning_part (Refused status) = meaning_line status
 
--- bytes in rows of 32, of which the first one has room for so many
+-- bytes in rows of 32, of which the first one has room for this many
 abbrev pub room_after : ℕ → ℕ
 room_after room = if room == 0 then 31 else room - 1
 

@@ -11,7 +11,7 @@ use Rattle.usb_capture.specs.BusPackets.{IsPacketOf}
 use Rattle.usb_capture.specs.BusTransfers.{HasMade, pipes_in, transfer_over, transfers_in}
 use Rattle.usb_capture.specs.Events.{IsEvent, event_fault}
 use Rattle.usb_capture.specs.Folds.{after_all, given_in}
-use Rattle.usb_capture.specs.Transactions.{HasHeard, bus_after, idle, over_with}
+use Rattle.usb_capture.specs.Transactions.{HasReceived, bus_after, idle, over_with}
 use Rattle.usb_capture.specs.Transfers.{HasTaken, open_after, over_in, seen}
 use Rattle.usb_capture_lines.specs.BusFindings.{bus_found}
 use Rattle.usb_capture_lines.specs.declared.completed.Completed.{Completed}
@@ -95,6 +95,6 @@ overs (x ∷ earlier) = option_to_list (over_by earlier x) ++ overs earlier
 -- who has observed all this
 pub record HasObserved (observed : List Observed) (observer : Observer) : Type 0 where
   pub taken : HasTaken (events observed) (over_in [] (events observed)) observer.controls
-  pub bus : HasHeard (packets observed) (transactions observed) observer.transactions
+  pub bus : HasReceived (packets observed) (transactions observed) observer.transactions
   pub made : HasMade (transactions observed) (transfers_in (transactions observed)) observer.transfers
   pub decoded : observer.decoded ≡ decoded_of observed

@@ -1,4 +1,4 @@
--- What is told of a recording that a reader gives, and what is made of a device's descriptors.
+-- What is reported of a recording that a reader gives, and what is made of a device's descriptors.
 use Rattle.std.specs.Prelude.{◌≡◌, ◌⊎◌, ⊤, ℕ, Bool, List, [], ◌∷◌, ◌++◌, Option, Some, None}
 use Rattle.std.specs.Io.KnownBytes.{Appends, Consumes, IsAtEnd}
 use Rattle.usb_capture.specs.declared.device_file.DeviceFile.{DeviceFile}
@@ -8,7 +8,7 @@ use Rattle.usb_capture.specs.declared.fault.CaptureFault.{CaptureFault}
 use Rattle.usb_capture.specs.DeviceFiles.{IsLack, IsMade}
 use Rattle.usb_text.specs.Output.{Held}
 use Rattle.usb_capture_lines.specs.Recordings.{asked_at, readings_in}
-use Rattle.usb_capture_lines.specs.RecordingTellers.{HasTold, Recorded, RecordedUpTo, ToldBroken, ToldUpTo, ToldWhole, lines_so_far}
+use Rattle.usb_capture_lines.specs.RecordingTellers.{HasReported, Recorded, RecordedUpTo, ReportedBroken, ReportedUpTo, ReportedWhole, lines_so_far}
 use Rattle.usb_capture_lines.specs.declared.recording.DeviceFault.{DeviceFault}
 use Rattle.usb_capture_lines.specs.declared.recording.DeviceFault.TheVariants as devices
 use Rattle.usb_capture_lines.specs.declared.recording.RecordingFault.{RecordingFault}
@@ -39,31 +39,31 @@ abbrev pub ReadsByte : Left → Left → Option ℕ → Type 0
 ReadsByte old new None = Consumes old new [] × IsAtEnd new
 ReadsByte old new (Some byte) = Consumes old new (byte ∷ [])
 
--- What is told.
+-- What is reported.
 
 -- the lines of a recording so far were written
-pub record ToldSoFar (s : Selection) (bytes : List ℕ) (held holds : Held) : Type 0 where
+pub record ReportedSoFar (s : Selection) (bytes : List ℕ) (held holds : Held) : Type 0 where
   pub it : Recorded bytes
   pub written : Appends held holds (lines_so_far s (first_byte bytes) it)
 
--- why no more is told of bytes, and what was written then: where a read fails the lines of what came before, and where the
+-- why no more is reported of bytes, and what was written then: where a read fails the lines of what came before, and where the
 -- recording has a fault all lines of what came before that
 abbrev pub StopsTelling : Selection → List ℕ → Held → Held → RecordingFault → Type 0
-StopsTelling s bytes held holds faults.Read = ToldSoFar s bytes held holds
-StopsTelling s bytes held holds faults.TooLarge = ToldSoFar s bytes held holds
+StopsTelling s bytes held holds faults.Read = ReportedSoFar s bytes held holds
+StopsTelling s bytes held holds faults.TooLarge = ReportedSoFar s bytes held holds
 StopsTelling s bytes held holds faults.Write = ⊤
 StopsTelling s bytes held holds faults.Memory = ⊤
-StopsTelling s bytes held holds (faults.Capture why at) = ToldBroken s (first_byte bytes) bytes why at held holds
+StopsTelling s bytes held holds (faults.Capture why at) = ReportedBroken s (first_byte bytes) bytes why at held holds
 
 -- all is read after these bytes, all lines of all were written, and whether something is found
-abbrev pub ToldAfter : Selection → List ℕ → Left → Left → Held → Held → Bool → Type 0
-ToldAfter s before from to held holds found = IsAtEnd to × ReadsOn before (λ bytes. ToldWhole s (first_byte bytes) bytes held holds found) from to
+abbrev pub ReportedAfter : Selection → List ℕ → Left → Left → Held → Held → Bool → Type 0
+ReportedAfter s before from to held holds found = IsAtEnd to × ReadsOn before (λ bytes. ReportedWhole s (first_byte bytes) bytes held holds found) from to
 
 -- all was read, all lines were written, and whether something is found
-abbrev pub RecordingTold : Selection → Left → Left → Held → Held → Bool → Type 0
-RecordingTold s = ToldAfter s []
+abbrev pub RecordingReported : Selection → Left → Left → Held → Held → Bool → Type 0
+RecordingReported s = ReportedAfter s []
 
--- some bytes were read, and no more is told of them
+-- some bytes were read, and no more is reported of them
 abbrev pub RecordingStops : Selection → Left → Left → Held → Held → RecordingFault → Type 0
 RecordingStops s from to held holds fault = ReadsOn [] (λ bytes. StopsTelling s bytes held holds fault) from to
 
@@ -89,11 +89,11 @@ HasNoFile device to bytes (devices.Lack lack) = IsAtEnd to × LacksFile device b
 
 -- what is known where a recording of these bytes is read no further
 abbrev pub Stops : Selection → ℕ → List ℕ → RecordingTeller → Held → Held → RecordingFault → Type 0
-Stops s first bytes recording held holds faults.Read = HasTold s first bytes recording held holds
-Stops s first bytes recording held holds faults.TooLarge = HasTold s first bytes recording held holds
+Stops s first bytes recording held holds faults.Read = HasReported s first bytes recording held holds
+Stops s first bytes recording held holds faults.TooLarge = HasReported s first bytes recording held holds
 Stops s first bytes recording held holds faults.Write = ⊤
 Stops s first bytes recording held holds faults.Memory = ⊤
-Stops s first bytes recording held holds (faults.Capture why at) = ToldUpTo s first bytes why at recording held holds
+Stops s first bytes recording held holds (faults.Capture why at) = ReportedUpTo s first bytes why at recording held holds
 
 abbrev pub recording_fault_of : TellFault → RecordingFault
 recording_fault_of tells.Write = faults.Write
@@ -104,9 +104,9 @@ abbrev pub device_fault_of : FileLack → DeviceFault
 device_fault_of lacks.Memory = devices.Recording faults.Memory
 device_fault_of lack = devices.Lack lack
 
--- bytes were read after these, and what is to be told of all was written
+-- bytes were read after these, and what is to be reported of all was written
 abbrev pub Pours : Selection → ℕ → List ℕ → Left → Left → RecordingTeller → Held → Held → Type 0
-Pours s first before from to recording held holds = ReadsOn before (λ bytes. HasTold s first bytes recording held holds) from to
+Pours s first before from to recording held holds = ReadsOn before (λ bytes. HasReported s first bytes recording held holds) from to
 
 -- up to where it is read no further
 abbrev pub PoursInVain : Selection → ℕ → List ℕ → Left → Left → RecordingTeller → Held → Held → RecordingFault → Type 0
@@ -121,8 +121,8 @@ IsWriteFault fault = ⊥
 -- all lines were written of what a teller has taken, and whether something is found
 abbrev pub EndsWhole : RecordingTeller → Held → Held → Bool → Type 0
 EndsWhole recording old new found =
-    (s : Selection) (first : ℕ) (bytes : List ℕ) (held : Held) → HasTold s first bytes recording held old → ToldWhole s first bytes held new found
+    (s : Selection) (first : ℕ) (bytes : List ℕ) (held : Held) → HasReported s first bytes recording held old → ReportedWhole s first bytes held new found
 
 -- the fault of a recording after all lines of what came before it, or one of writing these
 abbrev pub EndsBroken : Selection → ℕ → List ℕ → CaptureFault → ℕ → Held → Held → RecordingFault → Type 0
-EndsBroken s first bytes why at held holds fault = ((fault ≡ faults.Capture why at) × ToldBroken s first bytes why at held holds) ⊎ IsWriteFault fault
+EndsBroken s first bytes why at held holds fault = ((fault ≡ faults.Capture why at) × ReportedBroken s first bytes why at held holds) ⊎ IsWriteFault fault

@@ -128,7 +128,7 @@ abbrev pub met_at : Option ℕ → Option DeviceAddress → ℕ → List SeenDev
 met_at None device n devices = devices ++ first_seen device n ∷ []
 met_at (Some place) device n devices = slice_set devices place (with_findings n (slice_index_or devices place (first_seen device n)))
 
--- a device has so many findings more
+-- a device has this many findings more
 abbrev pub met : Option DeviceAddress → ℕ → List SeenDevice → List SeenDevice
 met device n devices = met_at (position (is_seen_in device) devices) device n devices
 
@@ -157,11 +157,11 @@ undecoded_part n = if n == 0 then [] else codes "no transfer: " ++ count n (code
 unfoldable pub frames_line : ℕ → ℕ → Option ℕ → List ℕ
 frames_line n origin last = count n (codes "frame") ++ span_words origin last ++ codes "\n"
 
--- frames, and those that tell of no transfer, where so many do
+-- frames, and those that tell of no transfer, where this many do
 unfoldable pub counts_lines : Tally → ℕ → List ℕ
 counts_lines tally decoded = frames_line tally.frames tally.origin tally.last ++ undecoded_part (tally.frames - decoded)
 
--- so many bytes are left of a part that isn't whole, which begins at this place
+-- this many bytes are left of a part that isn't whole, which begins at this place
 abbrev pub cut_line : ℕ → ℕ → List ℕ
 cut_line place left =
     if left == 0 then []
@@ -237,26 +237,26 @@ abbrev pub first_part : ℕ → Option ℕ → ℕ → List ℕ
 first_part first None link = first_line first link
 first_part first (Some before) link = []
 
--- what is told of a file with this first byte
-abbrev pub told_text : Selection → ℕ → List Frame → List Observed → List ℕ
-told_text s first [] observed = []
-told_text s first (f ∷ frames) [] = []
-told_text s first (f ∷ frames) (x ∷ observed) =
-    told_text s first frames observed ++ first_part first (tally_of frames).link f.link
+-- what is reported of a file with this first byte
+abbrev pub reported_text : Selection → ℕ → List Frame → List Observed → List ℕ
+reported_text s first [] observed = []
+reported_text s first (f ∷ frames) [] = []
+reported_text s first (f ∷ frames) (x ∷ observed) =
+    reported_text s first frames observed ++ first_part first (tally_of frames).link f.link
     ++ (over_lines s (tally_of (f ∷ frames)).origin (overs observed) (over_by observed x) ++ bus_lines s (tally_of (f ∷ frames)).origin (found_by observed x))
 
 -- the last readings of the devices that have their addresses at the end
 abbrev pub readings_in : List Observed → List ControlTransfer
 readings_in observed = current_after [] (reverse (overs observed))
 
--- and at its end, where so many bytes are left of a part that isn't whole and begins at this place
+-- and at its end, where this many bytes are left of a part that isn't whole and begins at this place
 abbrev pub ended_text : Selection → List Frame → List Observed → ℕ → ℕ → List ℕ
 ended_text s frames observed place left =
     last_lines s (tally_of frames) (decoded_of observed) (open_after [] (events observed)) (pipes_in (transactions observed)).held (readings_in observed)
     (devices_of observed) place left
 
 abbrev pub capture_text : Selection → ℕ → List Frame → List Observed → ℕ → ℕ → List ℕ
-capture_text s first frames observed place left = told_text s first frames observed ++ ended_text s frames observed place left
+capture_text s first frames observed place left = reported_text s first frames observed ++ ended_text s frames observed place left
 
 -- whether something is found
 abbrev pub is_any_found : Selection → List Observed → Bool

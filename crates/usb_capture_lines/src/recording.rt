@@ -2,8 +2,8 @@
 ghost use Rattle.std.specs.Prelude.{◌≡◌, ◌∷◌, ℕ, List, [], IfErr, IfOk, OnOk};
 ghost use Rattle.std.specs.Io.KnownBytes.{IsAtEnd, Keeps};
 ghost use Rattle.usb_text.specs.Output.{Held};
-ghost use Rattle.usb_capture_lines.specs.RecordingRuns.{EndsBroken, EndsWhole, HasNoFile, IsWriteFault, Left, MakesFile, Pours, PoursInVain, ReadsByte, ReadsOn, RecordingStops, RecordingTold, Stops, StopsTelling, ToldAfter, device_fault_of, first_byte, recording_fault_of};
-ghost use Rattle.usb_capture_lines.specs.RecordingTellers.{HasTold, ToldUpTo};
+ghost use Rattle.usb_capture_lines.specs.RecordingRuns.{EndsBroken, EndsWhole, HasNoFile, IsWriteFault, Left, MakesFile, Pours, PoursInVain, ReadsByte, ReadsOn, RecordingStops, RecordingReported, Stops, StopsTelling, ReportedAfter, device_fault_of, first_byte, recording_fault_of};
+ghost use Rattle.usb_capture_lines.specs.RecordingTellers.{HasReported, ReportedUpTo};
 ghost use Rattle.usb_capture_lines.specs.declared.recording.RecordingFault.TheVariants as faults;
 ghost use Rattle.usb_capture_lines.specs.declared.selection.Selection.{Selection};
 
@@ -18,7 +18,7 @@ use usb_text::OutFault;
 /// How many bytes are asked of the reader at a time.
 const CHUNK: usize = 4096;
 
-/// Why a recording was told no further.
+/// Why a recording was reported no further.
 #[derive(Clone, Copy, Debug, PartialEq, Eq, Hash)]
 pub enum RecordingFault {
     /// The reader answered an error.
@@ -57,7 +57,7 @@ pub fn tell_recording<R: Read, W: Write>(
     r: &mut R,
     w: &mut W,
 ) -> Result<bool, RecordingFault>
-    ensures ok { IfOk result (RecordingTold selection (R.remaining r.old) (R.remaining r.new) (W.contents w.old) (W.contents w.new)) }
+    ensures ok { IfOk result (RecordingReported selection (R.remaining r.old) (R.remaining r.new) (W.contents w.old) (W.contents w.new)) }
     ensures err { IfErr result (RecordingStops selection (R.remaining r.old) (R.remaining r.new) (W.contents w.old) (W.contents w.new)) }
 {
     match read_byte(r) {
@@ -75,7 +75,7 @@ fn tell_rest<R: Read, W: Write>(
     r: &mut R,
     w: &mut W,
 ) -> Result<bool, RecordingFault>
-    ensures ok { IfOk result (ToldAfter selection (first ∷ []) (R.remaining r.old) (R.remaining r.new) (W.contents w.old) (W.contents w.new)) }
+    ensures ok { IfOk result (ReportedAfter selection (first ∷ []) (R.remaining r.old) (R.remaining r.new) (W.contents w.old) (W.contents w.new)) }
     ensures err { IfErr result (λ fault. ReadsOn (first ∷ []) (λ bytes. StopsTelling selection bytes (W.contents w.old) (W.contents w.new) fault) (R.remaining r.old) (R.remaining r.new)) }
 {
     let mut recording = RecordingTeller::new(alloc, selection, first);
@@ -121,7 +121,7 @@ fn end_at<W: Write>(
     at: u64,
     w: &mut W,
 ) -> RecordingFault
-    ensures { (s : Selection) (first : ℕ) (bytes : List ℕ) (held : Held) → ToldUpTo s first bytes why at recording.now held (W.contents w.old)
+    ensures { (s : Selection) (first : ℕ) (bytes : List ℕ) (held : Held) → ReportedUpTo s first bytes why at recording.now held (W.contents w.old)
         → EndsBroken s first bytes why at held (W.contents w.new) result }
 {
     match recording.finish_at(at, w) {
@@ -145,7 +145,7 @@ fn flush<W: Write>(w: &mut W) -> Result<(), RecordingFault>
     }
 }
 
-/// Reads a recording to its end, after its first byte, and writes what is to be told of its frames.
+/// Reads a recording to its end, after its first byte, and writes what is to be reported of its frames.
 fn read_recording<R: Read, W: Write>(
     recording: &mut RecordingTeller,
     first: u8,
@@ -153,9 +153,9 @@ fn read_recording<R: Read, W: Write>(
     w: &mut W,
 ) -> Result<(), RecordingFault>
     ensures ended { OnOk result (IsAtEnd (R.remaining r.new)) }
-    ensures ok { OnOk result ((s : Selection) (held : Held) → HasTold s first [] recording.old held (W.contents w.old)
+    ensures ok { OnOk result ((s : Selection) (held : Held) → HasReported s first [] recording.old held (W.contents w.old)
         → Pours s first (first ∷ []) (R.remaining r.old) (R.remaining r.new) recording.new held (W.contents w.new)) }
-    ensures err { IfErr result (λ stop. (s : Selection) (held : Held) → HasTold s first [] recording.old held (W.contents w.old)
+    ensures err { IfErr result (λ stop. (s : Selection) (held : Held) → HasReported s first [] recording.old held (W.contents w.old)
         → PoursInVain s first (first ∷ []) (R.remaining r.old) (R.remaining r.new) recording.new held (W.contents w.new) stop) }
 {
     match recording.take(&[first], w) {
@@ -171,9 +171,9 @@ fn read_rest<R: Read, W: Write>(
     w: &mut W,
 ) -> Result<(), RecordingFault>
     ensures ended { OnOk result (IsAtEnd (R.remaining r.new)) }
-    ensures ok { OnOk result ((s : Selection) (first : ℕ) (before : List ℕ) (held : Held) → HasTold s first before recording.old held (W.contents w.old)
+    ensures ok { OnOk result ((s : Selection) (first : ℕ) (before : List ℕ) (held : Held) → HasReported s first before recording.old held (W.contents w.old)
         → Pours s first before (R.remaining r.old) (R.remaining r.new) recording.new held (W.contents w.new)) }
-    ensures err { IfErr result (λ stop. (s : Selection) (first : ℕ) (before : List ℕ) (held : Held) → HasTold s first before recording.old held (W.contents w.old)
+    ensures err { IfErr result (λ stop. (s : Selection) (first : ℕ) (before : List ℕ) (held : Held) → HasReported s first before recording.old held (W.contents w.old)
         → PoursInVain s first before (R.remaining r.old) (R.remaining r.new) recording.new held (W.contents w.new) stop) }
 {
     let mut buffer = [0u8; CHUNK];
@@ -254,8 +254,8 @@ fn read_device_rest<R: Read>(
 
 /// What is made of the descriptors of a device.
 fn file_of(recording: &RecordingTeller, device: DeviceAddress) -> Result<DeviceFile, DeviceFault>
-    ensures ok { IfOk result (λ file. (s : Selection) (first : ℕ) (bytes : List ℕ) (held holds : Held) → HasTold s first bytes recording.now held holds → MakesFile device bytes file) }
-    ensures err { IfErr result (λ fault. (s : Selection) (first : ℕ) (bytes : List ℕ) (held holds : Held) (to : Left) → HasTold s first bytes recording.now held holds → IsAtEnd to
+    ensures ok { IfOk result (λ file. (s : Selection) (first : ℕ) (bytes : List ℕ) (held holds : Held) → HasReported s first bytes recording.now held holds → MakesFile device bytes file) }
+    ensures err { IfErr result (λ fault. (s : Selection) (first : ℕ) (bytes : List ℕ) (held holds : Held) (to : Left) → HasReported s first bytes recording.now held holds → IsAtEnd to
         → HasNoFile device to bytes fault) }
 {
     match recording.file(device) {

@@ -7,7 +7,7 @@ ghost use Rattle.usb_capture.specs.declared.frame.Frame.{Frame};
 ghost use Rattle.usb_capture.specs.DeviceFiles.{IsLack, IsMade};
 ghost use Rattle.usb_text.specs.Output.{Held};
 ghost use Rattle.usb_capture_lines.specs.Recordings.{asked_at};
-ghost use Rattle.usb_capture_lines.specs.RecordingTellers.{Halts, HasTold, TellerTold, ToldBroken, ToldUpTo, ToldWhole, readings_of, tell_fault_of};
+ghost use Rattle.usb_capture_lines.specs.RecordingTellers.{Halts, HasReported, TellerReported, ReportedBroken, ReportedUpTo, ReportedWhole, readings_of, tell_fault_of};
 ghost use Rattle.usb_capture_lines.specs.declared.selection.Selection.{Selection};
 
 use crate::selection::{DeviceAddress, Selection};
@@ -18,7 +18,7 @@ use usb_capture::{CaptureFault, CaptureReader, DeviceFile, FileLack, Frame};
 use usb_fields::after;
 use usb_text::OutFault;
 
-/// Why a recording is told no further.
+/// Why a recording is reported no further.
 #[derive(Clone, Copy, Debug, PartialEq, Eq, Hash)]
 pub enum TellFault {
     /// The writer answered an error.
@@ -60,7 +60,7 @@ pub struct RecordingTeller {
 impl RecordingTeller {
     /// One that has taken nothing of a recording with this first byte.
     pub fn new(alloc: Global, selection: Selection, first: u8) -> RecordingTeller
-        ensures { (held : Held) → HasTold selection first [] result held held }
+        ensures { (held : Held) → HasReported selection first [] result held held }
     {
         RecordingTeller {
             reader: CaptureReader::new(alloc),
@@ -74,9 +74,9 @@ impl RecordingTeller {
     ///
     /// `Capture` with a fault of the recording, `Write` where the writer failed, and `Memory`.
     pub fn take<W: Write>(&mut self, piece: &[u8], w: &mut W) -> Result<(), TellFault>
-        ensures ok { OnOk result ((s : Selection) (first : ℕ) (bytes : List ℕ) (held : Held) → HasTold s first bytes self.old held (W.contents w.old)
-            → HasTold s first (bytes ++ piece.now) self.new held (W.contents w.new)) }
-        ensures err { IfErr result (λ fault. (s : Selection) (first : ℕ) (bytes : List ℕ) (held : Held) → HasTold s first bytes self.old held (W.contents w.old)
+        ensures ok { OnOk result ((s : Selection) (first : ℕ) (bytes : List ℕ) (held : Held) → HasReported s first bytes self.old held (W.contents w.old)
+            → HasReported s first (bytes ++ piece.now) self.new held (W.contents w.new)) }
+        ensures err { IfErr result (λ fault. (s : Selection) (first : ℕ) (bytes : List ℕ) (held : Held) → HasReported s first bytes self.old held (W.contents w.old)
             → Halts s first (bytes ++ piece.now) self.new held (W.contents w.new) fault) }
     {
         let mut rest = piece;
@@ -95,9 +95,9 @@ impl RecordingTeller {
     /// Takes bytes from the beginning of a piece, one at least if there is one, up to the end of a part. Answers how many.
     fn take_front<W: Write>(&mut self, piece: &[u8], w: &mut W) -> Result<usize, TellFault>
         ensures within { IfOk result (λ used. used ≤ length piece.now) }
-        ensures ok { IfOk result (λ used. (s : Selection) (first : ℕ) (bytes : List ℕ) (held : Held) → HasTold s first bytes self.old held (W.contents w.old)
-            → (0 < length piece.now → 0 < used) × HasTold s first (bytes ++ take used piece.now) self.new held (W.contents w.new)) }
-        ensures err { IfErr result (λ fault. (s : Selection) (first : ℕ) (bytes : List ℕ) (held : Held) → HasTold s first bytes self.old held (W.contents w.old)
+        ensures ok { IfOk result (λ used. (s : Selection) (first : ℕ) (bytes : List ℕ) (held : Held) → HasReported s first bytes self.old held (W.contents w.old)
+            → (0 < length piece.now → 0 < used) × HasReported s first (bytes ++ take used piece.now) self.new held (W.contents w.new)) }
+        ensures err { IfErr result (λ fault. (s : Selection) (first : ℕ) (bytes : List ℕ) (held : Held) → HasReported s first bytes self.old held (W.contents w.old)
             → Halts s first (bytes ++ piece.now) self.new held (W.contents w.new) fault) }
     {
         match self.reader.feed(piece) {
@@ -115,8 +115,8 @@ impl RecordingTeller {
     ///
     /// `Write` and `Memory`.
     pub fn finish<W: Write>(&self, w: &mut W) -> Result<bool, OutFault>
-        ensures { IfOk result (λ found. (s : Selection) (first : ℕ) (bytes : List ℕ) (held : Held) → HasTold s first bytes self.now held (W.contents w.old)
-            → ToldWhole s first bytes held (W.contents w.new) found) }
+        ensures { IfOk result (λ found. (s : Selection) (first : ℕ) (bytes : List ℕ) (held : Held) → HasReported s first bytes self.now held (W.contents w.old)
+            → ReportedWhole s first bytes held (W.contents w.new) found) }
     {
         self.teller
             .finish(self.reader.place(), self.reader.pending(), w)?;
@@ -129,8 +129,8 @@ impl RecordingTeller {
     ///
     /// `Write` and `Memory`.
     pub fn finish_at<W: Write>(&self, at: u64, w: &mut W) -> Result<(), OutFault>
-        ensures { OnOk result ((s : Selection) (first : ℕ) (bytes : List ℕ) (why : CaptureFault) (held : Held) → ToldUpTo s first bytes why at self.now held (W.contents w.old)
-            → ToldBroken s first bytes why at held (W.contents w.new)) }
+        ensures { OnOk result ((s : Selection) (first : ℕ) (bytes : List ℕ) (why : CaptureFault) (held : Held) → ReportedUpTo s first bytes why at self.now held (W.contents w.old)
+            → ReportedBroken s first bytes why at held (W.contents w.new)) }
     {
         if self.teller.has_begun() {
             self.teller.finish(at, 0, w)
@@ -154,8 +154,8 @@ impl RecordingTeller {
 
 /// Writes what is to be said with a frame, if there is one.
 fn tell<W: Write>(teller: &mut Teller, frame: Option<Frame>, w: &mut W) -> Result<(), OutFault>
-    ensures { OnOk result ((s : Selection) (first : ℕ) (frames : List Frame) (held : Held) → TellerTold s first frames teller.old held (W.contents w.old)
-        → TellerTold s first (frames ++ option_to_list frame) teller.new held (W.contents w.new)) }
+    ensures { OnOk result ((s : Selection) (first : ℕ) (frames : List Frame) (held : Held) → TellerReported s first frames teller.old held (W.contents w.old)
+        → TellerReported s first (frames ++ option_to_list frame) teller.new held (W.contents w.new)) }
 {
     match frame {
         Some(frame) => teller.take(&frame, w),
@@ -163,7 +163,7 @@ fn tell<W: Write>(teller: &mut Teller, frame: Option<Frame>, w: &mut W) -> Resul
     }
 }
 
-/// Why a recording with this fault is told no further.
+/// Why a recording with this fault is reported no further.
 fn fault_at(why: CaptureFault, at: u64) -> TellFault
     ensures { result ≡ tell_fault_of why at }
 {

@@ -17,7 +17,7 @@ pub struct SeenDevice {
 }
 
 impl SeenDevice {
-    /// One that is first seen with so many findings.
+    /// One that is first seen with this many findings.
     pub(crate) fn first(address: Option<DeviceAddress>, count: usize) -> SeenDevice
         ensures { result ≡ first_seen address count }
     {
@@ -37,7 +37,7 @@ impl SeenDevice {
         }
     }
 
-    /// With so many findings more.
+    /// With this many findings more.
     pub(crate) fn with_findings(self, count: usize) -> SeenDevice
         ensures { result ≡ with_findings count self }
     {
@@ -48,7 +48,7 @@ impl SeenDevice {
     }
 }
 
-/// Counts so many findings more of a device, which may be a new one.
+/// Counts this many findings more of a device, which may be a new one.
 pub(crate) fn meet(
     devices: &mut Vec<SeenDevice>,
     device: Option<DeviceAddress>,

@@ -220,7 +220,7 @@ impl Teller {
         finds_any(&self.selection, &self.devices)
     }
 
-    /// Writes the last lines, where so many bytes are left of a part of the file that isn't whole and begins at this place.
+    /// Writes the last lines, where this many bytes are left of a part of the file that isn't whole and begins at this place.
     ///
     /// # Errors
     ///

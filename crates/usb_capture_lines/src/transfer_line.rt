@@ -71,7 +71,7 @@ fn put_time(text: &mut Text, origin: u64, time: Option<u64>) -> Result<(), Alloc
     }
 }
 
-/// Puts so many nanoseconds in seconds, with six digits after the point.
+/// Puts this many nanoseconds in seconds, with six digits after the point.
 #[tactic(auto, unfolding(crate::specs::Lines::seconds_words))]
 pub(crate) fn put_seconds(text: &mut Text, nanoseconds: u64) -> Result<(), AllocError>
     ensures { OnOk result (text.new ≡ text.old ++ seconds_words nanoseconds) }
@@ -89,7 +89,7 @@ pub(crate) fn put_seconds(text: &mut Text, nanoseconds: u64) -> Result<(), Alloc
     ])
 }
 
-/// The digit of a number that counts so many.
+/// The digit of a number that counts this many.
 fn digit_at(number: u64, unit: u64) -> u8
     requires { 0 < unit }
     ensures { result ≡ digit_at number unit }
@@ -228,7 +228,7 @@ fn put_rows(text: &mut Text, bytes: &[u8]) -> Result<(), AllocError>
     Ok(())
 }
 
-/// Puts a byte of a row that has room for so many, or of the next one. Answers how many have room after it.
+/// Puts a byte of a row that has room for this many, or of the next one. Answers how many have room after it.
 fn put_byte(text: &mut Text, room: u8, byte: u8) -> Result<u8, AllocError>
     ensures text { OnOk result (text.new ≡ text.old ++ byte_part room byte) }
     ensures room { IfOk result (λ left. left ≡ room_after room) }

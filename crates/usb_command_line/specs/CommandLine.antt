@@ -64,7 +64,7 @@ abbrev pub explain_app : App
 explain_app = command_with (codes "explain")
     (flag_rule (codes "brief") ∷ flag_rule (codes "no-places") ∷ flag_rule (codes "utf8") ∷ flag_rule (codes "hex") ∷ flag_rule (codes "loose") ∷ flag_rule (codes "formats") ∷ chosen_rule (codes "speed") ∷ [])
 
--- the options of `enumerate`: what the host is, what befalls the packets and whether they are told, and which strings and sets
+-- the options of `enumerate`: what the host is, what befalls the packets and whether they are reported, and which strings and sets
 -- are wanted
 abbrev pub host_rules : List Rule
 host_rules = chosen_rule (codes "speed") ∷ address_rule ∷ naks_rule ∷ attempts_rule ∷ []

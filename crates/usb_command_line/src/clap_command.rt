@@ -124,7 +124,7 @@ fn add_host_options<'a>(alloc: Global, command: Command<'a>) -> Result<Command<'
     add_option(command, attempts(alloc))
 }
 
-/// The command with the options that say what befalls the packets, and whether they are told.
+/// The command with the options that say what befalls the packets, and whether they are reported.
 fn add_bus_options<'a>(alloc: Global, command: Command<'a>) -> Result<Command<'a>, AllocError>
     ensures app { IfOk result (λ c. app_of c ≡ with_rules (app_of command.entry) bus_rules) }
     ensures local { IfOk result (λ c. (out-Command c).has_globals ≡ (out-Command command.entry).has_globals) }

@@ -22,7 +22,7 @@ packet_fits f none =
     let device = device_right f none in
     grind (arith, nat_tests)
 
--- each packet has at most so many bytes
+-- each packet has at most this many bytes
 abbrev AreShort : ℕ → List (List ℕ) → Type 0
 AreShort n [] = Unit {0}
 AreShort n (p ∷ ps) = (length p ≤ n) × AreShort n ps

@@ -42,7 +42,7 @@ next_place o n pos whole =
     let on : o + n ≡ suc k * n = grind arith in
     rw on (mul-div_cancel (suc k) pos)
 
--- after a whole packet before the end another one is due
+-- after a whole packet before the end another one comes next
 pub stage_goes_on : (q : Setup) (b : List ℕ) (n o : ℕ) → 0 < n → o ≡ o / n * n → o + n ≤ length b → o + n < q.length → next_stage q b (o / n) (drop (suc (o / n)) (packets b n q.length)) ≡ Sending q b (suc (o / n))
 stage_goes_on q b n o pos whole inside asked =
     let on : suc (o / n) * n ≡ o + n = grind arith in
@@ -86,7 +86,7 @@ module _ (image room : List ℕ) (d : DataStage) (pos : 0 < packet_in image) (h 
   data_length : length (data_bytes image room d) ≡ d.count
   data_length = length-take-le d.count (source_bytes image room d d.source) h.count
 
-  -- the packet that is due stands at the offset
+  -- the next packet stands at the offset
   pub packets_left : drop (d.offset / packet_in image) (packets (data_bytes image room d) (packet_in image) d.request.length) ≡ take (packet_in image) (drop d.offset (data_bytes image room d)) ∷ drop (suc (d.offset / packet_in image)) (packets (data_bytes image room d) (packet_in image) d.request.length)
   packets_left =
       let within : d.offset ≤ length (data_bytes image room d) = omega (arith, h.inside, data_length) in

@@ -187,13 +187,13 @@ module _ (image room after : List ℕ) (d : DataStage) (toggle : Toggle) (n : �
 
 -- the last packet: the owner is asked
 pub gathers_last : (image room after : List ℕ) (e : EndpointZero) (stage toggle : ℕ) (came : Toggle) (bytes : List ℕ) → stage_at e.stage ≡ stages.Receiving → IsReceiving image room (data_of e) → e.pending ≡ false → came ≡ toggle_at e.toggle → length bytes ≡ min (packet_in image) ((request_of e).length - e.offset) → length bytes ≡ (request_of e).length - e.offset → stage_at stage ≡ stages.Written → take (e.offset + length bytes) after ≡ take e.offset room ++ bytes → device_of image after (record e { stage = stage; toggle = toggle; offset = e.offset + length bytes }) ≡ (received_by image room e came bytes).device
-gathers_last image room after e stage toggle came bytes at h heard right due all ends kept =
+gathers_last image room after e stage toggle came bytes at h received right due all ends kept =
     let q = request_of e in
     let got = written_bytes room (data_of e) in
     let long : length got ≡ e.offset = length-take-le e.offset room (omega (arith, h.more, h.is_write.fits)) in
     let same : is_same_toggle (toggle_at e.toggle) (awaited (packet_in image) (length got)) ≡ true =
     rw (long, h.is_write.toggle) (same_self (awaited (packet_in image) e.offset)) in
     let fits : (length bytes == min (packet_in image) (q.length - length got)) ≡ true = rw long (grind (arith, nat_tests, due)) in
-    rw (at, ends, heard, right, same, fits, last_gathered (offer_in image) e.state q h.is_write.write got bytes (rw long (omega (arith, h.more))) (rw long all), kept) refl
+    rw (at, ends, received, right, same, fits, last_gathered (offer_in image) e.state q h.is_write.write got bytes (rw long (omega (arith, h.more))) (rw long all), kept) refl
 
 pub ruleset writes = (gathers_last, write_goes_on, write_ends)

@@ -30,7 +30,7 @@ abbrev pub IsSameStatus : Reply → Reply → Type 0
 IsSameStatus (DataReply t (a ∷ b ∷ [])) (DataReply u (c ∷ d ∷ [])) = (t ≡ u) × (a / 2 ≡ c / 2) × (b ≡ d)
 IsSameStatus came has = ⊥
 
--- Whether an answer in the data stage or the status stage is free: the device hears it, and no SETUP is.
+-- Whether an answer in the data stage or the status stage is free: the device receives it, and no SETUP is.
 abbrev pub is_in_transfer : Token → Reply → Bool
 is_in_transfer (SetupToken bytes) has = false
 is_in_transfer token NoReply = false
@@ -74,7 +74,7 @@ abbrev pub after_transaction : Bool → Setup → ℕ → OpenTransfer → Token
 after_transaction true q packet t token came has = after_answer q packet t token came
 after_transaction false q packet t token came has = if begins token has then new_transfer else t
 
--- Where a packet with these bytes and this toggle is due.
+-- Where a packet with these bytes and this toggle is expected.
 abbrev pub differs_from_data : Reply → Toggle → List ℕ → Difference
 differs_from_data NoReply toggle bytes = differs.Address
 differs_from_data StallReply toggle bytes = differs.Stall
@@ -83,7 +83,7 @@ differs_from_data came toggle [] = differs.Empty
 differs_from_data (DataReply t b) toggle bytes = if is_same_toggle t toggle then differs.Bytes else differs.Toggle
 differs_from_data came toggle bytes = differs.Kind
 
--- Where a handshake is due.
+-- Where a handshake is expected.
 abbrev pub differs_from_handshake : Reply → Difference
 differs_from_handshake NoReply = differs.Address
 differs_from_handshake StallReply = differs.Stall

@@ -39,7 +39,7 @@ abbrev pub other_pieces : Option Other → List Piece
 other_pieces None = []
 other_pieces (Some o) = keyed 6 0 (qualifier_bytes o.qualifier) ∷ indexed 7 0 (map whole_set o.sets)
 
--- the places of the strings of these indices, where so many indices are left, from this one on, and the strings from this place
+-- the places of the strings of these indices, where this many indices are left, from this one on, and the strings from this place
 -- on, and where the last one ends
 unfoldable pub places : ℕ → ℕ → ℕ → List ℕ → List (List ℕ) → List ℕ
 places zero next at named texts = at ∷ []

@@ -67,7 +67,7 @@ piece_in b = record {
 abbrev pub rest_in : List ℕ → List ℕ
 rest_in b = drop (count_in b) (drop 8 b)
 
--- the pieces, at most so many, where each has what is before its bytes
+-- the pieces, at most this many, where each has what is before its bytes
 unfoldable pub pieces_within : ℕ → List ℕ → List Piece
 pieces_within zero b = []
 pieces_within (suc n) b = if nat_lt (length b) 8 then [] else piece_in b ∷ pieces_within n (rest_in b)

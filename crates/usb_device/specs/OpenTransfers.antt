@@ -29,7 +29,7 @@ is_status q InToken = not (asks_for_bytes q)
 is_status q (OutToken Data1 []) = asks_for_bytes q
 is_status q (OutToken toggle bytes) = false
 
--- Whether the next packet of the data stage may have so many bytes: no more than a packet has and than wLength leaves (8.5.3), and
+-- Whether the next packet of the data stage may have this many bytes: no more than a packet has and than wLength leaves (8.5.3), and
 -- where the host has not acknowledged it, those that it had (8.6.4). None comes after the last one.
 abbrev pub may_have : ℕ → ℕ → OpenTransfer → OpenStage → ℕ → Bool
 may_have packet limit t Due count = nat_le count (min packet (limit - t.acknowledged))
@@ -59,7 +59,7 @@ may_answer q packet t token came = false
 
 -- The transfer after each answer that may come.
 
--- a packet of so many bytes was sent: a short one, and one with the last of wLength bytes, ends the data stage (8.5.3.2)
+-- a packet of this many bytes was sent: a short one, and one with the last of wLength bytes, ends the data stage (8.5.3.2)
 abbrev pub with_packet : ℕ → ℕ → OpenTransfer → ℕ → OpenTransfer
 with_packet packet limit t count = record t {
   sent = t.acknowledged + count;

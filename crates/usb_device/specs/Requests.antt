@@ -41,7 +41,7 @@ abbrev pub gives : State → Setup → Option (List ℕ) → Outcome
 gives s q None = Refused
 gives s q (Some bytes) = if q.length == 0 then Done s else bytes_in (direction_of q.request_type) (take q.length bytes)
 
--- these bytes, where just so many are asked for
+-- these bytes, where just this many are asked for
 abbrev pub tells : Setup → List ℕ → Outcome
 tells q bytes = when (q.length == length bytes) (bytes_in (direction_of q.request_type) bytes)
 

@@ -84,7 +84,7 @@ status_out s stage Data1 (byte ∷ bytes) = stalls s
 abbrev pub late_out : State → Setup → Bool → Served
 late_out s q carried = if q.length == 0 then stalls s else replies AckReply s (StatusIn q carried) false
 
--- the toggle that is awaited after so many bytes, which came in packets of this size: DATA1 first (8.5.3)
+-- the toggle that is awaited after this many bytes, which came in packets of this size: DATA1 first (8.5.3)
 abbrev pub awaited : ℕ → ℕ → Toggle
 awaited packet count = toggle_of ((count + (packet - 1)) / packet)
 

@@ -60,12 +60,12 @@ abbrev pub first_packet : List (List ℕ) → List ℕ
 first_packet [] = []
 first_packet (p ∷ rest) = p
 
--- the bytes of the packet that is due, which in the status stage are none
+-- the bytes of the next packet, which in the status stage are none
 abbrev pub packet_due : ℕ → DeviceStage → List ℕ
 packet_due size (Sending q b k) = first_packet (drop k (packets b size q.length))
 packet_due size stage = []
 
--- the reply, where these are the bytes of the packet that is due
+-- the reply, where these are the bytes of the next packet
 abbrev pub reply_with : List ℕ → Reaction → Reply
 reply_with bytes Ack = AckReply
 reply_with bytes Nak = NakReply
@@ -74,7 +74,7 @@ reply_with bytes (Packet toggle) = DataReply toggle bytes
 reply_with bytes Empty = DataReply Data1 []
 reply_with bytes Silence = NoReply
 
--- the reply, where its bytes are those of the packet that is due
+-- the reply, where its bytes are those of the next packet
 abbrev pub replied : List ℕ → List ℕ → EndpointZero → Reaction → Reply
 replied image room e reaction = reply_with (packet_due (packet_in image) (stage_in image room e)) reaction
 

@@ -104,7 +104,7 @@ impl From<AllocError> for DescriptionFault {
     }
 }
 
-/// Rejects a file that is no description of a device of this speed. Its sets have bytes, and it names so many strings.
+/// Rejects a file that is no description of a device of this speed. Its sets have bytes, and it names this many strings.
 pub(crate) fn examine(
     alloc: Global,
     f: &DescriptorFile,
@@ -141,7 +141,7 @@ pub(crate) fn has_wrong_sets(f: &DescriptorFile) -> bool
     }
 }
 
-/// Whether the strings are not those of so many named indices, or are not distinct.
+/// Whether the strings are not those of this many named indices, or are not distinct.
 #[tactic(auto, unfolding(crate::specs::Accepted::has_wrong_strings))]
 fn has_wrong_strings(f: &DescriptorFile, count: usize) -> bool
     requires count { count ≡ length (named_indices f.now) }

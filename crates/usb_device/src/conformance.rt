@@ -8,10 +8,10 @@ use crate::open_transfer::OpenTransfer;
 use usb_fields::laws::equal_answers_say_the_same;
 use usb_fields::{Answer, Setup, Stage, Toggle};
 
-/// Why a device under test may not answer so: what is due is another answer (USB 2.0, chapters 8 and 9).
+/// Why a device under test may not answer so: another answer is expected (USB 2.0, chapters 8 and 9).
 ///
 /// ```rust
-/// // DATA0 where DATA1 is due.
+/// // DATA0 where DATA1 is expected.
 /// let came = Answer::Data(Toggle::Data0, &[]);
 /// let has = Answer::Data(Toggle::Data1, &[]);
 /// let mut transfer = OpenTransfer::new();
@@ -59,7 +59,7 @@ pub fn is_ready(came: Answer<'_>) -> bool
     !matches!(came, Answer::Nak)
 }
 
-/// Judges one transaction of a device under test, in the transfer of this request, with packets of so many bytes. `came` is its
+/// Judges one transaction of a device under test, in the transfer of this request, with packets of this many bytes. `came` is its
 /// answer; `has` is that of a [`Device`](crate::Device) of the same descriptors, which had the same transactions, to this one where
 /// [`is_ready`] says whether it is ready. `free` is whether the outcome of the transfer is open to a device:
 /// [`EndpointZero::is_free`](crate::EndpointZero::is_free).

@@ -41,7 +41,7 @@ use usb_fields::{Setup, Stage as Token, Toggle, Transaction};
 pub struct EndpointZero {
     /// The stage in a transfer: [`DeviceStage::of`](crate::DeviceStage::of).
     pub stage: u8,
-    /// In a data stage: the toggle of the packet that is due, or awaited. 0 is DATA0.
+    /// In a data stage: the toggle of the next packet, which is sent or awaited. 0 is DATA0.
     pub toggle: u8,
     /// In `Halted`: the host knows of the rejection. In `StatusIn`: the request was carried out, SET_ADDRESS excepted.
     pub settled: bool,

@@ -280,7 +280,7 @@ fn add_languages(
     Ok(())
 }
 
-/// The texts after so many.
+/// The texts after this many.
 fn after_those(texts: &[Sequence<u16>], count: usize) -> &[Sequence<u16>]
     ensures { result.now ≡ drop count texts.now }
 {

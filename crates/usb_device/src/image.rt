@@ -10,7 +10,7 @@ use crate::file_image::{HEAD, LANGUAGE, SETS, VERSION};
 use crate::piece::{Place, find};
 use crate::sets::Sets;
 use crate::string_table;
-use usb_fields::{descriptor_type, word_at};
+use usb_fields::descriptor_type;
 
 /// All that a device answers from, as one byte string that is read where it lies: what [`write_image`](crate::write_image)
 /// wrote, or any other bytes.
@@ -29,7 +29,8 @@ impl<'a> Image<'a> {
     {
         match self.bytes {
             [_, _, p0, p1, ..] => usize::from(u16::from_le_bytes([*p0, *p1])),
-            _ => usize::from(word_at(self.bytes, 2)),
+            [_, _, p0] => usize::from(*p0),
+            _ => 0,
         }
     }
 

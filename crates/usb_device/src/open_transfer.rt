@@ -11,7 +11,7 @@ use usb_fields::{Answer, Direction, Setup, Stage, Toggle};
 /// Where a device under test is in such a transfer (USB 2.0, 8.5.3).
 #[derive(Clone, Copy, Debug, PartialEq, Eq, Hash)]
 pub enum OpenStage {
-    /// Its next packet is due, or a packet of the host's.
+    /// Its next packet comes, or one of the host's.
     Due,
     /// A packet was sent, and the host hasn't acknowledged it.
     Sent,
@@ -107,7 +107,7 @@ impl OpenTransfer {
         }
     }
 
-    /// Whether the next packet may have so many bytes.
+    /// Whether the next packet may have this many bytes.
     fn may_have(&self, packet: usize, limit: u16, count: usize) -> bool
         ensures { result ≡ may_have packet limit self.now self.now.stage count }
     {

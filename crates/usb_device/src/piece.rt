@@ -5,7 +5,7 @@ ghost use Rattle.usb_device.specs.Images.{body_of, count_in, find_in, has_key, h
 ghost use Rattle.usb_device.specs.inside.Places.{bytes_at, piece_of, IsPlace};
 
 use std::alloc::AllocError;
-use usb_fields::{after, byte_at, word_at, word_bytes};
+use usb_fields::{byte_at, word_at, word_bytes};
 
 /// How many bytes there are before those of a piece.
 const HEADER: usize = 8;
@@ -27,7 +27,7 @@ pub(crate) struct Place {
 }
 
 impl Place {
-    /// That of so many bytes from a place on, or of those that there are.
+    /// That of this many bytes from a place on, or of those that there are.
     #[inline(always)]
     pub(crate) fn new(bytes: &[u8], start: usize, count: usize) -> Place
         requires { start ≤ length bytes.now }
@@ -84,7 +84,7 @@ pub(crate) fn first(pieces: &[u8]) -> Option<(Piece<'_>, &[u8])>
     if pieces.len() < HEADER {
         return None;
     }
-    let (body, later) = cut(after(pieces, HEADER), count(pieces));
+    let (body, later) = cut(past(pieces, HEADER), count(pieces));
     let piece = Piece {
         kind: byte_at(pieces, 0),
         index: byte_at(pieces, 1),
@@ -94,7 +94,16 @@ pub(crate) fn first(pieces: &[u8]) -> Option<(Piece<'_>, &[u8])>
     Some((piece, later))
 }
 
-/// The first so many bytes, or all if there are fewer, and the others.
+/// The bytes after the first this many, which there are.
+#[inline(always)]
+pub(crate) fn past(bytes: &[u8], count: usize) -> &[u8]
+    requires { count ≤ length bytes.now }
+    ensures { result.now ≡ drop count bytes.now }
+{
+    &bytes[count..]
+}
+
+/// The first bytes, as many as `count`, or all if there are fewer, and the others.
 #[tactic(auto, using(std::proofs::lemmas::List::take_min, std::proofs::lemmas::List::drop_min))]
 #[inline(always)]
 fn cut(bytes: &[u8], count: usize) -> (&[u8], &[u8])
@@ -148,7 +157,7 @@ fn seek(pieces: &[u8], kind: u8, index: u8, number: u16) -> usize
     pieces.len()
 }
 
-/// Adds what is before so many bytes of a piece. With 4 GiB or more there is no memory, since a count has four bytes.
+/// Adds what is before this many bytes of a piece. With 4 GiB or more there is no memory, since a count has four bytes.
 pub(crate) fn add_header(
     pieces: &mut Vec<u8>,
     kind: u8,

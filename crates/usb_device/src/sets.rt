@@ -8,8 +8,7 @@ ghost use Rattle.usb_device.specs.Requests.{address_of, attributes_of, can_wake,
 ghost use Rattle.usb_device.specs.States.{without_halt};
 
 use crate::halts::without;
-use crate::piece;
-use usb_fields::after;
+use crate::piece::{self, past};
 
 /// The sets.
 #[derive(Clone, Copy)]
@@ -271,7 +270,7 @@ impl<'a> Iterator for Endpoints<'a> {
             address: *address,
             attributes: *attributes,
         };
-        self.bytes = after(self.bytes, 2);
+        self.bytes = past(self.bytes, 2);
         Some(endpoint)
     }
 }

@@ -13,7 +13,7 @@ pub enum Reaction {
     Nak,
     /// STALL: the request is rejected.
     Stall,
-    /// The packet that is due, [`EndpointZero::packet`](crate::EndpointZero::packet), with this toggle.
+    /// The next packet, [`EndpointZero::packet`](crate::EndpointZero::packet), with this toggle.
     Packet(Toggle),
     /// The empty packet of the status stage.
     Empty,
@@ -25,7 +25,7 @@ impl Reaction {
     ghost use Rattle.usb_fields.specs.Packets.{reply_of};
     ghost use Rattle.usb_device.specs.View.{reply_with};
 
-    /// The answer, where these are the bytes of the packet that is due.
+    /// The answer, where these are the bytes of the next packet.
     #[inline(always)]
     pub fn answer(self, packet: &[u8]) -> Answer<'_>
         ensures { reply_of result ≡ reply_with packet.entry.now self }
@@ -72,7 +72,7 @@ pub(crate) enum Decision {
 }
 
 /// The stage of a device in a transfer.
-// Those of a read stand side by side, so that an OUT there is told by one comparison.
+// Those of a read stand side by side, so that an OUT there is found by one comparison.
 #[derive(Clone, Copy, Debug, PartialEq, Eq, Hash)]
 pub enum Stage {
     /// In no transfer.

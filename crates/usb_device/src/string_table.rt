@@ -102,7 +102,7 @@ fn add_number(bytes: &mut Vec<u8>, n: usize) -> Result<(), AllocError>
     Ok(())
 }
 
-/// Adds the first of these texts, so many at most, as strings.
+/// Adds the first of these texts, this many at most, as strings.
 #[tactic(auto, using(crate::proofs::LongLemmas::short_at, std::proofs::lemmas::List::take_min))]
 fn add_strings(
     strings: &mut Vec<u8>,

@@ -60,7 +60,7 @@ block_has subject d =
     let some = heading_has subject d in
     omega (arith, three, two, one, some)
 
--- lines that showed this are so many more
+-- lines that showed this are this many more
 pub put_is : (shown : List Shown) (old new : LineBytes) → written new ≡ showing_all with_shown shown (written old) → written new ≡ more_lines (ends shown) (written old)
 put_is shown old new e = e ∙ shown_lines shown (written old)
 

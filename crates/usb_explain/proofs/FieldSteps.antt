@@ -25,7 +25,7 @@ all_there (field ∷ fields) group rest n h =
     let less : n - field.width - width_of fields ≡ n - (field.width + width_of fields) = omega arith in
     rw enough (ap (λ more. field ∷ more) (all_there fields group rest (n - field.width) (omega arith) ∙ ap (λ k. fields ++ groups_in group rest k) less))
 
--- a group more fits into so many bytes more
+-- a group more fits into this many bytes more
 count_more : (w n : ℕ) → 0 < w → w ≤ n → group_count w n ≡ suc (group_count w (n - w))
 count_more w n some enough =
     let a = (n - w) / w in

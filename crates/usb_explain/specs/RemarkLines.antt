@@ -41,7 +41,7 @@ value_shown _ = []
 abbrev pub hid_shown : ℕ → ℕ → List Shown
 hid_shown due found = if nat_lt found 6 then Number found ∷ [] else Number due ∷ Number found ∷ []
 
--- those of one on a count: what is said and what there is, what is needed and the most that there is, the length that is due and
+-- those of one on a count: what is said and what there is, what is needed and the most that there is, the length that comes next and
 -- the one that there is, or an interface
 abbrev pub length_shown : Remark → List Shown
 length_shown (remarks.TotalLength declared found) = Number declared ∷ Number found ∷ []

@@ -139,7 +139,7 @@ fn put_magic<P: Page>(page: &mut P, name: &'static str, magic: &[u8]) -> Result<
     page.put(")")
 }
 
-/// So many of the bytes, or all.
+/// This many of the bytes, or all.
 #[tactic(auto, using(std::proofs::lemmas::List::take_all))]
 fn first(bytes: &[u8], count: usize) -> &[u8]
     ensures { result.now ≡ take count bytes.now }

@@ -16,7 +16,7 @@ use std::alloc::{AllocError, Global};
 /// 2.0, 9.6.7).
 pub const MOST_UNITS: usize = 126;
 
-/// So many units are put together before they are added to a list.
+/// This many units are put together before they are added to a list.
 const MANY_UNITS: usize = 8;
 
 /// The units of a string or a language list, exactly where the bytes are bLength, type 3 and these units, the low byte

@@ -71,11 +71,11 @@ refused : (laws : PartLaws) (b : List ℕ) (at : ℕ) (why : FileWhy) → why �
 refused laws b at files.Memory not y elsewhere = absurd (not refl)
 refused laws b at why not y elsewhere = (inr y, no_dump laws b at _ y elsewhere)
 
-told_why : (n at : ℕ) (w why : FileWhy) (o : Option (ℕ × FileWhy)) → o ≡ Some (n, w) → o ≡ Some (at, why) → w ≡ why
-told_why n at w why o h k =
+reported_why : (n at : ℕ) (w why : FileWhy) (o : Option (ℕ × FileWhy)) → o ≡ Some (n, w) → o ≡ Some (at, why) → w ≡ why
+reported_why n at w why o h k =
     let found : ℕ × FileWhy = (n, w) in
-    let told : ℕ × FileWhy = (at, why) in
-    let pairs : found ≡ told = cc in
+    let report : ℕ × FileWhy = (at, why) in
+    let pairs : found ≡ report = cc in
     ap (λ (p : ℕ × FileWhy). p.1) pairs
 
 -- a descriptor of known length never reports *out of memory*
@@ -84,16 +84,16 @@ fixed_memory : (long : ℕ) (wrong : Bool) (tells : FileWhy) (rest : List ℕ) (
 fixed_memory long wrong tells rest at why h not = cases (ltb (length rest) long) wrong h
   where
     cases : (short wrong : Bool) → cond {A = Option (ℕ × FileWhy)} short (Some (length rest, files.Truncated)) (cond {A = Option (ℕ × FileWhy)} wrong (Some (0, tells)) None) ≡ Some (at, why) → why ≢ files.Memory
-    cases true wrong h e = let same : files.Truncated ≡ files.Memory = told_why (length rest) at files.Truncated why (Some (length rest, files.Truncated)) refl h ∙ e in cc
-    cases false true h e = not (told_why 0 at tells why (Some (0, tells)) refl h ∙ e)
+    cases true wrong h e = let same : files.Truncated ≡ files.Memory = reported_why (length rest) at files.Truncated why (Some (length rest, files.Truncated)) refl h ∙ e in cc
+    cases false true h e = not (reported_why 0 at tells why (Some (0, tells)) refl h ∙ e)
     cases false false h e = cc
 
 string_memory : (least : ℕ) (rest : List ℕ) (at : ℕ) (why : FileWhy) → string_fault least rest ≡ Some (at, why) → why ≢ files.Memory
 string_memory least rest at why h = cases (is_no_string least rest) (ltb (length rest) 2 || ltb (length rest) (slice_index rest 0)) h
   where
     cases : (wrong short : Bool) → cond {A = Option (ℕ × FileWhy)} wrong (Some (0, files.Text)) (cond {A = Option (ℕ × FileWhy)} short (Some (length rest, files.Truncated)) None) ≡ Some (at, why) → why ≢ files.Memory
-    cases true short h e = let same : files.Text ≡ files.Memory = told_why 0 at files.Text why (Some (0, files.Text)) refl h ∙ e in cc
-    cases false true h e = let same : files.Truncated ≡ files.Memory = told_why (length rest) at files.Truncated why (Some (length rest, files.Truncated)) refl h ∙ e in cc
+    cases true short h e = let same : files.Text ≡ files.Memory = reported_why 0 at files.Text why (Some (0, files.Text)) refl h ∙ e in cc
+    cases false true h e = let same : files.Truncated ≡ files.Memory = reported_why (length rest) at files.Truncated why (Some (length rest, files.Truncated)) refl h ∙ e in cc
     cases false false h e = cc
 
 -- a set is refused

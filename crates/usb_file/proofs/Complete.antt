@@ -24,13 +24,13 @@ use Rattle.usb_file_data.proofs.Units.{length-units_bytes}
 use Rattle.usb_file_data.proofs.Counts.{all_sets, all_strings}
 use Rattle.usb_file.proofs.Next.{follows, is_next, next_end, next_is}
 use Rattle.usb_file.proofs.Ends as ends
-use Rattle.usb_file.proofs.Unique.{PartIs, IsText, told_same, part_faults}
+use Rattle.usb_file.proofs.Unique.{PartIs, IsText, reported_same, part_faults}
 use Rattle.usb_file.proofs.Paths.{two_fronts, stuck_by_fault, stuck_at_end, device_first, behind, begun}
 use Rattle.usb_file_data.specs.Front.{StringsFollow, IsInOrder, IsFront, Splits, AllSets, with_set, with_qualifier}
 use Rattle.usb_file_data.specs.FileFaults.{NextPart, a_set, a_qualifier, the_languages, a_string, the_end, begins_qualifier, is_no_string, string_fault, fixed_fault, EndIsNext, IsNext, PartFaulty, FaultyPart, FileFaulty, FileOrFault, is_file, is_faulty}
 use Rattle.usb_fields.proofs.ByteParts.{bytes_front}
 
--- ---- the part that is due makes a prefix of a prefix
+-- ---- the next part makes a prefix of a prefix
 
 grow_none : (f g : DescriptorFile) (r p : List ℕ) → IsFront f → AllSets f f.other → f.strings ≡ None → next_part f r ≡ next_string (length (named_indices f)) None → PartIs (next_part f r) f g p → Grown f g p
 grow_none f g r p front all none turn is =
@@ -249,7 +249,7 @@ file_or_fault laws b fits =
         let d = laws.device_written (take 18 b) (bytes_front 18 b fits) is in
         from_front laws (length (drop 18 b)) b (begun d.0) (drop 18 b) (omega arith) fits (begun_splits b d.0 d.1)
 
--- ---- a file is a prefix after which the end is due
+-- ---- a file is a prefix after which the end comes next
 
 order_of : (f : DescriptorFile) (o : Option Other) (s : Option Strings) → AllSets f o → are_wrong_strings (length (named_indices f)) s ≡ false → IsInOrder f o s
 order_of f None None all h = omega (arith, all)
@@ -297,7 +297,7 @@ not_both laws b f at why x (inr y) =
     subst (λ d. PartFaulty d [] y.place why) (file_ends f b x) fault
 
 pub one_fault : (laws : PartLaws) (b : List ℕ) (p q : ℕ) (v w : FileWhy) → AreBytes b → FileFaulty b p v → FileFaulty b q w → (p ≡ q) × (v ≡ w)
-one_fault laws b p q v w fits (inl h) (inl k) = told_same p q v w _ h k
+one_fault laws b p q v w fits (inl h) (inl k) = reported_same p q v w _ h k
 one_fault laws b p q v w fits (inl h) (inr y) = absurd (no_device_fault b y.front y.rest p v y.splits h)
 one_fault laws b p q v w fits (inr x) (inl k) = absurd (no_device_fault b x.front x.rest q w x.splits k)
 one_fault laws b p q v w fits (inr x) (inr y) =

@@ -68,7 +68,7 @@ past_sets (c ∷ sets) more =
 abbrev pub HasStrings : DescriptorFile → Type 0
 HasStrings f = f.strings ≡ None → ⊥
 
--- a string descriptor was due, and the fault is where it should begin
+-- a string descriptor was expected, and the fault is where it should begin
 record TextIsDue (f : DescriptorFile) (rest : List ℕ) (place : ℕ) : Type 0 where
   at_start : place ≡ 0
   due : LanguagesAreNext f rest ⊎ HasStrings f
@@ -202,7 +202,7 @@ part_goes_on b at fits y goes =
 
 -- ---- before a wrong qualifier
 
--- a qualifier was due, and the fault is where it begins
+-- a qualifier was expected, and the fault is where it begins
 record QualifierIsDue (f : DescriptorFile) (rest : List ℕ) (place : ℕ) : Type 0 where
   at_start : place ≡ 0
   next : QualifierIsNext f rest

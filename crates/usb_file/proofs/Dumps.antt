@@ -55,7 +55,7 @@ dump_splits f b dump = record {
   parts = dump.bytes ∙ sym (bare_bytes f dump.no_other dump.no_strings);
 }
 
--- after which the language list is due
+-- after which the language list comes next
 dump_next : (f : DescriptorFile) (b : List ℕ) → Dump f b → LanguagesAreNext f []
 dump_next f b dump = record {
   all = subst (AllSets f) (sym dump.no_other) dump.counts;
@@ -102,7 +102,7 @@ one_dump laws b f g dump other =
     (two_fronts laws b f g [] [] dump.fits x.splits y.splits
     (stuck_by_fault laws f [] 0 files.Truncated (fault_of b (length b) files.Truncated x)) (stuck_by_fault laws g [] 0 files.Truncated (fault_of b (length b) files.Truncated y))).0
 
--- bytes that end where the language list is due, and have no other speed, are a dump
+-- bytes that end where the language list comes next, and have no other speed, are a dump
 pub is_dump : (f : DescriptorFile) (b : List ℕ) → AreBytes b → Splits b f [] → LanguagesAreNext f [] → f.other ≡ None → Dump f b
 is_dump f b fits splits next no_other =
     let ks = or_parts (list_any (is_other_kind kinds.Configuration) f.sets) (list_any (is_other_kind kinds.OtherSpeed) (other_sets f.other)) splits.is_front.kinds in

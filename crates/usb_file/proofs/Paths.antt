@@ -24,7 +24,7 @@ use Rattle.usb_file_data.specs.FileFaults.{the_languages, a_string, the_end, Par
 
 -- ---- steps
 
--- the bytes left begin with the part that is due, which makes of the first file so far the second
+-- the bytes left begin with the next part, which makes of the first file so far the second
 pub record Step (f : DescriptorFile) (r : List ℕ) (g : DescriptorFile) (s : List ℕ) : Type 0 where
   pub part : List ℕ
   pub is : PartIs (next_part f r) f g part

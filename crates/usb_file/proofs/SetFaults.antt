@@ -12,35 +12,35 @@ use Rattle.usb_file.specs.inside.Reading.{SetRefused, set_refusal}
 
 -- ---- no bytes of a set show that they end too early
 
-neither : {A : Type 0} (test : Bool) (x y told : A) → (x ≡ told → ⊥) → (y ≡ told → ⊥) → cond test x y ≡ told → ⊥
-neither true x y told not_x not_y h = not_x h
-neither false x y told not_x not_y h = not_y h
+neither : {A : Type 0} (test : Bool) (x y report : A) → (x ≡ report → ⊥) → (y ≡ report → ⊥) → cond test x y ≡ report → ⊥
+neither true x y report not_x not_y h = not_x h
+neither false x y report not_x not_y h = not_y h
 
 -- the end of the bytes, reported at a place
 abbrev cut_at : ℕ → Option Fault
 cut_at place = Some (place, sets.Truncated)
 
-told_else : (n place : ℕ) (why : SetWhy) → why ≢ sets.Truncated → Some (n, why) ≡ cut_at place → ⊥
-told_else n place why not h =
+reported_else : (n place : ℕ) (why : SetWhy) → why ≢ sets.Truncated → Some (n, why) ≡ cut_at place → ⊥
+reported_else n place why not h =
     let found : ℕ × SetWhy = (n, why) in
-    let told : ℕ × SetWhy = (place, sets.Truncated) in
-    let pairs : found ≡ told = cc in
+    let report : ℕ × SetWhy = (place, sets.Truncated) in
+    let pairs : found ≡ report = cc in
     not (ap (λ (p : ℕ × SetWhy). p.1) pairs)
 
-told_nothing : (place : ℕ) → None ≡ cut_at place → ⊥
-told_nothing place h = cc
+reports_nothing : (place : ℕ) → None ≡ cut_at place → ⊥
+reports_nothing place h = cc
 
 header_never : (b : List ℕ) (place : ℕ) → header_fault b ≡ cut_at place → ⊥
-header_never [] place = told_nothing place
-header_never (len ∷ []) place = neither (nat_lt len 9) _ _ (cut_at place) (told_else 0 place sets.HeaderLength (λ e. cc)) (told_nothing place)
+header_never [] place = reports_nothing place
+header_never (len ∷ []) place = neither (nat_lt len 9) _ _ (cut_at place) (reported_else 0 place sets.HeaderLength (λ e. cc)) (reports_nothing place)
 header_never (len ∷ kind ∷ rest) place =
-    neither (nat_lt len 9) _ _ (cut_at place) (told_else 0 place sets.HeaderLength (λ e. cc))
-    (neither (is_set_type kind) _ _ (cut_at place) (total_never rest) (told_else 1 place sets.HeaderKind (λ e. cc)))
+    neither (nat_lt len 9) _ _ (cut_at place) (reported_else 0 place sets.HeaderLength (λ e. cc))
+    (neither (is_set_type kind) _ _ (cut_at place) (total_never rest) (reported_else 1 place sets.HeaderKind (λ e. cc)))
   where
     total_never : (rest : List ℕ) → total_fault len rest ≡ cut_at place → ⊥
-    total_never [] = told_nothing place
-    total_never (low ∷ []) = told_nothing place
-    total_never (low ∷ high ∷ rest) = neither (nat_lt (low + 256 * high) len) _ _ (cut_at place) (told_else 2 place sets.Total (λ e. cc)) (told_nothing place)
+    total_never [] = reports_nothing place
+    total_never (low ∷ []) = reports_nothing place
+    total_never (low ∷ high ∷ rest) = neither (nat_lt (low + 256 * high) len) _ _ (cut_at place) (reported_else 2 place sets.Total (λ e. cc)) (reports_nothing place)
 
 item_never : (room : ℕ) (in_setting : Bool) (b : List ℕ) → item_fault room in_setting b ≡ Some sets.Truncated → ⊥
 item_never room in_setting [] = λ h. cc
@@ -58,10 +58,10 @@ never b place (inr h) = item_never _ _ h.rest h.fault
 -- ---- what a set's reader refuses, the file's reader does
 
 -- why a set was refused
-abbrev Told : List ℕ → ℕ → SetWhy → Type 0
-Told rest at why = ((at ≡ length rest) × (why ≡ sets.Truncated) × IsOpen rest) ⊎ ((why ≡ sets.Memory) ⊎ Faulty rest at why)
+abbrev Reported : List ℕ → ℕ → SetWhy → Type 0
+Reported rest at why = ((at ≡ length rest) × (why ≡ sets.Truncated) × IsOpen rest) ⊎ ((why ≡ sets.Memory) ⊎ Faulty rest at why)
 
-refusal_of : (kind : SetKind) (rest : List ℕ) (at : ℕ) (why : SetWhy) → Told rest at why → SetRefused kind rest (set_refusal why at).at (set_refusal why at).why
+refusal_of : (kind : SetKind) (rest : List ℕ) (at : ℕ) (why : SetWhy) → Reported rest at why → SetRefused kind rest (set_refusal why at).at (set_refusal why at).why
 refusal_of kind rest at sets.Memory h = refl
 refusal_of kind rest at sets.Truncated (inl h) = (h.2, h.0)
 refusal_of kind rest at sets.Truncated (inr (inl e)) = cc
@@ -70,11 +70,11 @@ refusal_of kind rest at why (inl h) = let not = h.1 in cc
 refusal_of kind rest at why (inr (inl e)) = cc
 refusal_of kind rest at why (inr (inr f)) = f
 
-pub refuses : (kind : SetKind) (rest : List ℕ) (fault : SetFault) (told : FileFault) → ReadsSet rest (Err fault) → told ≡ set_refusal fault.why fault.at
-    → SetRefused kind rest told.at told.why
-refuses kind rest fault told h e = subst (λ t. SetRefused kind rest t.at t.why) (sym e) (refusal_of kind rest fault.at fault.why (told_of h))
+pub refuses : (kind : SetKind) (rest : List ℕ) (fault : SetFault) (report : FileFault) → ReadsSet rest (Err fault) → report ≡ set_refusal fault.why fault.at
+    → SetRefused kind rest report.at report.why
+refuses kind rest fault report h e = subst (λ t. SetRefused kind rest t.at t.why) (sym e) (refusal_of kind rest fault.at fault.why (reported_of h))
   where
-    told_of : ReadsSet rest (Err fault) → Told rest fault.at fault.why
-    told_of (inl ended) = inl (ap (λ f. f.at) ended.0, ap (λ f. f.why) ended.0, ended.1)
-    told_of (inr (inl faulty)) = inr (inr faulty)
-    told_of (inr (inr wants)) = inr (inl wants.why)
+    reported_of : ReadsSet rest (Err fault) → Reported rest fault.at fault.why
+    reported_of (inl ended) = inl (ap (λ f. f.at) ended.0, ap (λ f. f.why) ended.0, ended.1)
+    reported_of (inr (inl faulty)) = inr (inr faulty)
+    reported_of (inr (inr wants)) = inr (inl wants.why)

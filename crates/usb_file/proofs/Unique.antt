@@ -39,7 +39,7 @@ pub record IsText (least : ℕ) (f g : DescriptorFile) (p : List ℕ) (next_of :
   pub short : is_long_string units ≡ false
   pub next : g ≡ next_of units
 
--- the part that is due is these bytes, and makes of the first file so far the second
+-- the next part is these bytes, and makes of the first file so far the second
 abbrev pub PartIs : NextPart → DescriptorFile → DescriptorFile → List ℕ → Type 0
 PartIs (a_set kind) f g p = IsSet kind f g p
 PartIs a_qualifier f g p = IsQualifier f g p
@@ -156,17 +156,17 @@ set_faults laws kind rest p q files.Truncated files.Truncated x y = (x.1 ∙ sym
 set_faults laws kind rest p q files.Truncated w x y = absurd y
 set_faults laws kind rest p q v w x y = absurd x
 
-pub told_same : (p q : ℕ) (v w : FileWhy) (o : Option (ℕ × FileWhy)) → o ≡ Some (p, v) → o ≡ Some (q, w) → (p ≡ q) × (v ≡ w)
-told_same p q v w o h k =
+pub reported_same : (p q : ℕ) (v w : FileWhy) (o : Option (ℕ × FileWhy)) → o ≡ Some (p, v) → o ≡ Some (q, w) → (p ≡ q) × (v ≡ w)
+reported_same p q v w o h k =
     let found : ℕ × FileWhy = (p, v) in
-    let told : ℕ × FileWhy = (q, w) in
-    let pairs : found ≡ told = cc in
+    let report : ℕ × FileWhy = (q, w) in
+    let pairs : found ≡ report = cc in
     (ap (λ (x : ℕ × FileWhy). x.0) pairs, ap (λ (x : ℕ × FileWhy). x.1) pairs)
 
 pub part_faults : (laws : PartLaws) (d : NextPart) (rest : List ℕ) (p q : ℕ) (v w : FileWhy) → PartFaulty d rest p v → PartFaulty d rest q w → (p ≡ q) × (v ≡ w)
 part_faults laws (a_set kind) rest p q v w x y = set_faults laws kind rest p q v w x y
-part_faults laws a_qualifier rest p q v w x y = told_same p q v w _ x y
-part_faults laws the_languages rest p q v w x y = told_same p q v w _ x y
-part_faults laws a_string rest p q v w x y = told_same p q v w _ x y
+part_faults laws a_qualifier rest p q v w x y = reported_same p q v w _ x y
+part_faults laws the_languages rest p q v w x y = reported_same p q v w _ x y
+part_faults laws a_string rest p q v w x y = reported_same p q v w _ x y
 part_faults laws the_end [] p q v w x y = absurd x
 part_faults laws the_end (z ∷ rest) p q v w x y = (x.0 ∙ sym y.0, x.1 ∙ sym y.1)

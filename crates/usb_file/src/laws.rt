@@ -43,7 +43,7 @@ pub fn one_input()
     part_laws();
 }
 
-/// No dump is a file: it ends right after the sets of the device, where the language list is due.
+/// No dump is a file: it ends right after the sets of the device, where the language list comes next.
 pub fn no_dump_is_a_file()
     ensures file { (b : List ℕ) (f g : DescriptorFile) → Dump f b → File g b → ⊥ }
     ensures fault { (b : List ℕ) (f : DescriptorFile) → Dump f b → FileFaulty b (length b) files.Truncated }
@@ -52,7 +52,7 @@ pub fn no_dump_is_a_file()
 }
 
 /// If [`likeness_of`](usb_file_data::likeness_of) reports a dump and `n` more bytes, the bytes before the fault are a dump and `n`
-/// bytes follow it; before a wrong qualifier they may be a file that names no string. Each dump is reported after which a string descriptor is due and isn't there.
+/// bytes follow it; before a wrong qualifier they may be a file that names no string. Each dump is reported after which a string descriptor is expected and isn't there.
 pub fn a_dump_ends_at_its_fault()
     ensures ends { DumpsEndAtFaults }
     ensures seen { DumpsAreSeen }

@@ -21,7 +21,7 @@ all_sets f h = cases f.other (or_parts (not (length f.sets == f.device.configura
     cases None h = same_by_test _ _ h.0
     cases (Some o) h = (same_by_test _ _ h.0, same_by_test _ _ h.1)
 
--- strings that are those of so many named indices
+-- strings that are those of this many named indices
 pub record AllStrings (count : ℕ) (s : Strings) : Type 0 where
   pub follow : StringsFollow count s
   pub whole : length s.texts ≡ length s.languages * count

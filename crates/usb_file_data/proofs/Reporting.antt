@@ -13,7 +13,7 @@ use Rattle.usb_file_data.specs.declared.place.Place.{Place}
 use Rattle.usb_file_data.specs.Causes.{Broken}
 use Rattle.usb_file_data.specs.Findings.{found, found_from}
 use Rattle.usb_file_data.specs.Places.{at_each, at_each_counted}
-use Rattle.usb_file_data.specs.inside.Reports.{Reported, none_reported, passed, reported, walked, with_causes, without_causes}
+use Rattle.usb_file_data.specs.inside.Reports.{Reported, counted, none_reported, passed, reported, walked, with_causes, without_causes}
 use Rattle.usb_file_data.specs.inside.Walk.{in_extras}
 
 of_four : Bool → ℕ → List Found → List Finding → Reported
@@ -67,6 +67,23 @@ reported_without r x is =
 
 -- ---- past descriptors
 
+-- counted, and not counted
+pub passed_with : (n : ℕ) (r : Reported) → r.has_causes ≡ true → passed n r ≡ record r { descriptor = r.descriptor + n }
+unfolding of_four
+passed_with n r is = ap (λ b. of_four r.has_causes (counted b n r.descriptor) r.found r.findings) is
+
+pub passed_without : (n : ℕ) (r : Reported) → r.has_causes ≡ false → passed n r ≡ r
+unfolding of_four
+passed_without n r is = ap (λ b. of_four r.has_causes (counted b n r.descriptor) r.found r.findings) is
+
+counted_none : (b : Bool) (number : ℕ) → counted b 0 number ≡ number
+counted_none true number = let e : number + 0 ≡ number = omega arith in e
+counted_none false number = refl
+
+counted_again : (b : Bool) (n number : ℕ) → counted b n (counted b 1 number) ≡ counted b (suc n) number
+counted_again true n number = let e : number + 1 + n ≡ number + suc n = omega arith in e
+counted_again false n number = refl
+
 pub walked_none : (r : Reported) → walked r [] ≡ r
 unfolding walked
 walked_none r = refl
@@ -89,22 +106,23 @@ first_and_more old one two new here ys rest first next more =
 -- of extras without associations nothing is reported
 pub passed_extras : (at : Place) (stands : ℕ → Bool) (n : ℕ) (xs : List Extra) (r : Reported) → flat_map association_in xs ≡ [] → walked r (in_extras at stands n xs) ≡ passed (length xs) r
 unfolding walked of_four
-passed_extras at stands n [] r none = ap (λ k. of_four r.has_causes k r.found r.findings) (let e : r.descriptor ≡ r.descriptor + 0 = omega arith in e)
+passed_extras at stands n [] r none = ap (λ k. of_four r.has_causes k r.found r.findings) (sym (counted_none r.has_causes r.descriptor))
 passed_extras at stands n (extras.Raw x ∷ xs) r none =
     ap (λ q. walked (passed 1 q) (in_extras at stands (n + 0) xs)) (reported_none r) ∙ passed_extras at stands (n + 0) xs (passed 1 r) none
-    ∙ ap (λ k. of_four r.has_causes k r.found r.findings) (let e : r.descriptor + 1 + length xs ≡ r.descriptor + suc (length xs) = omega arith in e)
+    ∙ ap (λ k. of_four r.has_causes k r.found r.findings) (counted_again r.has_causes (length xs) r.descriptor)
 passed_extras at stands n (extras.Association x ∷ xs) r none = cc
 
 -- what is found in all, with causes and without them
-told_with : (r : Reported) (ds : List (List Broken)) → r.has_causes ≡ true → (walked r ds).found ≡ r.found ++ found_from r.descriptor ds
+all_reported_with : (r : Reported) (ds : List (List Broken)) → r.has_causes ≡ true → (walked r ds).found ≡ r.found ++ found_from r.descriptor ds
 unfolding walked reported
-told_with r [] is = sym (append-nil r.found)
-told_with r (here ∷ later) is =
-    told_with (passed 1 (reported r here)) later is ∙ ap (λ b. (r.found ++ with_causes b r.descriptor here) ++ found_from (r.descriptor + 1) later) is
+all_reported_with r [] is = sym (append-nil r.found)
+all_reported_with r (here ∷ later) is =
+    all_reported_with (passed 1 (reported r here)) later is
+    ∙ ap (λ b. (r.found ++ with_causes b r.descriptor here) ++ found_from (counted b 1 r.descriptor) later) is
     ∙ append_assoc r.found (map (found r.descriptor) here) (found_from (r.descriptor + 1) later)
 
 pub all_found : (ds : List (List Broken)) → (walked (none_reported true) ds).found ≡ found_from 0 ds
-all_found ds = told_with (none_reported true) ds refl
+all_found ds = all_reported_with (none_reported true) ds refl
 
 same_findings : (n : ℕ) (here : List Broken) → map (λ f. f.finding) (map (found n) here) ≡ map (λ b. b.finding) here
 same_findings n [] = refl
@@ -116,16 +134,16 @@ pub findings_on : (n : ℕ) (here : List Broken) (later : List (List Broken))
 findings_on n here later =
     map-append (λ f. f.finding) (map (found n) here) (found_from (n + 1) later) ∙ ap (λ l. l ++ map (λ f. f.finding) (found_from (n + 1) later)) (same_findings n here)
 
-told_without : (r : Reported) (ds : List (List Broken)) → r.has_causes ≡ false → (walked r ds).findings ≡ r.findings ++ map (λ f. f.finding) (found_from r.descriptor ds)
+all_reported_without : (n : ℕ) (r : Reported) (ds : List (List Broken)) → r.has_causes ≡ false → (walked r ds).findings ≡ r.findings ++ map (λ f. f.finding) (found_from n ds)
 unfolding walked reported
-told_without r [] is = sym (append-nil r.findings)
-told_without r (here ∷ later) is =
-    let rest = map (λ f. f.finding) (found_from (r.descriptor + 1) later) in
-    told_without (passed 1 (reported r here)) later is ∙ ap (λ b. (r.findings ++ without_causes b here) ++ rest) is
-    ∙ append_assoc r.findings (map (λ b. b.finding) here) rest ∙ ap (λ l. r.findings ++ l) (sym (findings_on r.descriptor here later))
+all_reported_without n r [] is = sym (append-nil r.findings)
+all_reported_without n r (here ∷ later) is =
+    let rest = map (λ f. f.finding) (found_from (n + 1) later) in
+    all_reported_without (n + 1) (passed 1 (reported r here)) later is ∙ ap (λ b. (r.findings ++ without_causes b here) ++ rest) is
+    ∙ append_assoc r.findings (map (λ b. b.finding) here) rest ∙ ap (λ l. r.findings ++ l) (sym (findings_on n here later))
 
 pub all_findings : (ds : List (List Broken)) → (walked (none_reported false) ds).findings ≡ map (λ f. f.finding) (found_from 0 ds)
-all_findings ds = told_without (none_reported false) ds refl
+all_findings ds = all_reported_without 0 (none_reported false) ds refl
 
 -- ---- loops
 

@@ -13,7 +13,7 @@ use Rattle.usb_set.specs.declared.tree.Endpoint.{Endpoint}
 use Rattle.usb_set.specs.declared.tree.Setting.{Setting}
 use Rattle.usb_file_data.specs.declared.cause.Cause.TheVariants as causes
 use Rattle.usb_file_data.specs.Places.{at_each, is_among, when}
-use Rattle.usb_file_data.specs.Findings.{association_count, endpoint_associations, setting_associations}
+use Rattle.usb_file_data.specs.Findings.{association_count, endpoint_associations}
 use Rattle.usb_set.specs.declared.extra.Extra.{Extra}
 use Rattle.usb_set.specs.Owners.{association_in}
 use Rattle.usb_file_data.specs.declared.place.Place.{Place}
@@ -33,22 +33,9 @@ at_each_next f xs i x old new whole below is whole_is new_is =
     let joined = append_assoc old (f i x) (at_each f (i + 1) (drop (i + 1) xs)) in
     cc
 
--- of two lists one after the other
-pub each_append : {A B : Type 0} (f : ℕ → A → List B) (n : ℕ) (xs ys : List A) → at_each f n (xs ++ ys) ≡ at_each f n xs ++ at_each f (n + length xs) ys
-each_append f n [] ys = ap (λ k. at_each f k ys) (let e : n ≡ n + 0 = omega arith in e)
-each_append f n (x ∷ xs) ys =
-    ap (λ l. f n x ++ l) (each_append f (n + 1) xs ys)
-    ∙ ap (λ k. f n x ++ (at_each f (n + 1) xs ++ at_each f k ys)) (let e : n + 1 + length xs ≡ n + suc (length xs) = omega arith in e)
-    ∙ sym (append_assoc (f n x) (at_each f (n + 1) xs) (at_each f (n + suc (length xs)) ys))
-
 -- how many associations there are
 count_append : (xs ys : List Extra) → association_count (xs ++ ys) ≡ association_count xs + association_count ys
 count_append xs ys = ap length (flat_map-append association_in xs ys) ∙ length-append (flat_map association_in xs) (flat_map association_in ys)
-
--- those of a setting's endpoints come after its own
-pub count_after : (s : Setting) (n m : ℕ) → m ≡ n + association_count s.extras
-    → m + association_count (flat_map (λ e. e.extras) s.endpoints) ≡ n + setting_associations s
-count_after s n m is = omega (arith, is, count_append s.extras (flat_map (λ e. e.extras) s.endpoints))
 
 pub ends_next : (xs : List Endpoint) (i n m total : ℕ) (x : Endpoint) → i < length xs → x ≡ get_or xs i x
     → n + association_count (flat_map (λ e. e.extras) (drop i xs)) ≡ total → m ≡ n + endpoint_associations x
@@ -84,13 +71,6 @@ stands_more key xs i x below is =
     ap (λ ys. is_among (map key ys)) (take_more xs i x below is)
     ∙ ap is_among (map-append key (take i xs) (x ∷ []))
     ∙ funext _ _ (λ n. any_more (λ k. k == n) (map key (take i xs)) (key x))
-
--- the same where an element is looked up and its key is marked
-pub stands_next : {A : Type 0} (key : A → ℕ) (xs : List A) (i n : ℕ) (x : A) (old new : ℕ → Bool) → i < length xs → n ≡ key (get_or xs i x)
-    → old ≡ is_among (map key (take i xs)) → new ≡ marked old n → new ≡ is_among (map key (take (i + 1) xs))
-stands_next key xs i n x old new below is here more =
-    more ∙ ap (marked old) is ∙ ap (λ marks. marked marks (key (get_or xs i x))) here
-    ∙ sym (stands_more key xs i (get_or xs i x) below (get_or_default xs i _ _ below))
 
 -- one setting more
 pub alternate_more : (settings : List Setting) (j : ℕ) (s : Setting) → j < length settings → s ≡ get_or settings j s
@@ -160,7 +140,7 @@ count_is settings e list entered are = sym (length-map list first_of) ∙ ap len
 is_within : (next from n : ℕ) → next ≡ from → true ≡ nat_lt next (from + suc n)
 is_within next from n here = grind (arith, nat_tests)
 
--- one of so many numbers from a number on is absent just where the first absent one is among them
+-- one of this many numbers from a number on is absent just where the first absent one is among them
 pub some_absent : (stands : ℕ → Bool) (from next n : ℕ) → IsNextAbsent stands from next
     → list_any (λ m. not (stands m)) (range_with_len from n) ≡ nat_lt next (from + n)
 some_absent stands from next zero absent = let h = absent.least in grind (arith, nat_tests)

@@ -119,7 +119,7 @@ abbrev pub has_long_string : Option Strings → Bool
 has_long_string None = false
 has_long_string (Some s) = is_long_string s.languages || list_any is_long_string s.texts
 
--- Whether the strings are not those of so many named indices: there are strings exactly where an index is
+-- Whether the strings are not those of this many named indices: there are strings exactly where an index is
 -- named, with 1 to 126 languages, one string for each language and index, and none over 126 units.
 abbrev pub are_wrong_strings : ℕ → Option Strings → Bool
 are_wrong_strings count None = not (count == 0)

@@ -60,7 +60,7 @@ abbrev pub MissesSet : Option Other → Type 0
 MissesSet None = ⊥
 MissesSet (Some o) = length o.sets < o.qualifier.configurations
 
--- the languages are there, and fewer strings than one for each language and each of so many named indices
+-- the languages are there, and fewer strings than one for each language and each of this many named indices
 abbrev pub MissesString : ℕ → Option Strings → Type 0
 MissesString count None = ⊥
 MissesString count (Some s) = length s.texts < length s.languages * count
@@ -74,21 +74,21 @@ IsNext the_languages f rest = LanguagesAreNext f rest
 IsNext a_string f rest = MissesString (length (named_indices f)) f.strings
 IsNext the_end f rest = EndIsNext f rest
 
--- Whether two bytes are there, and begin no string descriptor of at least so many bytes: bLength is below
+-- Whether two bytes are there, and begin no string descriptor of at least this many bytes: bLength is below
 -- that or odd, or bDescriptorType is not 3 (9.6.7).
 abbrev pub is_no_string : ℕ → List ℕ → Bool
 is_no_string least [] = false
 is_no_string least (len ∷ []) = false
 is_no_string least (len ∷ kind ∷ rest) = nat_lt len least || (len % 2 == 1) || not (kind == 3)
 
--- the fault of a string descriptor of at least so many bytes
+-- the fault of a string descriptor of at least this many bytes
 abbrev pub string_fault : ℕ → List ℕ → Option (ℕ × FileWhy)
 string_fault least rest =
     if is_no_string least rest then Some (0, files.Text)
     else if nat_lt (length rest) 2 || nat_lt (length rest) (slice_index rest 0) then Some (length rest, files.Truncated)
     else None
 
--- the fault of a descriptor of so many bytes, which are wrong or not where they are all there
+-- the fault of a descriptor of this many bytes, which are wrong or not where they are all there
 abbrev pub fixed_fault : ℕ → Bool → FileWhy → List ℕ → Option (ℕ × FileWhy)
 fixed_fault long wrong why rest =
     if nat_lt (length rest) long then Some (length rest, files.Truncated)

@@ -73,7 +73,7 @@ endpoint_associations e = association_count e.extras
 abbrev pub setting_associations : Setting → ℕ
 setting_associations s = association_count (setting_extras s)
 
--- at an endpoint, and then at its extras, where so many associations of the set come before
+-- at an endpoint, and then at its extras, where this many associations of the set come before
 abbrev pub endpoint_in_order : Part → ℕ → List Setting → ℕ → Setting → ℕ → ℕ → Endpoint → List (List Broken)
 endpoint_in_order part i settings j s k n e =
     at_endpoint part i (take j settings) j s k e ∷ extras_in_order part i settings n e.extras

@@ -22,7 +22,7 @@ is_of_text byte = (nat_le 0x20 byte && nat_le byte 0x7e) || (byte == 9) || (byte
 abbrev pub is_text : List ℕ → Bool
 is_text b = nat_le 2 (length b) && list_all is_of_text b
 
--- the bytes after so many sets, each as long as its wTotalLength says (USB 2.0, 9.6.3)
+-- the bytes after this many sets, each as long as its wTotalLength says (USB 2.0, 9.6.3)
 unfoldable pub after_sets : ℕ → List ℕ → List ℕ
 after_sets zero b = b
 after_sets (suc n) b = let rest = after_sets n b in drop (little_endian_at rest 2) rest
@@ -32,7 +32,7 @@ abbrev pub is_empty_string : List ℕ → Bool
 is_empty_string b = (slice_index b 0 == 2) && (slice_index b 1 == 3)
 
 -- Bytes go on after a dump: no string descriptor is at the place of the fault, where the sets end that bNumConfigurations
--- of the device counts (USB 2.0, 9.6.1). So the language list was due there. A wrong qualifier is always right after those sets.
+-- of the device counts (USB 2.0, 9.6.1). So the language list came next there. A wrong qualifier is always right after those sets.
 abbrev pub goes_on_after_dump : FileWhy → ℕ → List ℕ → Bool
 goes_on_after_dump files.Text at b =
     (length (drop at b) == length (after_sets (slice_index b 17) (drop 18 b))) && not (is_empty_string (drop at b))
@@ -140,7 +140,7 @@ abbrev pub IsDumpBefore : FileWhy → DescriptorFile → List ℕ → Type 0
 IsDumpBefore files.Qualifier f b = Dump f b ⊎ (File f b × (f.other ≡ None) × (f.strings ≡ None))
 IsDumpBefore why f b = Dump f b
 
--- the bytes before the place of this fault are a dump, and so many follow
+-- the bytes before the place of this fault are a dump, and this many follow
 pub record DumpGoesOn (b : List ℕ) (fault : FileFault) (n : ℕ) : Type 0 where
   pub file : DescriptorFile
   pub dump : IsDumpBefore fault.why file (take fault.at b)

@@ -27,17 +27,17 @@ impl Owner {
 /// Whether an address was claimed before.
 #[derive(Clone, Copy)]
 pub(crate) struct Claimed {
-    /// By the setting in work.
+    /// By the current setting.
     pub(crate) here: bool,
     /// Under another interface number.
     pub(crate) elsewhere: bool,
 }
 
-/// Which addresses a set and its setting in work have, and under which interface numbers. One
+/// Which addresses a set and its current setting have, and under which interface numbers. One
 /// value serves all sets of a file: to begin anew takes as little for a large set as for a small one.
 #[derive(Drop)]
 pub(crate) struct Addresses {
-    /// The interface number of the setting in work.
+    /// The interface number of the current setting.
     number: u8,
     in_setting: Marks,
     in_set: Marks,
@@ -83,7 +83,7 @@ impl Addresses {
         self.in_setting = Marks::new();
     }
 
-    /// The setting in work claims the address. Answers who claimed it before.
+    /// The current setting claims the address. Answers who claimed it before.
     #[inline(always)]
     pub(crate) fn claim(&mut self, address: u8) -> Claimed
         ensures here { result.here ≡ (kept self.old).here address }
@@ -95,7 +95,7 @@ impl Addresses {
         Claimed { here, elsewhere }
     }
 
-    /// The setting in work has the address. Answers whether it had it before.
+    /// The current setting has the address. Answers whether it had it before.
     #[inline(always)]
     fn repeat(&mut self, address: u8) -> bool
         ensures here { result ≡ (kept self.old).here address }
@@ -106,7 +106,7 @@ impl Addresses {
         here
     }
 
-    /// The interface number of the setting in work has the address. Answers whether another number has it too.
+    /// The interface number of the current setting has the address. Answers whether another number has it too.
     #[inline(always)]
     fn own(&mut self, address: u8) -> bool
         ensures elsewhere { result ≡ (kept self.old).elsewhere address (kept self.old).number }

@@ -12,7 +12,7 @@ pub enum PacketFault {
     NotInTable,
     /// It isn't the exponent that SuperSpeed has.
     NotNine,
-    /// It is that exponent, where a size of USB 2.0 is due.
+    /// It is that exponent, where a size of USB 2.0 is expected.
     Nine,
 }
 

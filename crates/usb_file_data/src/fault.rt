@@ -14,11 +14,11 @@ pub enum FileWhy {
     Device,
     /// The bytes of a configuration set are at fault.
     Set(SetWhy),
-    /// A configuration set where an other-speed set is due, or the other way round.
+    /// A configuration set where an other-speed set is expected, or the other way round.
     SetKind,
     /// Ten bytes that begin as a qualifier are none.
     Qualifier,
-    /// Where a language list or a string is due there is another descriptor, or a language list with no
+    /// Where a language list or a string is expected there is another descriptor, or a language list with no
     /// language.
     Text,
     /// The bytes end before the file does.

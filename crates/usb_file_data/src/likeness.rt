@@ -37,12 +37,12 @@ pub enum Likeness {
     Nothing,
     /// Text: two bytes or more, each printable ASCII, a tab, a line feed or a carriage return.
     Text,
-    /// A dump of Linux, and so many bytes after it.
+    /// A dump of Linux, and this many bytes after it.
     DumpAndMore(usize),
     /// A frame of usbmon as Wireshark copies it: a header of 64 bytes, with `S`, `C` or `E` at 8, 0 to 3 at 9, and at 36 how many
     /// bytes follow it, below 65536.
     UsbmonFrame(usize),
-    /// A packet of the bus: DATA0 or DATA1, a descriptor of so many bytes, and two bytes of CRC (USB 2.0, 8.4.4).
+    /// A packet of the bus: DATA0 or DATA1, a descriptor of this many bytes, and two bytes of CRC (USB 2.0, 8.4.4).
     Packet(u8),
     /// A BOS descriptor alone (USB 3.2, 9.6.2).
     Bos,
@@ -160,7 +160,7 @@ fn is_empty_string(b: &[u8]) -> bool
     byte_at(b, 0) == descriptor_length::HEAD && byte_at(b, 1) == descriptor_type::STRING
 }
 
-/// Whether the fault is that something else follows the sets of a dump, where the language list was due or a qualifier begins.
+/// Whether the fault is that something else follows the sets of a dump, where the language list is expected or a qualifier begins.
 fn goes_on_after_dump(fault: FileFault, b: &[u8]) -> bool
     ensures { result ≡ goes_on_after_dump fault.why fault.at b.now }
 {
@@ -175,7 +175,7 @@ fn goes_on_after_dump(fault: FileFault, b: &[u8]) -> bool
     }
 }
 
-/// The bytes after so many sets, each as long as its wTotalLength says (USB 2.0, 9.6.3).
+/// The bytes after this many sets, each as long as its wTotalLength says (USB 2.0, 9.6.3).
 #[tactic(auto, unfolding(crate::specs::Likeness::after_sets))]
 pub fn after_sets(count: u8, b: &[u8]) -> &[u8]
     ensures { result.now ≡ after_sets count b.now }

@@ -108,7 +108,7 @@ pub fn is_other_kind(c: &Configuration, kind: SetKind) -> bool
     c.kind.descriptor_type() != kind.descriptor_type()
 }
 
-/// Whether the strings are not those of so many named indices, of which there can be 255: [`WriteFault::Texts`](crate::WriteFault::Texts).
+/// Whether the strings are not those of this many named indices, of which there can be 255: [`WriteFault::Texts`](crate::WriteFault::Texts).
 ///
 /// ```rust
 /// // A file that names no string has none.

@@ -18,7 +18,7 @@ pub(crate) struct Report {
     found: Vec<Found>,
     /// Empty where they are.
     findings: Vec<Finding>,
-    /// The number of the descriptor that the walk is at.
+    /// The number of the descriptor that the walk is at, where causes are asked for, and else 0.
     descriptor: usize,
 }
 
@@ -47,13 +47,16 @@ impl Report {
         }
     }
 
-    /// Goes on to the descriptor that comes so many later.
+    /// Goes on to the descriptor that comes this many later. Only what is found with its cause needs the number.
     #[inline(always)]
+    #[tactic(auto, using(crate::proofs::Reporting::passed_with, crate::proofs::Reporting::passed_without))]
     pub(crate) fn pass(&mut self, count: usize) -> Result<(), AllocError>
         ensures { OnOk result (self.new ≡ passed count self.old) }
     {
-        // No memory holds so many descriptors that this is refused.
-        self.descriptor = self.descriptor.checked_add(count).ok_or(AllocError)?;
+        if self.has_causes {
+            // No memory holds so many descriptors that this is refused.
+            self.descriptor = self.descriptor.checked_add(count).ok_or(AllocError)?;
+        }
         Ok(())
     }
 

@@ -121,7 +121,7 @@ fn check_configuration(
     check_value(found, values, place, c)
 }
 
-/// Of a setting, and past it, before which the set has so many associations. Answers how many it has before the next one.
+/// Of a setting, and past it, before which the set has this many associations. Answers how many it has before the next one.
 #[tactic(auto, using(crate::proofs::Reporting::walked_again, crate::proofs::Reporting::walked_none, crate::proofs::Reporting::walked_on, std::proofs::lemmas::Grind::common_steps))]
 fn check_setting(
     found: &mut Report,
@@ -146,7 +146,7 @@ fn check_setting(
     check_endpoints(found, whole, &mut earlier.addresses, &place, next, s)
 }
 
-/// Of the endpoints of a setting at its place, and past them, before which the set has so many associations. Answers how
+/// Of the endpoints of a setting at its place, and past them, before which the set has this many associations. Answers how
 /// many it has before the next setting.
 #[tactic(auto, using(crate::proofs::Reporting::walked_again, crate::proofs::Reporting::walked_none, crate::proofs::Reporting::walked_on, std::proofs::lemmas::Grind::common_steps))]
 fn check_endpoints(

@@ -72,7 +72,7 @@ fn place_of_index(named: &[u8], index: u8) -> Option<usize>
     named.iter().position(|other| *other == index)
 }
 
-/// The units in this row and column of a table, of which each row has so many columns.
+/// The units in this row and column of a table, of which each row has this many columns.
 fn units_in(table: &[Sequence<u16>], row: usize, columns: usize, column: usize) -> Option<&[u16]>
     ensures { option_copied result ≡ slice_get table.now (row * columns + column) }
 {

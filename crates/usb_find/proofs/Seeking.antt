@@ -64,7 +64,7 @@ no_item s len kind rest e =
 
 -- ---- the descriptors after the first
 
--- so many bytes are passed over
+-- this many bytes are passed over
 skip : (k : ℕ) (s : Bool) (b : List ℕ) → k ≤ length b → are_items k s b ≡ are_items 0 s (drop k b)
 unfolding are_items
 skip zero s b n = refl

@@ -63,7 +63,7 @@ abbrev pub FindsAll : List ℕ → ℕ → List Found → ℕ → Type 0
 FindsAll b start [] end = end ≡ start
 FindsAll b start (f ∷ fs) end = IsFirst b start f × FindsAll b f.next fs end
 
--- So many are put into a buffer, and the search goes on at the end. Where there was room for more, nothing stands after them.
+-- This many are put into a buffer, and the search goes on at the end. Where there was room for more, nothing stands after them.
 pub record FindsIn (b : List ℕ) (start : ℕ) (old new : List Found) (count end : ℕ) : Type 0 where
   pub last : ℕ
   pub found : FindsAll b start (take count new) last

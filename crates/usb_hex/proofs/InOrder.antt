@@ -68,10 +68,10 @@ unfolding order_of
 order_at c d rest shown on digit goes =
     rw (on, digit, goes) (ap (or_later (tells (byte_of c d) (slice_index shown 0))) (any_high d rest (after_one shown)))
 
-pub order_told : (c d : ℕ) (rest shown : List ℕ) (is : Bool) → ends_bytes c (d ∷ rest) ≡ false → is_hex_digit c ≡ true → ends_bytes d rest ≡ false
+pub order_reported : (c d : ℕ) (rest shown : List ℕ) (is : Bool) → ends_bytes c (d ∷ rest) ≡ false → is_hex_digit c ≡ true → ends_bytes d rest ≡ false
     → tells (byte_of c d) (slice_index shown 0) ≡ Some is → order_of false 0 (c ∷ d ∷ rest) shown ≡ Some is
-order_told c d rest shown is on digit goes told = order_at c d rest shown on digit goes ∙ rw told refl
+order_reported c d rest shown is on digit goes report = order_at c d rest shown on digit goes ∙ rw report refl
 
 pub order_next : (c d : ℕ) (rest shown : List ℕ) → ends_bytes c (d ∷ rest) ≡ false → is_hex_digit c ≡ true → ends_bytes d rest ≡ false
     → tells (byte_of c d) (slice_index shown 0) ≡ None → order_of false 0 (c ∷ d ∷ rest) shown ≡ order_of false 0 rest (after_one shown)
-order_next c d rest shown on digit goes told = order_at c d rest shown on digit goes ∙ rw told refl
+order_next c d rest shown on digit goes report = order_at c d rest shown on digit goes ∙ rw report refl

@@ -49,7 +49,7 @@ pub(crate) fn fault_at(text: &[u8], place: usize) -> HexFault
     }
 }
 
-/// So many characters of a text, or all.
+/// This many characters of a text, or all.
 #[tactic(auto, using(std::proofs::lemmas::List::take_all))]
 fn front(text: &[u8], count: usize) -> &[u8]
     ensures { result.now ≡ take count text.now }

@@ -71,7 +71,7 @@ fn characters_of(text: &[u8]) -> &[u8]
 }
 
 /// The same of a line with these characters.
-#[tactic(auto, using(crate::proofs::InOrder::order_ends, crate::proofs::InOrder::order_on, crate::proofs::InOrder::order_alone, crate::proofs::InOrder::order_stops, crate::proofs::InOrder::order_told, crate::proofs::InOrder::order_next), unfolding(crate::specs::Columns::order_of))]
+#[tactic(auto, using(crate::proofs::InOrder::order_ends, crate::proofs::InOrder::order_on, crate::proofs::InOrder::order_alone, crate::proofs::InOrder::order_stops, crate::proofs::InOrder::order_reported, crate::proofs::InOrder::order_next), unfolding(crate::specs::Columns::order_of))]
 fn order_of(text: &[u8], characters: &[u8]) -> Option<bool>
     ensures { result ≡ order_of false 0 text.now characters.now }
 {

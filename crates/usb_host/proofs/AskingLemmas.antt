@@ -20,7 +20,7 @@ use Rattle.usb_host.proofs.BoundLemmas.{left-taken}
 use Rattle.usb_host.specs.Place.{Place, First, Address, Device, Header, Set, Qualifier, Languages, Text, Configure, Reported, Stopped}
 use Rattle.usb_host.specs.Keeping.{Kept}
 use Rattle.usb_host.specs.Order.{refused_leads, spared}
-use Rattle.usb_host.specs.Steps.{HostPhase, ResetDue, Reading, Ended, HostView, WantsReset, WantsSent, WantsNothing, blames_bus, completed_leads, enter, chosen_host, goes_on, outcome_at, outcome_of, reset, reset_in, sends, settled, terms_of, wanted, Takes, TakesHeard, TakesIn}
+use Rattle.usb_host.specs.Steps.{HostPhase, ResetDue, Reading, Ended, HostView, WantsReset, WantsSent, WantsNothing, blames_bus, completed_leads, enter, chosen_host, goes_on, outcome_at, outcome_of, reset, reset_in, sends, settled, terms_of, wanted, Takes, TakesReceived, TakesIn}
 use Rattle.usb_host.specs.Cost.{most, left_to_ask, BringsBytes}
 use Rattle.usb_host.specs.Gathered.{Came}
 use Rattle.usb_host.specs.Laws.{Asks, ChosenHostsEnd}
@@ -39,7 +39,7 @@ struck_counts : (t : TransferView) → IsTransfer t → IsTransfer (struck t).tr
 struck_counts t is = by (nat_lt t.strikes 2) refl
   where
     by : (b : Bool) → nat_lt t.strikes 2 ≡ b →
-        IsTransfer (let s : Taken = if b then record { heard = Goes; transfer = record t { strikes = suc t.strikes } } else failed t NoAnswer in s).transfer
+        IsTransfer (let s : Taken = if b then record { received = Goes; transfer = record t { strikes = suc t.strikes } } else failed t NoAnswer in s).transfer
     by true e = record { packet = is.packet; kept = is.kept; strikes = grind (arith, nat_tests); nak_count = is.nak_count }
     by false e = failed_counts t NoAnswer is
 
@@ -47,7 +47,7 @@ delayed_counts : (t : TransferView) → IsTransfer t → IsTransfer (delayed t).
 delayed_counts t is = by (nat_lt t.nak_count t.naks) refl
   where
     by : (b : Bool) → nat_lt t.nak_count t.naks ≡ b →
-        IsTransfer (let s : Taken = if b then record { heard = Goes; transfer = record t { nak_count = suc t.nak_count } } else failed t Busy in s).transfer
+        IsTransfer (let s : Taken = if b then record { received = Goes; transfer = record t { nak_count = suc t.nak_count } } else failed t Busy in s).transfer
     by true e = record { packet = is.packet; kept = is.kept; strikes = is.strikes; nak_count = grind (arith, nat_tests) }
     by false e = failed_counts t Busy is
 
@@ -94,7 +94,7 @@ counts_at t StatusIn NoReply is = struck_counts t is
 counts_at t Completed r is = is
 counts_at t (Failed why) r is = is
 
--- ---- a read in work asks for something, and an end has an outcome
+-- ---- a current read asks for something, and an end has an outcome
 
 abbrev Works : HostPhase → Type 0
 Works ResetDue = ⊥
@@ -118,7 +118,7 @@ enter_works limits (Configure f) s = begun_works limits.address _ limits.naks _ 
 enter_works limits (Reported f) s = refl
 enter_works limits (Stopped trouble) s = refl
 
--- a stage in which a token is due
+-- a stage in which a token comes next
 asks_at : (t : TransferView) (stage : TransferStage) → t.stage ≡ stage → IsSome (addressed t.address (token_due t [] stage)) → IsSome (due t)
 asks_at t stage e some = subst (λ s. IsSome (addressed t.address (token_due t [] s))) (sym e) some
 
@@ -138,16 +138,16 @@ goes_works limits terms place t k DataOut e is s = (is, asks_at t DataOut e refl
 goes_works limits terms place t k StatusOut e is s = (is, asks_at t StatusOut e refl)
 goes_works limits terms place t k StatusIn e is s = (is, asks_at t StatusIn e refl)
 
-heard_works : (limits : LimitView) (terms : Terms) (place : Place) (k : Kept) (by : Taken) (new : HostPhase) (before after : List Trouble) →
-    IsTransfer by.transfer → IsSteady new → TakesHeard limits terms place k by new before after → Works new
-heard_works limits terms place k by new b a is s (result, after, keeps, inl (wants, e, same)) = subst (λ p. Works p) (sym e) refl
-heard_works limits terms place k by new b a is s (result, after, keeps, inr (fine, e, adds)) =
+received_works : (limits : LimitView) (terms : Terms) (place : Place) (k : Kept) (by : Taken) (new : HostPhase) (before after : List Trouble) →
+    IsTransfer by.transfer → IsSteady new → TakesReceived limits terms place k by new before after → Works new
+received_works limits terms place k by new b a is s (result, after, keeps, inl (wants, e, same)) = subst (λ p. Works p) (sym e) refl
+received_works limits terms place k by new b a is s (result, after, keeps, inr (fine, e, adds)) =
     subst (λ p. Works p) (sym e)
     (goes_works limits terms place by.transfer after by.transfer.stage refl is (subst (λ p. IsSteady p) e s))
 
 -- ---- a whole host
 
--- a reset is due only while attempts are left
+-- a reset is requested only while attempts are left
 abbrev Stands : ℕ → ℕ → HostPhase → Type 0
 Stands attempts resets ResetDue = resets < attempts
 Stands attempts resets (Reading place t k) = Works (Reading place t k)
@@ -219,18 +219,18 @@ module _ (limits : LimitView) where
   takes_on n v w ResetDue sent answer at asks bytes on takes = absurd (cc)
   takes_on n v w (Ended place) sent answer at asks bytes on takes = absurd (cc)
   takes_on n v w (Reading place t k) sent answer at asks bytes on takes =
-      let (phase, heard, e) : TakesIn v (Reading place t k) answer w = subst (λ x. TakesIn v x answer w) at takes in
+      let (phase, received, e) : TakesIn v (Reading place t k) answer w = subst (λ x. TakesIn v x answer w) at takes in
       let steady = subst (λ p. IsSteady p) at on.steady in
       let works : IsTransfer t × IsSome (due t) = subst (λ p. Stands limits.attempts v.resets p) at on.stands in
       let falls = left-taken t answer works.0 works.1 in
-      let before = takes_low v.limits (terms_of v) place t k answer phase v.forgiven w.forgiven steady bytes falls heard in
+      let before = takes_low v.limits (terms_of v) place t k answer phase v.forgiven w.forgiven steady bytes falls received in
       let after = asks_less.takes v w place t k answer at on.steady bytes falls takes in
       let fewer = after.1 in
       let less = on.less in
       let few = on.few in
       let resets : w.resets ≡ v.resets = ap (λ x. x.resets) e in
       let there = settled_stands v.limits.attempts v.resets phase
-      (heard_works v.limits (terms_of v) place k (taken t answer) phase v.forgiven w.forgiven (counts_at t t.stage answer works.0) before.0 heard) in
+      (received_works v.limits (terms_of v) place k (taken t answer) phase v.forgiven w.forgiven (counts_at t t.stage answer works.0) before.0 received) in
       record {
         limits_are = ap (λ x. x.limits) e ∙ on.limits_are;
         few = omega arith;

@@ -24,20 +24,20 @@ use Rattle.usb_host.specs.declared.why.Why.TheVariants.{NoAnswer, Busy, Stalled,
 use Rattle.usb_host.specs.declared.transfer.TransferStage.{TransferStage}
 use Rattle.usb_host.specs.declared.transfer.TransferStage.TheVariants.{Setup, DataIn, DataOut, StatusOut, StatusIn, Completed, Failed}
 use Rattle.usb_host.specs.Limits.{LimitView}
-use Rattle.usb_host.specs.Transfer.{TransferView, Hearing, Goes, Brings, Completes, Fails, taken, token_due, addressed}
+use Rattle.usb_host.specs.Transfer.{TransferView, HeardView, Goes, Brings, Completes, Fails, taken, token_due, addressed}
 use Rattle.usb_host.specs.declared.step.Trouble.{Trouble}
 use Rattle.usb_host.specs.Place.{Place, First, Address, Device, Header, Set, Qualifier, Languages, Text, Configure, Reported, Stopped}
 use Rattle.usb_host.specs.Keeping as kept
 use Rattle.usb_host.specs.Order.{bytes_lead, set_leads, done_leads, refused_leads, counted, is_of_strings, is_spared, spared, stand_in_bytes}
 use Rattle.usb_host.specs.Keeping.{Kept, is_over, set_kept}
 use Rattle.usb_host.specs.Gathered.{Came, no_bytes, came_by, came_in, part_of}
-use Rattle.usb_host.specs.Steps.{HostPhase, ResetDue, Reading, Ended, HostView, WantsSent, blames_bus, chosen_host, completed_leads, enter, goes_on, outcome_of, read_leads, sends, settled, terms_of, wanted, KeepsHeard, TakesHeard, TakesIn}
+use Rattle.usb_host.specs.Steps.{HostPhase, ResetDue, Reading, Ended, HostView, WantsSent, blames_bus, chosen_host, completed_leads, enter, goes_on, outcome_of, read_leads, sends, settled, terms_of, wanted, KeepsReceived, TakesReceived, TakesIn}
 use Rattle.usb_host.specs.Cost.{BringsBytes}
 use Rattle.usb_host.specs.Laws.{Asks, ChosenHostsReportWhatCame}
 use Rattle.usb_host.specs.inside.Reads.{IsGoing}
 use Rattle.usb_host.specs.inside.Sound.{FitsPlace, Holds}
 use Rattle.usb_host.proofs.AskingLemmas.{wants_reset, reset_is}
-use Rattle.usb_host.proofs.LowerLemmas.{HearsBytes, fits_bytes, fits_set, hears_bytes}
+use Rattle.usb_host.proofs.LowerLemmas.{HasBytesOf, fits_bytes, fits_set, receives_bytes}
 use Rattle.usb_host.proofs.PartLemmas.{bytes_hold, kept_whole, refused_holds, set_holds, set_kept_whole}
 use Rattle.usb_host.proofs.TakeLemmas.{StageOf, heeds, going_on}
 use Rattle.usb_fields.proofs.ByteParts.{bytes_append}
@@ -79,7 +79,7 @@ fed read piece (has c) e over now result (n, begins, is) (r, new) at =
 fed read piece (refused fault) e over now result is (r, new) at = subst (λ d. KeptFrom (read ++ piece) (kept.Set d now)) (sym new) tt
 
 brought : (place : Place) (read piece : List ℕ) (old new : Kept) (result : Result Progress SetFault) → FitsPlace place old → KeptFrom read old →
-    KeepsHeard old (Brings piece) result new → FitsPlace place new × KeptFrom (read ++ piece) new
+    KeepsReceived old (Brings piece) result new → FitsPlace place new × KeptFrom (read ++ piece) new
 brought place read piece (kept.Bytes b) (kept.Bytes new) result fits is keeps = (fits_bytes place b new fits, keeps ∙ ap (λ x. x ++ piece) is)
 brought place read piece (kept.Bytes b) (kept.Set new now) result fits is keeps = absurd (keeps)
 brought place read piece (kept.Set d over) (kept.Bytes new) result fits is keeps = absurd (keeps)
@@ -183,7 +183,7 @@ part_fits terms (Languages f named) read fits = counted_fits terms.choice.string
 part_fits terms (Text f s named) read fits = counted_fits terms.choice.strings (Text f s named) (bytes_lead terms (Text f s named) read) read fits
 part_fits terms place read fits = tt
 
-came_fits : (terms : Terms) (place : Place) (heard : Hearing) (came : Came) → HearsBytes heard → Fits came → Fits (came_by terms place heard came)
+came_fits : (terms : Terms) (place : Place) (received : HeardView) (came : Came) → HasBytesOf received → Fits came → Fits (came_by terms place received came)
 came_fits terms place Goes came bytes fits = fits
 came_fits terms place (Brings piece) came bytes fits = (fits.0, bytes_append came.read piece fits.1 bytes)
 came_fits terms place Completes came bytes fits =
@@ -206,8 +206,8 @@ module _ (limits : LimitView) (terms : Terms) (place : Place) where
   abbrev asked : NamedStrings
   asked = terms.choice.strings
 
-  goes_agreeing : (heard : Hearing) (t : TransferView) (old k : Kept) (result : Result Progress SetFault) (came : Came) → StageOf heard t.stage →
-      KeepsHeard old heard result k → Agrees asked (Reading place t old) came → Agrees asked (goes_on limits terms place t k t.stage) (came_by terms place heard came)
+  goes_agreeing : (received : HeardView) (t : TransferView) (old k : Kept) (result : Result Progress SetFault) (came : Came) → StageOf received t.stage →
+      KeepsReceived old received result k → Agrees asked (Reading place t old) came → Agrees asked (goes_on limits terms place t k t.stage) (came_by terms place received came)
   goes_agreeing Goes t old k result came stage keeps agrees =
       subst (λ p. Agrees asked p came) (sym (going_on limits terms place t k t.stage stage))
       (subst (λ x. Agrees asked (Reading place t x) came) (sym keeps) agrees)
@@ -233,14 +233,14 @@ module _ (limits : LimitView) (terms : Terms) (place : Place) where
       by_why Memory = tt
 
   takes_agreeing : (t : TransferView) (k : Kept) (answer : Answer) (new : HostPhase) (before after : List Trouble) (came : Came) → IsGoing t.stage →
-      TakesHeard limits terms place k (taken t answer) new before after → Agrees asked (Reading place t k) came →
-      Agrees asked new (came_by terms place (taken t answer).heard came)
+      TakesReceived limits terms place k (taken t answer) new before after → Agrees asked (Reading place t k) came →
+      Agrees asked new (came_by terms place (taken t answer).received came)
   takes_agreeing t k answer new b a came going (result, after, keeps, inl (wants, e, same)) agrees =
-      subst (λ p. Agrees asked p (came_by terms place (taken t answer).heard came)) (sym e) tt
+      subst (λ p. Agrees asked p (came_by terms place (taken t answer).received came)) (sym e) tt
   takes_agreeing t k answer new b a came going (result, after, keeps, inr (fine, e, adds)) (h, fits, is, asks) =
       let heed = heeds t answer going in
-      subst (λ p. Agrees asked p (came_by terms place (taken t answer).heard came)) (sym e)
-      (goes_agreeing (taken t answer).heard (taken t answer).transfer k after result came heed.stage keeps
+      subst (λ p. Agrees asked p (came_by terms place (taken t answer).received came)) (sym e)
+      (goes_agreeing (taken t answer).received (taken t answer).transfer k after result came heed.stage keeps
       (h, fits, is, subst (λ q. is_of_strings place ≡ true → (q.length == 0) ≡ false) (sym heed.request) asks))
 
 -- a transfer that sends something goes on
@@ -268,13 +268,13 @@ answered : (v w : HostView) (p : HostPhase) (sent : Sent) (answer : Answer) (cam
     (let now = came_in (terms_of v) p answer came in (w.choice ≡ v.choice) × Agrees v.choice.strings w.phase now × Fits now)
 answered v w ResetDue sent answer came asks bytes takes h = absurd (cc)
 answered v w (Ended place) sent answer came asks bytes takes h = absurd (cc)
-answered v w (Reading place t k) sent answer came asks bytes (phase, heard, e) (agrees, fits) =
-    let now = came_by (terms_of v) place (taken t answer).heard came in (
+answered v w (Reading place t k) sent answer came asks bytes (phase, received, e) (agrees, fits) =
+    let now = came_by (terms_of v) place (taken t answer).received came in (
       ap (λ x. x.choice) e,
       subst (λ x. Agrees v.choice.strings x.phase now) (sym e)
           (settled_agreeing v.choice.strings v.limits.attempts v.resets phase now
-          (takes_agreeing v.limits (terms_of v) place t k answer phase v.forgiven w.forgiven came (going_by t sent t.stage asks) heard agrees)),
-      came_fits (terms_of v) place (taken t answer).heard came (hears_bytes t t.stage answer bytes) fits,
+          (takes_agreeing v.limits (terms_of v) place t k answer phase v.forgiven w.forgiven came (going_by t sent t.stage asks) received agrees)),
+      came_fits (terms_of v) place (taken t answer).received came (receives_bytes t t.stage answer bytes) fits,
     )
 
 -- ---- all answers

@@ -17,7 +17,7 @@ use Rattle.usb_host.specs.Transfer.{TransferView, Taken, taken}
 use Rattle.usb_host.specs.Place.{Place, First, Address, Device, Header, Set, Qualifier, Languages, Text, Configure, Reported, Stopped}
 use Rattle.usb_host.specs.Keeping.{Kept}
 use Rattle.usb_host.specs.Order.{forgiven_by, is_of_strings, is_spared, lacks_string, refused_leads, step_of}
-use Rattle.usb_host.specs.Steps.{HostPhase, ResetDue, Reading, Ended, HostView, chosen_host, completed_leads, enter, passes_over, terms_of, TakesHeard, TakesIn}
+use Rattle.usb_host.specs.Steps.{HostPhase, ResetDue, Reading, Ended, HostView, chosen_host, completed_leads, enter, passes_over, terms_of, TakesReceived, TakesIn}
 use Rattle.usb_host.specs.Gathered.{Came}
 use Rattle.usb_host.specs.Laws.{AreForgiven, Asks, IsForgiven, IsStringStep, OnlyStringsAreForgiven}
 use Rattle.usb_host.proofs.AskingLemmas.{wants_reset, reset_is}
@@ -96,10 +96,10 @@ passed_forgiven terms place t k DataOut = none_forgiven terms.choice.strings
 passed_forgiven terms place t k StatusOut = none_forgiven terms.choice.strings
 passed_forgiven terms place t k StatusIn = none_forgiven terms.choice.strings
 
-heard_forgiven : (limits : LimitView) (terms : Terms) (place : Place) (old : Kept) (by : Taken) (new : HostPhase) (before after : List Trouble) →
-    TakesHeard limits terms place old by new before after → AreForgiven terms.choice.strings before → AreForgiven terms.choice.strings after
-heard_forgiven limits terms place old by new b a (result, k, keeps, inl (wants, e, same)) h = subst (λ x. AreForgiven terms.choice.strings x) (sym same) h
-heard_forgiven limits terms place old by new b a (result, k, keeps, inr (fine, e, adds)) h =
+received_forgiven : (limits : LimitView) (terms : Terms) (place : Place) (old : Kept) (by : Taken) (new : HostPhase) (before after : List Trouble) →
+    TakesReceived limits terms place old by new before after → AreForgiven terms.choice.strings before → AreForgiven terms.choice.strings after
+received_forgiven limits terms place old by new b a (result, k, keeps, inl (wants, e, same)) h = subst (λ x. AreForgiven terms.choice.strings x) (sym same) h
+received_forgiven limits terms place old by new b a (result, k, keeps, inr (fine, e, adds)) h =
     subst (λ x. AreForgiven terms.choice.strings x) (sym adds)
     (forgiven_more terms.choice.strings b (passes_over terms place by.transfer k by.transfer.stage) h
     (passed_forgiven terms place by.transfer k by.transfer.stage))
@@ -111,9 +111,9 @@ module _ (choice : Choice) where
   takes_forgiving : (v w : HostView) (p : HostPhase) (answer : Answer) → TakesIn v p answer w → Forgives v → Forgives w
   takes_forgiving v w ResetDue answer e h = subst (λ x. Forgives x) (sym e) h
   takes_forgiving v w (Ended place) answer e h = subst (λ x. Forgives x) (sym e) h
-  takes_forgiving v w (Reading place t k) answer (phase, heard, e) (same, h) =
+  takes_forgiving v w (Reading place t k) answer (phase, received, e) (same, h) =
       let old = subst (λ c. AreForgiven c.strings v.forgiven) (sym same) h in
-      let new = heard_forgiven v.limits (terms_of v) place k (taken t answer) phase v.forgiven w.forgiven heard old in
+      let new = received_forgiven v.limits (terms_of v) place k (taken t answer) phase v.forgiven w.forgiven received old in
       (ap (λ x. x.choice) e ∙ same, subst (λ c. AreForgiven c.strings w.forgiven) same new)
 
   all_forgiven : (limits : LimitView) (speed : Speed) (earlier : List HostView) (n : ℕ) (came : Came) (last : HostView) →

@@ -15,13 +15,13 @@ use Rattle.usb_host.specs.declared.why.Why.TheVariants.{NoAnswer, Busy, Stalled,
 use Rattle.usb_host.specs.declared.transfer.TransferStage.{TransferStage}
 use Rattle.usb_host.specs.declared.transfer.TransferStage.TheVariants.{Setup, DataIn, DataOut, StatusOut, StatusIn, Completed, Failed}
 use Rattle.usb_host.specs.Limits.{LimitView}
-use Rattle.usb_host.specs.Transfer.{TransferView, Hearing, Goes, Brings, Completes, Fails, Taken, taken, taken_at, begun, left}
+use Rattle.usb_host.specs.Transfer.{TransferView, HeardView, Goes, Brings, Completes, Fails, Taken, taken, taken_at, begun, left}
 use Rattle.usb_host.specs.Plan.{Plan, Begin, Success, GivesUp}
 use Rattle.usb_host.specs.Place.{Place, First, Set, Stopped}
 use Rattle.usb_host.specs.Keeping as kept
 use Rattle.usb_host.specs.Order.{asks, done_leads, refused_leads, spared}
 use Rattle.usb_host.specs.Keeping.{Kept, nothing_kept, set_kept}
-use Rattle.usb_host.specs.Steps.{HostPhase, ResetDue, Reading, Ended, HostView, entered, enter, reset_in, reset, blames_bus, settled, terms_of, read_leads, completed_leads, goes_on, KeepsHeard, TakesHeard, TakesIn, Takes}
+use Rattle.usb_host.specs.Steps.{HostPhase, ResetDue, Reading, Ended, HostView, entered, enter, reset_in, reset, blames_bus, settled, terms_of, read_leads, completed_leads, goes_on, KeepsReceived, TakesReceived, TakesIn, Takes}
 use Rattle.usb_host.specs.Cost.{cost, price, most_in_attempt, left_in_attempt, left_to_ask, BringsBytes}
 use Rattle.usb_host.specs.inside.Sound.{IsGood, FitsPlace, KeepsBytes, IsSteady, AsksLess}
 use Rattle.usb_host.proofs.CostLemmas.{Fits, bytes_fall, done_falls, refused_falls, spared_falls, set_fits, Pays, pays, priced}
@@ -48,36 +48,36 @@ bytes_nothing (Set kind f total) = tt
 bytes_nothing place = tt
 
 -- what a transfer brings are bytes where the packet had bytes
-abbrev pub HearsBytes : Hearing → Type 0
-HearsBytes (Brings bytes) = AreBytes bytes
-HearsBytes _ = Unit {0}
+abbrev pub HasBytesOf : HeardView → Type 0
+HasBytesOf (Brings bytes) = AreBytes bytes
+HasBytesOf _ = Unit {0}
 
-if_bytes : (b : Bool) (x y : Taken) → HearsBytes x.heard → HearsBytes y.heard → HearsBytes (if b then x else y).heard
+if_bytes : (b : Bool) (x y : Taken) → HasBytesOf x.received → HasBytesOf y.received → HasBytesOf (if b then x else y).received
 if_bytes true x y p q = p
 if_bytes false x y p q = q
 
-pub hears_bytes : (t : TransferView) (stage : TransferStage) (answer : Answer) → BringsBytes answer → HearsBytes (taken_at t stage answer).heard
-hears_bytes t Setup NoReply w = if_bytes (nat_lt t.strikes 2) _ _ tt tt
-hears_bytes t DataIn NakReply w = if_bytes (nat_lt t.nak_count t.naks) _ _ tt tt
-hears_bytes t DataIn (DataReply toggle bytes) w =
+pub receives_bytes : (t : TransferView) (stage : TransferStage) (answer : Answer) → BringsBytes answer → HasBytesOf (taken_at t stage answer).received
+receives_bytes t Setup NoReply w = if_bytes (nat_lt t.strikes 2) _ _ tt tt
+receives_bytes t DataIn NakReply w = if_bytes (nat_lt t.nak_count t.naks) _ _ tt tt
+receives_bytes t DataIn (DataReply toggle bytes) w =
     if_bytes (nat_lt t.packet (length bytes)) _ _ tt
     (if_bytes (is_same_toggle toggle t.awaited) _ _
     (if_bytes (nat_lt t.request.length (t.kept + length bytes)) _ _ tt w) (if_bytes (nat_lt t.strikes 2) _ _ tt tt))
-hears_bytes t DataIn NoReply w = if_bytes (nat_lt t.strikes 2) _ _ tt tt
-hears_bytes t DataOut NakReply w = if_bytes (nat_lt t.nak_count t.naks) _ _ tt tt
-hears_bytes t DataOut NoReply w = if_bytes (nat_lt t.strikes 2) _ _ tt tt
-hears_bytes t StatusOut NakReply w = if_bytes (nat_lt t.nak_count t.naks) _ _ tt tt
-hears_bytes t StatusOut NoReply w = if_bytes (nat_lt t.strikes 2) _ _ tt tt
-hears_bytes t StatusIn NakReply w = if_bytes (nat_lt t.nak_count t.naks) _ _ tt tt
-hears_bytes t StatusIn (DataReply toggle (x ∷ bytes)) w = tt
-hears_bytes t StatusIn (DataReply Data0 []) w = if_bytes (nat_lt t.strikes 2) _ _ tt tt
-hears_bytes t StatusIn (DataReply Data1 []) w = tt
-hears_bytes t StatusIn NoReply w = if_bytes (nat_lt t.strikes 2) _ _ tt tt
-hears_bytes t _ _ w = tt
+receives_bytes t DataIn NoReply w = if_bytes (nat_lt t.strikes 2) _ _ tt tt
+receives_bytes t DataOut NakReply w = if_bytes (nat_lt t.nak_count t.naks) _ _ tt tt
+receives_bytes t DataOut NoReply w = if_bytes (nat_lt t.strikes 2) _ _ tt tt
+receives_bytes t StatusOut NakReply w = if_bytes (nat_lt t.nak_count t.naks) _ _ tt tt
+receives_bytes t StatusOut NoReply w = if_bytes (nat_lt t.strikes 2) _ _ tt tt
+receives_bytes t StatusIn NakReply w = if_bytes (nat_lt t.nak_count t.naks) _ _ tt tt
+receives_bytes t StatusIn (DataReply toggle (x ∷ bytes)) w = tt
+receives_bytes t StatusIn (DataReply Data0 []) w = if_bytes (nat_lt t.strikes 2) _ _ tt tt
+receives_bytes t StatusIn (DataReply Data1 []) w = tt
+receives_bytes t StatusIn NoReply w = if_bytes (nat_lt t.strikes 2) _ _ tt tt
+receives_bytes t _ _ w = tt
 
 -- what is kept stays steady
-pub kept_steady : (place : Place) (old new : Kept) (heard : Hearing) (result : Result Progress SetFault) → FitsPlace place old → KeepsBytes old → HearsBytes heard →
-    KeepsHeard old heard result new → FitsPlace place new × KeepsBytes new
+pub kept_steady : (place : Place) (old new : Kept) (received : HeardView) (result : Result Progress SetFault) → FitsPlace place old → KeepsBytes old → HasBytesOf received →
+    KeepsReceived old received result new → FitsPlace place new × KeepsBytes new
 kept_steady place old new Goes result fits bytes w e = (subst (λ x. FitsPlace place x) (sym e) fits, subst (λ x. KeepsBytes x) (sym e) bytes)
 kept_steady place old new Completes result fits bytes w e = (subst (λ x. FitsPlace place x) (sym e) fits, subst (λ x. KeepsBytes x) (sym e) bytes)
 kept_steady place old new (Fails why) result fits bytes w e = (subst (λ x. FitsPlace place x) (sym e) fits, subst (λ x. KeepsBytes x) (sym e) bytes)
@@ -167,13 +167,13 @@ goes_low limits terms place t t' k StatusOut good fits are less = ((good, fits, 
 goes_low limits terms place t t' k StatusIn good fits are less = ((good, fits, are), omega arith)
 
 pub takes_low : (limits : LimitView) (terms : Terms) (place : Place) (t : TransferView) (k : Kept) (answer : Answer) (new : HostPhase) (before after : List Trouble) → IsSteady (Reading place t k) →
-    BringsBytes answer → left (taken t answer).transfer < left t → TakesHeard limits terms place k (taken t answer) new before after →
+    BringsBytes answer → left (taken t answer).transfer < left t → TakesReceived limits terms place k (taken t answer) new before after →
     IsSteady new × (left_in_attempt limits.naks new < left_in_attempt limits.naks (Reading place t k))
 takes_low limits terms place t k answer new b a steady bytes less (result, after, keeps, inl (wants, e, same)) =
     subst (λ x. IsSteady x × (left_in_attempt limits.naks x < left_in_attempt limits.naks (Reading place t k))) (sym e) (tt, omega arith)
 takes_low limits terms place t k answer new b a steady bytes less (result, after, keeps, inr (fine, e, adds)) =
     let by = taken t answer in
-    let still = kept_steady place k after by.heard result steady.1 steady.2 (hears_bytes t t.stage answer bytes) keeps in
+    let still = kept_steady place k after by.received result steady.1 steady.2 (receives_bytes t t.stage answer bytes) keeps in
     subst (λ x. IsSteady x × (left_in_attempt limits.naks x < left_in_attempt limits.naks (Reading place t k))) (sym e)
     (goes_low limits terms place t by.transfer after by.transfer.stage steady.0 still.0 still.1 less)
 

@@ -1,4 +1,4 @@
--- Where a read leads to, by what is due after it or why it is refused.
+-- Where a read leads to, by what comes next after it or why it is refused.
 use Rattle.std.proofs.Common.{◌≡◌, Bool, true, false, ◌&&◌, if◌then◌else◌, List, [], ◌∷◌, ◌++◌, inl, inr, refl, ap, sym, ◌∙◌, subst}
 use Rattle.std.specs.Prelude.{Result, Ok, Err}
 use Rattle.std.proofs.lemmas.List.{append-nil}
@@ -10,7 +10,7 @@ use Rattle.usb_host.specs.declared.due.Due.{Due}
 use Rattle.usb_host.specs.declared.due.Due.TheVariants as dues
 use Rattle.usb_host.specs.declared.step.Step.{Step}
 use Rattle.usb_host.specs.declared.step.Trouble.{Trouble}
-use Rattle.usb_host.specs.Transfer.{Hearing, Goes, Brings, Completes, Fails}
+use Rattle.usb_host.specs.Transfer.{HeardView, Goes, Brings, Completes, Fails}
 use Rattle.usb_host.specs.Place.{Place, First, Address, Device, Header, Set, Qualifier, Languages, Text, Configure, Reported, Stopped}
 use Rattle.usb_host.specs.Terms.{forgives_any}
 use Rattle.usb_host.specs.Order.{forgiven_by, forgives, is_of_strings, is_spared, lacks_string, spared, stand_in, step_of, stopped}
@@ -21,10 +21,10 @@ use Rattle.usb_host.proofs.LeadLemmas.{texts_go_on}
 use Rattle.usb_host.proofs.SpareLemmas.{left_of, right_of, spares_any, spares_strings, spares_end}
 
 -- a read has ended whose trouble may be passed over
-abbrev pub MayPass : Hearing → Type 0
+abbrev pub MayPass : HeardView → Type 0
 MayPass Completes = Unit {0}
 MayPass (Fails Stalled) = Unit {0}
-MayPass heard = ⊥
+MayPass received = ⊥
 
 -- what is not passed over
 unspared : (texts : NamedStrings) (here there : Place) → is_spared texts here there ≡ false → spared texts here there ≡ there
@@ -74,7 +74,7 @@ stand_in_goes (Configure f) e = absurd (cc)
 stand_in_goes (Reported f) e = absurd (cc)
 stand_in_goes (Stopped trouble) e = absurd (cc)
 
-grows_spared : (texts : NamedStrings) (heard : Hearing) (here : Place) → MayPass heard → is_of_strings here ≡ true → forgives_any texts ≡ true → Grows texts heard here
+grows_spared : (texts : NamedStrings) (received : HeardView) (here : Place) → MayPass received → is_of_strings here ≡ true → forgives_any texts ≡ true → Grows texts received here
 grows_spared texts Completes (Languages f named) may e any = tt
 grows_spared texts Completes (Text f s named) may e any = tt
 grows_spared texts (Fails Stalled) (Languages f named) may e any = any
@@ -87,15 +87,15 @@ grows_spared texts (Fails TooLong) here may e any = absurd (may)
 grows_spared texts (Fails Unexpected) here may e any = absurd (may)
 grows_spared texts (Fails Malformed) here may e any = absurd (may)
 grows_spared texts (Fails Memory) here may e any = absurd (may)
-grows_spared texts heard First may e any = absurd (cc)
-grows_spared texts heard (Address first) may e any = absurd (cc)
-grows_spared texts heard (Device first) may e any = absurd (cc)
-grows_spared texts heard (Header kind f) may e any = absurd (cc)
-grows_spared texts heard (Set kind f total) may e any = absurd (cc)
-grows_spared texts heard (Qualifier f) may e any = absurd (cc)
-grows_spared texts heard (Configure f) may e any = absurd (cc)
-grows_spared texts heard (Reported f) may e any = absurd (cc)
-grows_spared texts heard (Stopped trouble) may e any = absurd (cc)
+grows_spared texts received First may e any = absurd (cc)
+grows_spared texts received (Address first) may e any = absurd (cc)
+grows_spared texts received (Device first) may e any = absurd (cc)
+grows_spared texts received (Header kind f) may e any = absurd (cc)
+grows_spared texts received (Set kind f total) may e any = absurd (cc)
+grows_spared texts received (Qualifier f) may e any = absurd (cc)
+grows_spared texts received (Configure f) may e any = absurd (cc)
+grows_spared texts received (Reported f) may e any = absurd (cc)
+grows_spared texts received (Stopped trouble) may e any = absurd (cc)
 
 -- a draft that is as it was is good where it was
 pub passed_good : (texts : NamedStrings) (due : Due) (old now : Draft) (next : Result Due Why) (why : Why) → IsGood (place_of due old) →
@@ -105,14 +105,14 @@ passed_good texts due old now next why good leaves is forgiven =
     let same : now ≡ old = subst (λ n. LeavesDraft old now n) is (leaves (sym (strings_by_due due now old) ∙ strings)) in
     subst (λ d. IsGood (place_of due d)) (sym same) good
 
-module _ (texts : NamedStrings) (heard : Hearing) (may : MayPass heard) (due : Due) (old now new : Draft) (target : Place) (before after : List Trouble) where
+module _ (texts : NamedStrings) (received : HeardView) (may : MayPass received) (due : Due) (old now new : Draft) (target : Place) (before after : List Trouble) where
   abbrev here : Place
   here = place_of due old
 
   -- a read that was refused is passed over, or ends the enumeration
   refused_there : (why : Why) (next : Place) (forgiven : Bool) → forgives texts here why ≡ forgiven → target ≡ stopped here why →
       (is_of_strings here ≡ true → now ≡ old) →
-      EndsOrPasses forgiven (place_of due now) (record { step = step_of here; why = why }) next before after → Leads texts heard here target next before after
+      EndsOrPasses forgiven (place_of due now) (record { step = step_of here; why = why }) next before after → Leads texts received here target next before after
   refused_there why next false not e leaves (m, same) =
       let plain : is_spared texts here target ≡ false = ap (is_spared texts here) e ∙ not in
       inr (m ∙ sym e ∙ sym (unspared texts here target plain), same ∙ sym (append-nil before) ∙ ap (λ x. before ++ x) (sym (unlisted texts here target plain)))
@@ -120,7 +120,7 @@ module _ (texts : NamedStrings) (heard : Hearing) (may : MayPass heard) (due : D
       let spares : is_spared texts here target ≡ true = ap (is_spared texts here) e ∙ is in
       let strings = spares_strings texts here target spares in
       let on : is_end (spared texts here target) ≡ false = ap (λ b. is_end (if b then stand_in here else target)) spares ∙ stand_in_goes here strings in
-      inl ((grows_spared texts heard here may strings (spares_any texts here target spares), on), m, same)
+      inl ((grows_spared texts received here may strings (spares_any texts here target spares), on), m, same)
   refused_there why next true is e leaves (inr (m, adds)) =
       let spares : is_spared texts here target ≡ true = ap (is_spared texts here) e ∙ is in
       let same = leaves (spares_strings texts here target spares) in
@@ -129,9 +129,9 @@ module _ (texts : NamedStrings) (heard : Hearing) (may : MayPass heard) (due : D
       ap (forgiven_by texts here) e ∙ ap (λ b. if b then (record { step = step_of here; why = why }) ∷ [] else []) is in
       inr (m ∙ ap (λ d. stand_in (place_of due d)) same ∙ sym to, adds ∙ ap (λ x. before ++ x) (sym listed))
 
-  pub leads_there : (step : Step) (next : Result Due Why) (there : Due) → step ≡ step_of here → LeadsTo texts heard here target now next →
+  pub leads_there : (step : Step) (next : Result Due Why) (there : Due) → step ≡ step_of here → LeadsTo texts received here target now next →
       (is_of_strings here ≡ true → LeavesDraft old now next) → Settles texts (place_of due now) step next now there new before after →
-      Leads texts heard here target (place_of there new) before after
+      Leads texts received here target (place_of there new) before after
   leads_there step (Ok x) there at leads leaves (is, same, kept) =
       let plain = not_spared texts here target (λ strings. subst (λ p. is_end p ≡ false) leads (leaves strings)) in
       inr (

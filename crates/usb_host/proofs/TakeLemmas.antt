@@ -19,31 +19,31 @@ use Rattle.usb_host.specs.declared.why.Why.TheVariants.{NoAnswer, Busy, Stalled,
 use Rattle.usb_host.specs.declared.transfer.TransferStage.{TransferStage}
 use Rattle.usb_host.specs.declared.transfer.TransferStage.TheVariants.{Setup, DataIn, DataOut, StatusOut, StatusIn, Completed, Failed}
 use Rattle.usb_host.specs.Limits.{LimitView}
-use Rattle.usb_host.specs.Transfer.{TransferView, Hearing, Goes, Brings, Completes, Fails, Taken, taken, taken_at, struck, delayed, completed, failed, kept_packet, data_stage}
+use Rattle.usb_host.specs.Transfer.{TransferView, HeardView, Goes, Brings, Completes, Fails, Taken, taken, taken_at, struck, delayed, completed, failed, kept_packet, data_stage}
 use Rattle.usb_host.specs.Place.{Place}
 use Rattle.usb_host.specs.Keeping.{Kept}
 use Rattle.usb_host.specs.Keeping as kept
 use Rattle.usb_host.specs.declared.current_read.Ending.{Ending}
 use Rattle.usb_host.specs.declared.current_read.Ending.TheVariants as endings
 use Rattle.usb_host.specs.Order.{forgiven_by, refused_leads, spared, stopped}
-use Rattle.usb_host.specs.Steps.{Reading, Ended, completed_leads, enter, goes_on, passes_over, Grows, KeepsHeard, LacksMemory, TakesHeard}
+use Rattle.usb_host.specs.Steps.{Reading, Ended, completed_leads, enter, goes_on, passes_over, Grows, KeepsReceived, LacksMemory, TakesReceived}
 use Rattle.usb_host.specs.inside.Sound.{IsGood, FitsPlace, KeepsBytes}
 use Rattle.usb_host.specs.Cost.{cost, price, BringsBytes}
 use Rattle.usb_host.specs.inside.Places.{Adds, HasRoom, Leads, is_end}
-use Rattle.usb_host.specs.inside.Reads.{IsGoing, IsCounted, EndsBy, Hears, LeadsOn, standing}
-use Rattle.usb_host.proofs.LowerLemmas.{hears_bytes, kept_steady, completed_low}
+use Rattle.usb_host.specs.inside.Reads.{IsGoing, IsCounted, EndsBy, TakesProgress, LeadsOn, standing}
+use Rattle.usb_host.proofs.LowerLemmas.{receives_bytes, kept_steady, completed_low}
 use Rattle.usb_host.proofs.CostLemmas.{Fits, refused_falls, spared_falls}
 use Rattle.usb_host.proofs.LeadLemmas.{goes_on_there}
 
--- the stage, by what was heard
-abbrev pub StageOf : Hearing → TransferStage → Type 0
+-- the stage, by what was received
+abbrev pub StageOf : HeardView → TransferStage → Type 0
 StageOf Goes s = IsGoing s
 StageOf (Brings bytes) s = IsGoing s
 StageOf Completes s = s ≡ Completed
 StageOf (Fails why) s = s ≡ Failed why
 
--- the count of bytes, by what was heard: it never falls, and no more are kept than were asked for
-abbrev pub CountOf : TransferView → Hearing → TransferView → Type 0
+-- the count of bytes, by what was received: it never falls, and no more are kept than were asked for
+abbrev pub CountOf : TransferView → HeardView → TransferView → Type 0
 CountOf t Goes u = t.kept ≤ u.kept
 CountOf t (Brings bytes) u = (u.kept ≡ t.kept + length bytes) × (t.kept + length bytes ≤ t.request.length)
 CountOf t Completes u = Unit {0}
@@ -51,8 +51,8 @@ CountOf t (Fails why) u = Unit {0}
 
 -- what a transfer that goes on makes of an answer
 pub record Heeds (t : TransferView) (x : Taken) : Type 0 where
-  pub stage : StageOf x.heard x.transfer.stage
-  pub count : CountOf t x.heard x.transfer
+  pub stage : StageOf x.received x.transfer.stage
+  pub count : CountOf t x.received x.transfer
   pub request : x.transfer.request ≡ t.request
 
 if_heeds : (t : TransferView) (b : Bool) (x y : Taken) → (b ≡ true → Heeds t x) → (b ≡ false → Heeds t y) → Heeds t (if b then x else y)
@@ -129,29 +129,29 @@ pub heeds : (t : TransferView) (answer : Answer) → IsGoing t.stage → Heeds t
 heeds t answer going = heeds_at t t.stage answer refl going
 
 -- new bytes have room
-room_by : (t u : TransferView) (k : Kept) (heard : Hearing) (bytes : List ℕ) → IsCounted t k → CountOf t heard u → heard ≡ Brings bytes → HasRoom k (length bytes)
-room_by t u (kept.Set d over) heard bytes counted count e = tt
-room_by t u (kept.Bytes b) heard bytes counted count e =
+room_by : (t u : TransferView) (k : Kept) (received : HeardView) (bytes : List ℕ) → IsCounted t k → CountOf t received u → received ≡ Brings bytes → HasRoom k (length bytes)
+room_by t u (kept.Set d over) received bytes counted count e = tt
+room_by t u (kept.Bytes b) received bytes counted count e =
     let n : CountOf t (Brings bytes) u = subst (λ h. CountOf t h u) e count in
     let a = counted.0 in
     let m = counted.1 in
     let f = n.1 in
     omega arith
 
-pub room : (t : TransferView) (k : Kept) (answer : Answer) (bytes : List ℕ) → IsGoing t.stage → IsCounted t k → (taken t answer).heard ≡ Brings bytes → HasRoom k (length bytes)
-room t k answer bytes going counted e = room_by t (taken t answer).transfer k (taken t answer).heard bytes counted (heeds t answer going).count e
+pub room : (t : TransferView) (k : Kept) (answer : Answer) (bytes : List ℕ) → IsGoing t.stage → IsCounted t k → (taken t answer).received ≡ Brings bytes → HasRoom k (length bytes)
+room t k answer bytes going counted e = room_by t (taken t answer).transfer k (taken t answer).received bytes counted (heeds t answer going).count e
 
 -- what is kept stays what its place wants
-pub hears_steady : (place : Place) (t : TransferView) (old new : Kept) (answer : Answer) (u : TransferView) (ending : Option Ending) → FitsPlace place old → KeepsBytes old →
-    BringsBytes answer → Hears old (taken t answer) u new ending → FitsPlace place new × KeepsBytes new
-hears_steady place t old new answer u ending fits are bytes (is, (result, keeps, ends)) =
-    kept_steady place old new (taken t answer).heard result fits are (hears_bytes t t.stage answer bytes) keeps
+pub receives_steady : (place : Place) (t : TransferView) (old new : Kept) (answer : Answer) (u : TransferView) (ending : Option Ending) → FitsPlace place old → KeepsBytes old →
+    BringsBytes answer → TakesProgress old (taken t answer) u new ending → FitsPlace place new × KeepsBytes new
+receives_steady place t old new answer u ending fits are bytes (is, (result, keeps, ends)) =
+    kept_steady place old new (taken t answer).received result fits are (receives_bytes t t.stage answer bytes) keeps
 
 -- where a read leads to is good
-leads_good : (texts : NamedStrings) (heard : Hearing) (here target next : Place) (before after : List Trouble) → IsGood here → Fits (cost here - price here) target →
-    Leads texts heard here target next before after → IsGood next
-leads_good texts heard here target next b a good fits (inl (grows, e, same)) = subst (λ x. IsGood x) (sym e) tt
-leads_good texts heard here target next b a good fits (inr (e, adds)) = subst (λ x. IsGood x) (sym e) (spared_falls texts here target good fits).0
+leads_good : (texts : NamedStrings) (received : HeardView) (here target next : Place) (before after : List Trouble) → IsGood here → Fits (cost here - price here) target →
+    Leads texts received here target next before after → IsGood next
+leads_good texts received here target next b a good fits (inl (grows, e, same)) = subst (λ x. IsGood x) (sym e) tt
+leads_good texts received here target next b a good fits (inr (e, adds)) = subst (λ x. IsGood x) (sym e) (spared_falls texts here target good fits).0
 
 pub next_good : (terms : Terms) (place : Place) (t : TransferView) (k : Kept) (ending : Ending) (next : Place) (before after : List Trouble) →
     IsGood place → FitsPlace place k → KeepsBytes k → LeadsOn terms place t k ending next before after → IsGood next
@@ -193,13 +193,13 @@ adds_none before after more same none = same ∙ sym (append-nil before) ∙ ap 
 
 module _ (limits : LimitView) (terms : Terms) (place : Place) where
   -- the read goes on
-  takes_on : (old : Kept) (by : Taken) (k : Kept) (heard : Hearing) (result : Result Progress SetFault) (before after : List Trouble) →
-      by.heard ≡ heard → StageOf heard by.transfer.stage → KeepsHeard old heard result k → EndsBy old heard result None → after ≡ before →
-      TakesHeard limits terms place old by (Reading place by.transfer k) before after
+  takes_on : (old : Kept) (by : Taken) (k : Kept) (received : HeardView) (result : Result Progress SetFault) (before after : List Trouble) →
+      by.received ≡ received → StageOf received by.transfer.stage → KeepsReceived old received result k → EndsBy old received result None → after ≡ before →
+      TakesReceived limits terms place old by (Reading place by.transfer k) before after
   takes_on old by k Goes result b a e stage keeps fine same = (
     result,
     k,
-    subst (λ h. KeepsHeard old h result k) (sym e) keeps,
+    subst (λ h. KeepsReceived old h result k) (sym e) keeps,
     inr (
       subst (λ h. LacksMemory h old result → ⊥) (sym e) (λ lacks. lacks),
       sym (going_on limits terms place by.transfer k by.transfer.stage stage),
@@ -209,7 +209,7 @@ module _ (limits : LimitView) (terms : Terms) (place : Place) where
   takes_on old by k (Brings bytes) result b a e stage keeps fine same = (
     result,
     k,
-    subst (λ h. KeepsHeard old h result k) (sym e) keeps,
+    subst (λ h. KeepsReceived old h result k) (sym e) keeps,
     inr (
       subst (λ h. LacksMemory h old result → ⊥) (sym e) fine,
       sym (going_on limits terms place by.transfer k by.transfer.stage stage),
@@ -219,16 +219,16 @@ module _ (limits : LimitView) (terms : Terms) (place : Place) where
   takes_on old by k Completes result b a e stage keeps fine same = absurd (fine)
   takes_on old by k (Fails why) result b a e stage keeps fine same = absurd (fine)
 
-  -- the read ends, and leads where what was heard leads, or finds no memory
-  leads_end : (old : Kept) (by : Taken) (k : Kept) (heard : Hearing) (result : Result Progress SetFault) (target next : Place) (before after : List Trouble) →
-      by.heard ≡ heard → KeepsHeard old heard result k → (LacksMemory heard old result → ⊥) →
+  -- the read ends, and leads where what was received leads, or finds no memory
+  leads_end : (old : Kept) (by : Taken) (k : Kept) (received : HeardView) (result : Result Progress SetFault) (target next : Place) (before after : List Trouble) →
+      by.received ≡ received → KeepsReceived old received result k → (LacksMemory received old result → ⊥) →
       goes_on limits terms place by.transfer k by.transfer.stage ≡ enter limits (spared terms.choice.strings place target) →
       passes_over terms place by.transfer k by.transfer.stage ≡ forgiven_by terms.choice.strings place target →
-      Leads terms.choice.strings heard place target next before after → TakesHeard limits terms place old by (enter limits next) before after
-  leads_end old by k heard result target next b a e keeps fine goes passes (inl (grows, m, same)) = (
+      Leads terms.choice.strings received place target next before after → TakesReceived limits terms place old by (enter limits next) before after
+  leads_end old by k received result target next b a e keeps fine goes passes (inl (grows, m, same)) = (
     result,
     k,
-    subst (λ h. KeepsHeard old h result k) (sym e) keeps,
+    subst (λ h. KeepsReceived old h result k) (sym e) keeps,
     inl (
       inr (
         subst (λ h. Grows terms.choice.strings h place) (sym e) grows.0,
@@ -238,10 +238,10 @@ module _ (limits : LimitView) (terms : Terms) (place : Place) where
       same,
     ),
   )
-  leads_end old by k heard result target next b a e keeps fine goes passes (inr (m, adds)) = (
+  leads_end old by k received result target next b a e keeps fine goes passes (inr (m, adds)) = (
     result,
     k,
-    subst (λ h. KeepsHeard old h result k) (sym e) keeps,
+    subst (λ h. KeepsReceived old h result k) (sym e) keeps,
     inr (
       subst (λ h. LacksMemory h old result → ⊥) (sym e) fine,
       ap (λ x. enter limits x) m ∙ sym goes,
@@ -251,13 +251,13 @@ module _ (limits : LimitView) (terms : Terms) (place : Place) where
 
   -- the read ends here
   stops_end : (old : Kept) (by : Taken) (k : Kept) (why : Why) (result : Result Progress SetFault) (next : Place) (before after : List Trouble) →
-      by.heard ≡ Fails why → by.transfer.stage ≡ Failed why → KeepsHeard old (Fails why) result k →
+      by.received ≡ Fails why → by.transfer.stage ≡ Failed why → KeepsReceived old (Fails why) result k →
       goes_on limits terms place by.transfer k (Failed why) ≡ Ended (stopped place why) → passes_over terms place by.transfer k (Failed why) ≡ [] →
-      (next ≡ stopped place why) × (after ≡ before) → TakesHeard limits terms place old by (enter limits next) before after
+      (next ≡ stopped place why) × (after ≡ before) → TakesReceived limits terms place old by (enter limits next) before after
   stops_end old by k why result next b a e stage keeps goes passes (m, same) = (
     result,
     k,
-    subst (λ h. KeepsHeard old h result k) (sym e) keeps,
+    subst (λ h. KeepsReceived old h result k) (sym e) keeps,
     inr (
       subst (λ h. LacksMemory h old result → ⊥) (sym e) (λ lacks. lacks),
       ap (λ x. enter limits x) m ∙ sym goes ∙ ap (λ x. goes_on limits terms place by.transfer k x) (sym stage),
@@ -266,8 +266,8 @@ module _ (limits : LimitView) (terms : Terms) (place : Place) where
   )
 
   fails_end : (old : Kept) (by : Taken) (k : Kept) (why : Why) (result : Result Progress SetFault) (next : Place) (before after : List Trouble) →
-      by.heard ≡ Fails why → by.transfer.stage ≡ Failed why → KeepsHeard old (Fails why) result k →
-      LeadsOn terms place by.transfer k (endings.Failed why) next before after → TakesHeard limits terms place old by (enter limits next) before after
+      by.received ≡ Fails why → by.transfer.stage ≡ Failed why → KeepsReceived old (Fails why) result k →
+      LeadsOn terms place by.transfer k (endings.Failed why) next before after → TakesReceived limits terms place old by (enter limits next) before after
   fails_end old by k Stalled result next b a e stage keeps leads =
       leads_end old by k (Fails Stalled) result (refused_leads terms place) next b a e keeps (λ lacks. lacks)
       (ap (λ x. goes_on limits terms place by.transfer k x) stage) (ap (λ x. passes_over terms place by.transfer k x) stage) leads
@@ -278,16 +278,16 @@ module _ (limits : LimitView) (terms : Terms) (place : Place) where
   fails_end old by k Malformed result next b a e stage keeps ends = stops_end old by k Malformed result next b a e stage keeps refl refl ends
   fails_end old by k Memory result next b a e stage keeps ends = stops_end old by k Memory result next b a e stage keeps refl refl ends
 
-  takes_end : (old : Kept) (by : Taken) (k : Kept) (heard : Hearing) (result : Result Progress SetFault) (ending : Ending) (next : Place) (before after : List Trouble) →
-      by.heard ≡ heard → StageOf heard by.transfer.stage → KeepsHeard old heard result k → EndsBy old heard result (Some ending) →
-      LeadsOn terms place by.transfer k ending next before after → TakesHeard limits terms place old by (enter limits next) before after
+  takes_end : (old : Kept) (by : Taken) (k : Kept) (received : HeardView) (result : Result Progress SetFault) (ending : Ending) (next : Place) (before after : List Trouble) →
+      by.received ≡ received → StageOf received by.transfer.stage → KeepsReceived old received result k → EndsBy old received result (Some ending) →
+      LeadsOn terms place by.transfer k ending next before after → TakesReceived limits terms place old by (enter limits next) before after
   takes_end old by k Goes result ending next b a e stage keeps ends leads = absurd (ends)
   takes_end old by k (Brings bytes) result endings.Completed next b a e stage keeps ends leads = absurd (ends)
   takes_end old by k (Brings bytes) result (endings.Failed why) next b a e stage keeps ends leads =
       let (m, same) = subst (λ w. LeadsOn terms place by.transfer k (endings.Failed w) next b a) ends.0 leads in (
         result,
         k,
-        subst (λ h. KeepsHeard old h result k) (sym e) keeps,
+        subst (λ h. KeepsReceived old h result k) (sym e) keeps,
         inl (inl (subst (λ h. LacksMemory h old result) (sym e) ends.1), ap (λ x. enter limits x) m, same),
       )
   takes_end old by k Completes result endings.Completed next b a e stage keeps ends leads =
@@ -298,35 +298,35 @@ module _ (limits : LimitView) (terms : Terms) (place : Place) where
   takes_end old by k (Fails why) result (endings.Failed w) next b a e stage keeps ends leads =
       fails_end old by k why result next b a e stage keeps (subst (λ x. LeadsOn terms place by.transfer k (endings.Failed x) next b a) ends leads)
 
-  -- both, for what a read heard
-  pub hears_on : (t u : TransferView) (old k : Kept) (answer : Answer) (before after : List Trouble) → IsGoing t.stage → is_end place ≡ false →
-      Hears old (taken t answer) u k None → after ≡ before → TakesHeard limits terms place old (taken t answer) (standing place u k) before after
-  hears_on t u old k answer b a going reads (is, (result, keeps, ends)) same =
-      let on = takes_on old (taken t answer) k (taken t answer).heard result b a refl (heeds t answer going).stage keeps ends same in
+  -- both, for what a read received
+  pub receives_on : (t u : TransferView) (old k : Kept) (answer : Answer) (before after : List Trouble) → IsGoing t.stage → is_end place ≡ false →
+      TakesProgress old (taken t answer) u k None → after ≡ before → TakesReceived limits terms place old (taken t answer) (standing place u k) before after
+  receives_on t u old k answer b a going reads (is, (result, keeps, ends)) same =
+      let on = takes_on old (taken t answer) k (taken t answer).received result b a refl (heeds t answer going).stage keeps ends same in
       let here : Reading place (taken t answer).transfer k ≡ standing place u k = ap (λ x. Reading place x k) (sym is) ∙ sym (ap (λ b. if b then Ended place else Reading place u k) reads) in
-      subst (λ x. TakesHeard limits terms place old (taken t answer) x b a) here on
+      subst (λ x. TakesReceived limits terms place old (taken t answer) x b a) here on
 
-  pub hears_end : (t u : TransferView) (old k : Kept) (answer : Answer) (ending : Ending) (next : Place) (before after : List Trouble) →
-      IsGoing t.stage → Hears old (taken t answer) u k (Some ending) → LeadsOn terms place u k ending next before after →
-      TakesHeard limits terms place old (taken t answer) (enter limits next) before after
-  hears_end t u old k answer ending next b a going (is, (result, keeps, ends)) leads =
-      takes_end old (taken t answer) k (taken t answer).heard result ending next b a refl (heeds t answer going).stage keeps ends
+  pub receives_end : (t u : TransferView) (old k : Kept) (answer : Answer) (ending : Ending) (next : Place) (before after : List Trouble) →
+      IsGoing t.stage → TakesProgress old (taken t answer) u k (Some ending) → LeadsOn terms place u k ending next before after →
+      TakesReceived limits terms place old (taken t answer) (enter limits next) before after
+  receives_end t u old k answer ending next b a going (is, (result, keeps, ends)) leads =
+      takes_end old (taken t answer) k (taken t answer).received result ending next b a refl (heeds t answer going).stage keeps ends
       (subst (λ x. LeadsOn terms place x k ending next b a) is leads)
 
--- what is heard where new bytes are kept, and memory was not wanting
-pub hears_brings : (by : Taken) (old new : Kept) (bytes : List ℕ) → Brings bytes ≡ by.heard → Adds old bytes false new →
-    (x : Result Progress SetFault) × KeepsHeard old by.heard x new × EndsBy old by.heard x None
-hears_brings by old new bytes e (x, keeps, fine) = subst (λ h. (x : Result Progress SetFault) × KeepsHeard old h x new × EndsBy old h x None) e (x, keeps, fine)
+-- what is received where new bytes are kept, and memory was not wanting
+pub receives_brings : (by : Taken) (old new : Kept) (bytes : List ℕ) → Brings bytes ≡ by.received → Adds old bytes false new →
+    (x : Result Progress SetFault) × KeepsReceived old by.received x new × EndsBy old by.received x None
+receives_brings by old new bytes e (x, keeps, fine) = subst (λ h. (x : Result Progress SetFault) × KeepsReceived old h x new × EndsBy old h x None) e (x, keeps, fine)
 
--- what is heard where no bytes are kept
-pub hears_goes : (by : Taken) (old : Kept) → Goes ≡ by.heard → (x : Result Progress SetFault) × KeepsHeard old by.heard x old × EndsBy old by.heard x None
-hears_goes by old e = subst (λ h. (x : Result Progress SetFault) × KeepsHeard old h x old × EndsBy old h x None) e (Ok More, refl, tt)
+-- what is received where no bytes are kept
+pub receives_goes : (by : Taken) (old : Kept) → Goes ≡ by.received → (x : Result Progress SetFault) × KeepsReceived old by.received x old × EndsBy old by.received x None
+receives_goes by old e = subst (λ h. (x : Result Progress SetFault) × KeepsReceived old h x old × EndsBy old h x None) e (Ok More, refl, tt)
 
-pub hears_completes : (by : Taken) (old : Kept) → Completes ≡ by.heard →
-    (x : Result Progress SetFault) × KeepsHeard old by.heard x old × EndsBy old by.heard x (Some endings.Completed)
-hears_completes by old e = subst (λ h. (x : Result Progress SetFault) × KeepsHeard old h x old × EndsBy old h x (Some endings.Completed)) e (Ok More, refl, tt)
+pub receives_completes : (by : Taken) (old : Kept) → Completes ≡ by.received →
+    (x : Result Progress SetFault) × KeepsReceived old by.received x old × EndsBy old by.received x (Some endings.Completed)
+receives_completes by old e = subst (λ h. (x : Result Progress SetFault) × KeepsReceived old h x old × EndsBy old h x (Some endings.Completed)) e (Ok More, refl, tt)
 
-pub hears_fails : (by : Taken) (old : Kept) (why : Why) → Fails why ≡ by.heard →
-    (x : Result Progress SetFault) × KeepsHeard old by.heard x old × EndsBy old by.heard x (Some (endings.Failed why))
-hears_fails by old why e =
-    subst (λ h. (x : Result Progress SetFault) × KeepsHeard old h x old × EndsBy old h x (Some (endings.Failed why))) e (Ok More, refl, refl)
+pub receives_fails : (by : Taken) (old : Kept) (why : Why) → Fails why ≡ by.received →
+    (x : Result Progress SetFault) × KeepsReceived old by.received x old × EndsBy old by.received x (Some (endings.Failed why))
+receives_fails by old why e =
+    subst (λ h. (x : Result Progress SetFault) × KeepsReceived old h x old × EndsBy old h x (Some (endings.Failed why))) e (Ok More, refl, refl)

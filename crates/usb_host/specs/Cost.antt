@@ -34,7 +34,7 @@ cost (Configure f) = 3
 cost (Reported f) = 0
 cost (Stopped trouble) = 0
 
--- of the read that is due at a place
+-- of the next read at a place
 abbrev pub price : Place → ℕ
 price First = 4
 price (Address first) = 3

@@ -6,7 +6,7 @@ use Rattle.usb_host.specs.declared.choice.Terms.{Terms}
 use Rattle.usb_host.specs.declared.why.Why.TheVariants.{Stalled}
 use Rattle.usb_host.specs.declared.reply.Reply.{Reply}
 use Rattle.usb_host.specs.declared.reply.Reply.TheVariants as replied
-use Rattle.usb_host.specs.Transfer.{Hearing, Goes, Brings, Completes, Fails, taken}
+use Rattle.usb_host.specs.Transfer.{HeardView, Goes, Brings, Completes, Fails, taken}
 use Rattle.usb_host.specs.Place.{Place, Device, Set, Qualifier, Languages, Text}
 use Rattle.usb_host.specs.Order.{bytes_lead, done_leads, refused_leads, counted, next}
 use Rattle.usb_host.specs.Steps.{HostPhase, Reading}
@@ -25,7 +25,7 @@ part_of terms place (replied.Bytes b) = []
 part_of terms place replied.Done = counted terms.choice.strings place (done_leads place) []
 part_of terms place replied.Refused = counted terms.choice.strings place (refused_leads terms place) []
 
--- what came since the last bus reset: what counts of the reads that have completed, and the bytes of the one in work
+-- what came since the last bus reset: what counts of the reads that have completed, and the bytes of the current one
 pub record Came : Type 0 where
   pub whole : List ℕ
   pub read : List ℕ
@@ -34,17 +34,17 @@ pub record Came : Type 0 where
 abbrev pub no_bytes : Came
 no_bytes = record { whole = []; read = [] }
 
--- what came then, where this was heard at a place: of a read that failed nothing counts, but a stand-in
-abbrev pub came_by : Terms → Place → Hearing → Came → Came
+-- what came then, where this was received at a place: of a read that failed nothing counts, but a stand-in
+abbrev pub came_by : Terms → Place → HeardView → Came → Came
 came_by terms place Goes c = c
 came_by terms place (Brings bytes) c = record c { read = c.read ++ bytes }
 came_by terms place Completes c = record { whole = c.whole ++ part_of terms place (replied.Bytes c.read); read = [] }
 came_by terms place (Fails Stalled) c = record { whole = c.whole ++ part_of terms place replied.Refused; read = [] }
 came_by terms place (Fails why) c = record c { read = [] }
 
--- and after an answer, where a read may be in work
+-- and after an answer, where there may be a current read
 abbrev pub came_in : Terms → HostPhase → Answer → Came → Came
-came_in terms (Reading place transfer kept) answer c = came_by terms place (taken transfer answer).heard c
+came_in terms (Reading place transfer kept) answer c = came_by terms place (taken transfer answer).received c
 came_in terms phase answer c = c
 
 module _ (set_of : List ℕ → Option Configuration) (terms : Terms) where

@@ -9,7 +9,7 @@ use Rattle.usb_set.specs.Decoding.{Decoding, gathers, has, refused, Answers}
 use Rattle.usb_host.specs.Place.{Place}
 use Rattle.usb_host.specs.Place as places
 
--- what is kept of the read in work: the bytes, or of a set its decoder and whether bytes came after the set's last
+-- what is kept of the current read: the bytes, or of a set its decoder and whether bytes came after the set's last
 pub data Kept : Type 0 where
   Bytes : (bytes : List ℕ) → Kept
   Set : (decoder : Decoding) (over : Bool) → Kept
@@ -24,7 +24,7 @@ abbrev pub WantsMemory : Result Progress SetFault → Type 0
 WantsMemory (Ok progress) = ⊥
 WantsMemory (Err fault) = fault.why ≡ Memory
 
--- whether bytes came after the set's last, after a piece of so many
+-- whether bytes came after the set's last, after a piece of this many
 abbrev pub is_over : Bool → Result Progress SetFault → ℕ → Bool
 is_over over (Ok More) count = over
 is_over over (Ok (Done used)) count = over || nat_lt used count

@@ -38,7 +38,7 @@ ReportsWhatWasAsked =
     (replies : List Reply) (g : DescriptorFile) → reached set_of terms First replies ≡ Reported g →
     AreBytes (parts_of set_of terms First replies) → IsReport terms.choice.strings g (parts_of set_of terms First replies)
 
--- `last` is reached from a new host by so many transactions, whatever bytes were answered to each, and by bus resets. This
+-- `last` is reached from a new host by this many transactions, whatever bytes were answered to each, and by bus resets. This
 -- came since the last of these. The hosts are those on the way, the newest first.
 abbrev pub Asks : HostView → List HostView → ℕ → Came → HostView → Type 0
 Asks new [] n came last = (last ≡ new) × (n ≡ 0) × (came ≡ no_bytes)

@@ -70,7 +70,7 @@ abbrev pub set_step : SetKind → ℕ → Step
 set_step kinds.Configuration i = steps.Set i
 set_step kinds.OtherSpeed i = steps.OtherSet i
 
--- the step that is in work at a place; after the end the last one
+-- the current step at a place; after the end the last one
 abbrev pub step_of : Place → Step
 step_of First = steps.First
 step_of (Address first) = steps.Address
@@ -137,7 +137,7 @@ abbrev pub header_leads : Place → SetKind → DescriptorFile → Option ℕ �
 header_leads place kind f None = stopped place Malformed
 header_leads place kind f (Some total) = Set kind f total
 
--- after a set of so many bytes: just those that its header announced, of its kind, and the first one can be selected
+-- after a set of this many bytes: just those that its header announced, of its kind, and the first one can be selected
 abbrev pub set_leads : Terms → Place → SetKind → DescriptorFile → ℕ → ℕ → Option Configuration → Place
 set_leads terms place kind f total count None = stopped place Malformed
 set_leads terms place kind f total count (Some c) =

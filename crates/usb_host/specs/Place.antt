@@ -15,7 +15,7 @@ pub data Place : Type 0 where
   Device : (first : List ℕ) → Place
   -- the first nine bytes of the next set of this kind
   Header : (kind : SetKind) (file : DescriptorFile) → Place
-  -- that set, of so many bytes
+  -- that set, of this many bytes
   Set : (kind : SetKind) (file : DescriptorFile) (total : ℕ) → Place
   -- the device qualifier
   Qualifier : (file : DescriptorFile) → Place

@@ -11,7 +11,7 @@ use Rattle.usb_fields.specs.Units.{units_bytes}
 
 -- The requests of an enumeration (USB 2.0, 9.4).
 
--- GET_DESCRIPTOR of this type and index, of at most so many bytes, in this language where it is a string (9.4.3)
+-- GET_DESCRIPTOR of this type and index, of at most this many bytes, in this language where it is a string (9.4.3)
 abbrev pub get_descriptor : ℕ → ℕ → ℕ → ℕ → SetupPacket
 get_descriptor kind index language length = record { request_type = 128; request = 6; value = kind * 256 + index; index = language; length = length }
 
@@ -74,7 +74,7 @@ may_have_second Low d = false
 may_have_second Full d = not (nat_lt d.usb 0x0200)
 may_have_second High d = not (nat_lt d.usb 0x0200)
 
--- wTotalLength, where a header of so many bytes has this bLength and type and is that of a set of this type (9.6.3)
+-- wTotalLength, where a header of this many bytes has this bLength and type and is that of a set of this type (9.6.3)
 abbrev pub total_said : ℕ → ℕ → ℕ → ℕ → ℕ → Option ℕ
 total_said kind count length_said kind_said total =
     if (count == 9) && nat_lt 8 length_said && (kind_said == kind) && not (nat_lt total length_said) then Some total else None

@@ -16,7 +16,7 @@ use Rattle.usb_host.specs.declared.transfer.TransferStage.{TransferStage}
 use Rattle.usb_host.specs.declared.transfer.TransferStage.TheVariants.{Completed, Failed}
 use Rattle.usb_host.specs.Limits.{LimitView}
 use Rattle.usb_host.specs.Plan.{Plan, Begin, Success, GivesUp}
-use Rattle.usb_host.specs.Transfer.{TransferView, Hearing, Goes, Brings, Completes, Fails, Taken, taken, begun, due}
+use Rattle.usb_host.specs.Transfer.{TransferView, HeardView, Goes, Brings, Completes, Fails, Taken, taken, begun, due}
 use Rattle.usb_host.specs.declared.step.Action.{Action}
 use Rattle.usb_host.specs.declared.step.Action.TheVariants as actions
 use Rattle.usb_host.specs.declared.step.Step.{Step}
@@ -26,7 +26,7 @@ use Rattle.usb_host.specs.Keeping as kept
 use Rattle.usb_host.specs.Order.{asks, step_of, stopped, bytes_lead, set_leads, done_leads, refused_leads, spared, forgiven_by}
 use Rattle.usb_host.specs.Keeping.{Kept, nothing_kept, WantsMemory, Keeps, set_kept}
 
--- a bus reset is due; or a read is in work, with its transfer and what is kept of its bytes; or there is an outcome
+-- a bus reset is requested; or there is a current read, with its transfer and what is kept of its bytes; or there is an outcome
 pub data HostPhase : Type 0 where
   ResetDue : HostPhase
   Reading : (place : Place) (transfer : TransferView) (kept : Kept) → HostPhase
@@ -68,7 +68,7 @@ wanted_by actions.Reset = WantsReset
 wanted_by (actions.Send t) = WantsSent (sent_of t)
 wanted_by actions.Ended = WantsNothing
 
--- a transaction, if one is due
+-- a transaction, if one comes next
 abbrev pub sends : Option Sent → Wanted
 sends None = WantsNothing
 sends (Some sent) = WantsSent sent
@@ -79,13 +79,13 @@ wanted ResetDue = WantsReset
 wanted (Reading place transfer kept) = sends (due transfer)
 wanted (Ended place) = WantsNothing
 
--- the step that is in work, if one is
+-- the current step, if there is one
 abbrev pub step_in : HostPhase → Option Step
 step_in ResetDue = None
 step_in (Reading place transfer kept) = Some (step_of place)
 step_in (Ended place) = None
 
--- the transfer that is in work, if one is
+-- the current transfer, if there is one
 abbrev pub transfer_in : HostPhase → Option TransferView
 transfer_in ResetDue = None
 transfer_in (Reading place transfer kept) = Some transfer
@@ -109,7 +109,7 @@ lent_outcome None = None
 lent_outcome (Some (Ok f)) = Some (Ok f.now)
 lent_outcome (Some (Err trouble)) = Some (Err trouble)
 
--- what a plan puts in work at a place, with this limit of NAKs
+-- what a plan begins at a place, with this limit of NAKs
 abbrev pub entered : ℕ → Place → Plan → HostPhase
 entered naks place (Begin address packet q) = Reading place (begun address packet naks q) (nothing_kept place)
 entered naks place Success = Ended place
@@ -124,7 +124,7 @@ abbrev pub reset_in : HostView → HostPhase → HostView
 reset_in v ResetDue = record v { resets = suc v.resets; phase = enter v.limits First; forgiven = [] }
 reset_in v phase = v
 
--- the bus was reset: where no reset is due, nothing changes
+-- the bus was reset: where no reset is requested, nothing changes
 abbrev pub reset : HostView → HostView
 reset v = reset_in v v.phase
 
@@ -134,13 +134,13 @@ blames_bus NoAnswer = true
 blames_bus Busy = true
 blames_bus why = false
 
--- After trouble that blames the bus, a reset is due while attempts are left.
+-- After trouble that blames the bus, a reset is requested while attempts are left.
 abbrev pub settled : ℕ → ℕ → HostPhase → HostPhase
 settled attempts resets (Ended (Stopped trouble)) =
     if blames_bus trouble.why && nat_lt resets attempts then ResetDue else Ended (Stopped trouble)
 settled attempts resets phase = phase
 
--- where a read leads to that has completed with so many bytes
+-- where a read leads to that has completed with this many bytes
 abbrev pub read_leads : Terms → Place → ℕ → Kept → Place
 read_leads terms place count (kept.Bytes bytes) = bytes_lead terms place bytes
 read_leads terms (Set kind f total) count (kept.Set d over) = set_leads terms (Set kind f total) kind f total count (set_kept d over)
@@ -169,20 +169,20 @@ passes_over terms place t k (Failed Stalled) = forgiven_by terms.choice.strings 
 passes_over terms place t k stage = []
 
 -- new bytes change what is kept, and nothing else does
-abbrev pub KeepsHeard : Kept → Hearing → Result Progress SetFault → Kept → Type 0
-KeepsHeard old (Brings bytes) result new = Keeps old bytes result new
-KeepsHeard old Goes result new = new ≡ old
-KeepsHeard old Completes result new = new ≡ old
-KeepsHeard old (Fails why) result new = new ≡ old
+abbrev pub KeepsReceived : Kept → HeardView → Result Progress SetFault → Kept → Type 0
+KeepsReceived old (Brings bytes) result new = Keeps old bytes result new
+KeepsReceived old Goes result new = new ≡ old
+KeepsReceived old Completes result new = new ≡ old
+KeepsReceived old (Fails why) result new = new ≡ old
 
 -- memory was wanting for new bytes: the decoder of a set has said so
-abbrev pub LacksMemory : Hearing → Kept → Result Progress SetFault → Type 0
+abbrev pub LacksMemory : HeardView → Kept → Result Progress SetFault → Type 0
 LacksMemory (Brings bytes) (kept.Set d over) result = WantsMemory result
-LacksMemory heard old result = ⊥
+LacksMemory received old result = ⊥
 
 -- A read has ended for which a place takes memory: a set, a language list or a string, which are kept, or the qualifier,
 -- after which and after whose refusal the indices of the strings are. And for a stand-in where a string was refused.
-abbrev pub Grows : NamedStrings → Hearing → Place → Type 0
+abbrev pub Grows : NamedStrings → HeardView → Place → Type 0
 Grows texts Completes (Set kind f total) = Unit {0}
 Grows texts Completes (Qualifier f) = Unit {0}
 Grows texts Completes (Languages f named) = Unit {0}
@@ -190,30 +190,30 @@ Grows texts Completes (Text f s named) = Unit {0}
 Grows texts (Fails Stalled) (Qualifier f) = Unit {0}
 Grows texts (Fails Stalled) (Languages f named) = IsTrue (forgives_any texts)
 Grows texts (Fails Stalled) (Text f s named) = IsTrue (forgives_any texts)
-Grows texts heard place = ⊥
+Grows texts received place = ⊥
 
 -- Memory was wanting at the end of a read that leads to this phase. What was read is judged before memory is asked for, so
 -- a read that is malformed, and not passed over, asks for none.
-abbrev pub WantsToGrow : NamedStrings → Hearing → Place → HostPhase → Type 0
-WantsToGrow texts heard place next = Grows texts heard place × (next ≡ Ended (stopped place Malformed) → ⊥)
+abbrev pub WantsToGrow : NamedStrings → HeardView → Place → HostPhase → Type 0
+WantsToGrow texts received place next = Grows texts received place × (next ≡ Ended (stopped place Malformed) → ⊥)
 
 -- A host takes what its transfer made of an answer, where these troubles were passed over before and after. The read goes
 -- on, or the next one begins; or memory was wanting where it is asked for.
-abbrev pub TakesHeard : LimitView → Terms → Place → Kept → Taken → HostPhase → List Trouble → List Trouble → Type 0
-TakesHeard limits terms place old by new before after =
-    (result : Result Progress SetFault) × (k : Kept) × KeepsHeard old by.heard result k
+abbrev pub TakesReceived : LimitView → Terms → Place → Kept → Taken → HostPhase → List Trouble → List Trouble → Type 0
+TakesReceived limits terms place old by new before after =
+    (result : Result Progress SetFault) × (k : Kept) × KeepsReceived old by.received result k
     × (let next = goes_on limits terms place by.transfer k by.transfer.stage in
-    ((LacksMemory by.heard old result ⊎ WantsToGrow terms.choice.strings by.heard place next)
+    ((LacksMemory by.received old result ⊎ WantsToGrow terms.choice.strings by.received place next)
     × (new ≡ Ended (stopped place Memory)) × (after ≡ before))
-    ⊎ ((LacksMemory by.heard old result → ⊥)
+    ⊎ ((LacksMemory by.received old result → ⊥)
     × (new ≡ next) × (after ≡ before ++ passes_over terms place by.transfer k by.transfer.stage)))
 
--- by the phase: only a read in work takes an answer
+-- by the phase: only a current read takes an answer
 abbrev pub TakesIn : HostView → HostPhase → Reply → HostView → Type 0
 TakesIn v ResetDue answer w = w ≡ v
 TakesIn v (Ended place) answer w = w ≡ v
 TakesIn v (Reading place transfer k) answer w =
-    (phase : HostPhase) × TakesHeard v.limits (terms_of v) place k (taken transfer answer) phase v.forgiven w.forgiven
+    (phase : HostPhase) × TakesReceived v.limits (terms_of v) place k (taken transfer answer) phase v.forgiven w.forgiven
     × (w ≡ record v { phase = settled v.limits.attempts v.resets phase; forgiven = w.forgiven })
 
 -- a host takes an answer

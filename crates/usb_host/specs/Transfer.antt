@@ -56,7 +56,7 @@ is_untried stage strikes = false
 abbrev pub packet_due : TransferView → List ℕ → List ℕ
 packet_due t bytes = take t.packet (drop t.kept bytes)
 
--- what is due at a stage, where these are the data to the device: a status out is an empty DATA1 packet
+-- what comes next at a stage, where these are the data to the device: a status out is an empty DATA1 packet
 abbrev pub token_due : TransferView → List ℕ → TransferStage → Option Token
 token_due t bytes Setup = Some (SetupToken (setup_bytes t.request))
 token_due t bytes DataIn = Some InToken
@@ -71,7 +71,7 @@ abbrev pub addressed : ℕ → Option Token → Option Sent
 addressed address None = None
 addressed address (Some token) = Some (record { address = address; token = token })
 
--- the transaction that is due, if the transfer has not ended, where these are the data to the device
+-- the next transaction, if the transfer has not ended, where these are the data to the device
 abbrev pub due_of : TransferView → List ℕ → Option Sent
 due_of t bytes = addressed t.address (token_due t bytes t.stage)
 
@@ -86,15 +86,15 @@ sent_by None = None
 sent_by (Some t) = Some (sent_of t)
 
 -- what a reply means to the caller: the transfer goes on, with or without new bytes, or has ended
-pub data Hearing : Type 0 where
-  Goes : Hearing
-  Brings : (bytes : List ℕ) → Hearing
-  Completes : Hearing
-  Fails : (why : Why) → Hearing
+pub data HeardView : Type 0 where
+  Goes : HeardView
+  Brings : (bytes : List ℕ) → HeardView
+  Completes : HeardView
+  Fails : (why : Why) → HeardView
 
 -- that, and the transfer after the reply
 pub record Taken : Type 0 where
-  pub heard : Hearing
+  pub received : HeardView
   pub transfer : TransferView
 
 -- Progress: on to this stage. It clears the strikes and the NAKs.
@@ -103,21 +103,21 @@ progress t stage = record t { stage = stage; strikes = 0; nak_count = 0 }
 
 -- progress to this stage, and the transfer goes on
 abbrev pub moved : TransferView → TransferStage → Taken
-moved t stage = record { heard = Goes; transfer = progress t stage }
+moved t stage = record { received = Goes; transfer = progress t stage }
 
 -- progress to the end
 abbrev pub completed : TransferView → Taken
-completed t = record { heard = Completes; transfer = progress t Completed }
+completed t = record { received = Completes; transfer = progress t Completed }
 
 -- the transfer ends for this reason
 abbrev pub failed : TransferView → Why → Taken
-failed t why = record { heard = Fails why; transfer = record t { stage = Failed why } }
+failed t why = record { received = Fails why; transfer = record t { stage = Failed why } }
 
 -- A strike: the third since the last progress ends the transfer. NAKs are neither counted nor cleared.
 abbrev pub struck : TransferView → Taken
 struck t =
     if nat_lt t.strikes 2
-    then record { heard = Goes; transfer = record t { strikes = suc t.strikes } }
+    then record { received = Goes; transfer = record t { strikes = suc t.strikes } }
     else failed t NoAnswer
 
 -- A NAK of IN (8.4.6.1) or of OUT (8.4.6.3): one more than the limit ends the transfer. Strikes are neither counted nor
@@ -125,7 +125,7 @@ struck t =
 abbrev pub delayed : TransferView → Taken
 delayed t =
     if nat_lt t.nak_count t.naks
-    then record { heard = Goes; transfer = record t { nak_count = suc t.nak_count } }
+    then record { received = Goes; transfer = record t { nak_count = suc t.nak_count } }
     else failed t Busy
 
 -- the data stage in this direction
@@ -155,7 +155,7 @@ with_packet t n =
 
 -- a data packet with the awaited toggle: its bytes are new
 abbrev pub kept_packet : TransferView → List ℕ → Taken
-kept_packet t bytes = record { heard = Brings bytes; transfer = with_packet t (length bytes) }
+kept_packet t bytes = record { received = Brings bytes; transfer = with_packet t (length bytes) }
 
 -- a packet in the data stage: its length is tested first, then its toggle (8.6.4), then the bytes that are left
 abbrev pub taken_data : TransferView → Toggle → List ℕ → Taken
@@ -198,8 +198,8 @@ taken_at t StatusIn NakReply = delayed t
 taken_at t StatusIn StallReply = failed t Stalled
 taken_at t StatusIn (DataReply toggle bytes) = taken_status t toggle bytes
 taken_at t StatusIn NoReply = struck t
-taken_at t Completed reply = record { heard = Completes; transfer = t }
-taken_at t (Failed why) reply = record { heard = Fails why; transfer = t }
+taken_at t Completed reply = record { received = Completes; transfer = t }
+taken_at t (Failed why) reply = record { received = Fails why; transfer = t }
 
 -- a transfer takes a reply
 abbrev pub taken : TransferView → Reply → Taken

@@ -6,7 +6,7 @@ use Rattle.usb_host.specs.Transfer.{TransferView, Taken, Goes, taken_at}
 use Rattle.usb_host.specs.declared.transfer.TransferStage.{TransferStage}
 use Rattle.usb_host.specs.declared.transfer.TransferStage.TheVariants.{DataOut, StatusIn}
 
--- whether a data packet to the device is due
+-- whether a data packet to the device comes next
 abbrev pub is_sending : TransferStage → Bool
 is_sending DataOut = true
 is_sending stage = false
@@ -31,9 +31,9 @@ with_sent t n =
       nak_count = 0;
     }
 
--- the ACK of the data packet that was due
+-- the ACK of the data packet that came next
 abbrev pub acknowledged : TransferView → Taken
-acknowledged t = record { heard = Goes; transfer = with_sent t (packet_length t) }
+acknowledged t = record { received = Goes; transfer = with_sent t (packet_length t) }
 
 -- What each reply does at each stage: the ACK of a data packet counts its bytes, and any other reply does what it does in
 -- any transfer.

@@ -1,4 +1,4 @@
-//! A read in work.
+//! A current read.
 ghost use Rattle.std.specs.Prelude.{◌≡◌, ◌<◌, true, [], Err};
 ghost use Rattle.usb_fields.specs.Packets.{reply_of};
 ghost use Rattle.usb_host.specs.Transfer.{left, taken};
@@ -11,7 +11,7 @@ ghost use Rattle.usb_host.specs.Steps.{enter};
 ghost use Rattle.usb_host.specs.Order.{forgives as forgives_at};
 ghost use Rattle.usb_host.specs.declared.draft.Draft.{Draft as DraftView};
 ghost use Rattle.usb_host.specs.inside.Places.{PassesOver, Settles, place_of};
-ghost use Rattle.usb_host.specs.inside.Reads.{GoesOn, Hears, IsReading, LeadsOn, kept_in, place_in, standing, stands};
+ghost use Rattle.usb_host.specs.inside.Reads.{GoesOn, TakesProgress, IsReading, LeadsOn, kept_in, place_in, standing, stands};
 
 use crate::choice::{NamedStrings, Terms};
 use crate::draft::Draft;
@@ -35,7 +35,7 @@ pub enum Ending {
     Failed(Why),
 }
 
-/// The read in work: what is due, what was read so far, the transfer, and what is held of its bytes. All of it stays
+/// The current read: what comes next, what was read so far, the transfer, and what is held of its bytes. All of it stays
 /// where it is, and is changed there.
 #[derive(Debug, Drop)]
 pub struct CurrentRead {
@@ -50,8 +50,8 @@ pub struct CurrentRead {
 impl CurrentRead {
     /// Takes an answer into the transfer, and keeps what is new. How the read ended, if it did.
     #[inline(always)]
-    #[tactic(auto, using(crate::proofs::TakeLemmas::room, crate::proofs::TakeLemmas::hears_steady, crate::proofs::StandLemmas::going_due))]
-    pub(crate) fn hear(&mut self, answer: Answer<'_>) -> Option<Ending>
+    #[tactic(auto, using(crate::proofs::TakeLemmas::room, crate::proofs::TakeLemmas::receives_steady, crate::proofs::StandLemmas::going_due))]
+    pub(crate) fn take_answer(&mut self, answer: Answer<'_>) -> Option<Ending>
         requires reading { IsReading (place_in self.old) self.old.transfer (kept_in self.old) }
         requires bytes { BringsBytes (reply_of answer) }
         ensures place { place_in self.new ≡ place_in self.old }
@@ -59,7 +59,7 @@ impl CurrentRead {
         ensures bytes { KeepsBytes (kept_in self.new) }
         ensures forgiven { self.new.forgiven ≡ self.old.forgiven }
         ensures fewer { left (taken self.old.transfer (reply_of answer.entry)).transfer < left self.old.transfer }
-        ensures heard { Hears (kept_in self.old) (taken self.old.transfer (reply_of answer.entry)) self.new.transfer (kept_in self.new) result }
+        ensures received { TakesProgress (kept_in self.old) (taken self.old.transfer (reply_of answer.entry)) self.new.transfer (kept_in self.new) result }
     {
         match self.transfer.take(answer) {
             Heard::Again => None,
@@ -89,7 +89,7 @@ impl CurrentRead {
         self.due = due;
     }
 
-    /// What is due after a read that has ended, or the end when out of memory.
+    /// What comes next after a read that has ended, or the end when out of memory.
     fn lead(&mut self, alloc: Global, terms: Terms, ending: Ending) -> Due
         requires good { IsGood (place_in self.old) }
         ensures { LeadsOn terms (place_in self.old) self.old.transfer (kept_in self.old) ending (place_of result self.new.draft) self.old.forgiven self.new.forgiven }
@@ -116,7 +116,7 @@ impl CurrentRead {
         }
     }
 
-    /// What is due after a read of this step. One that is refused ends the enumeration, or is passed over.
+    /// What comes next after a read of this step. One that is refused ends the enumeration, or is passed over.
     #[inline(always)]
     fn settle(
         &mut self,
@@ -157,7 +157,7 @@ impl CurrentRead {
     }
 }
 
-/// Whether trouble at what is due is passed over.
+/// Whether trouble at what comes next is passed over.
 fn forgives(strings: NamedStrings, due: &Due, why: Why) -> bool
     ensures { (draft : DraftView) → result ≡ forgives_at strings (place_of due.now draft) why }
 {
@@ -176,7 +176,7 @@ fn out_of_memory(step: Step) -> Due
     }
 }
 
-/// The transfer that begins with what is due; at an end it is one that nobody asks for.
+/// The transfer that begins with what comes next; at an end it is one that nobody asks for.
 fn transfer_at(limits: &Limits, due: &Due, draft: &Draft) -> Transfer
     requires { IsGood (place_of due.now draft.now) }
     ensures { (k : Kept) → k ≡ nothing_kept (place_of due.now draft.now) → standing (place_of due.now draft.now) result k ≡ enter limits.now (place_of due.now draft.now) }

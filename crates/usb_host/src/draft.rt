@@ -26,7 +26,7 @@ const NO_DEVICE: DeviceDescriptor = DeviceDescriptor {
     configurations: 0,
 };
 
-/// What was read so far. It is changed where it lies: what is due says which of it counts.
+/// What was read so far. It is changed where it lies: what comes next says which of it counts.
 #[derive(Debug, Drop)]
 pub struct Draft {
     /// The file, as far as it is read.

@@ -39,7 +39,7 @@ pub enum Due {
     Device { first: [u8; 8] },
     /// The first nine bytes of the next set of this kind.
     Header { kind: SetKind },
-    /// That set, of so many bytes.
+    /// That set, of this many bytes.
     Set { kind: SetKind, total: u16 },
     /// The device qualifier.
     Qualifier,
@@ -95,7 +95,7 @@ impl Due {
         }
     }
 
-    /// The step that is in work.
+    /// The current step.
     pub(crate) fn step(&self, draft: &Draft) -> Step
         requires { IsGood (place_of self.now draft.now) }
         ensures { result ≡ step_of (place_of self.now draft.now) }
@@ -130,7 +130,7 @@ impl Due {
         }
     }
 
-    /// The transfer that is due, where the device gets this address; after the end there is none.
+    /// The next transfer, where the device gets this address; after the end there is none.
     pub(crate) fn request(&self, draft: &Draft, address: u8) -> Option<Request>
         requires { IsGood (place_of self.now draft.now) }
         ensures value { result ≡ requested (asks address (place_of self.now draft.now)) }

@@ -57,7 +57,7 @@ impl KeptBytes {
     }
 }
 
-/// What is kept of the bytes of the read in work. Which of it counts depends on what is due.
+/// What is kept of the bytes of the current read. Which of it counts depends on what comes next.
 #[derive(Debug, Drop)]
 pub struct Held {
     /// The bytes of a short read.
@@ -83,7 +83,7 @@ impl Held {
         }
     }
 
-    /// Begins anew, for the read that is due.
+    /// Begins anew, for the next read.
     pub(crate) fn restart(&mut self, alloc: Global, due: Due)
         ensures { (draft : DraftView) → kept_of due self.new ≡ nothing_kept (place_of due draft) }
     {

@@ -114,7 +114,7 @@ impl Host {
         }
     }
 
-    /// The bus was reset: the device has no address and no configuration. Where no reset is due, nothing changes. No reset
+    /// The bus was reset: the device has no address and no configuration. Where no reset is requested, nothing changes. No reset
     /// adds to what may still be asked for, nor to the attempts past their limit.
     pub fn reset_done(&mut self)
         ensures reset { self.new ≡ reset self.old }
@@ -129,10 +129,10 @@ impl Host {
         self.reading = begin(self.alloc, &self.limits);
     }
 
-    /// Takes what the transaction that was due brought: the read in work goes on, or the next one begins, or there is
-    /// an outcome. Where no transaction is due, nothing changes.
+    /// Takes what the requested transaction brought: the current read goes on, or the next one begins, or there is
+    /// an outcome. Where no transaction is requested, nothing changes.
     ///
-    /// After `NoAnswer` or `Busy` a bus reset is due while attempts are left, and what was read counts no more: it is
+    /// After `NoAnswer` or `Busy` a bus reset is requested while attempts are left, and what was read counts no more: it is
     /// dropped with the reset. This is the only call that allocates: if an allocation fails, the outcome is `Memory`. What
     /// was read is judged first: where it is `Malformed`, that is the outcome.
     ///
@@ -148,7 +148,7 @@ impl Host {
             return;
         }
         known_answer(answer);
-        match self.reading.hear(answer) {
+        match self.reading.take_answer(answer) {
             Some(ending) => {
                 self.reading
                     .go_on(self.alloc, &self.limits, &self.terms, ending);
@@ -169,7 +169,7 @@ impl Host {
         self.resets
     }
 
-    /// The step that is in work, if one is.
+    /// The current step, if there is one.
     ///
     /// ```rust
     /// assert_eq!(rt; host.step(), Some(Step::First));
@@ -183,7 +183,7 @@ impl Host {
         Some(self.reading.due.step(&self.reading.draft))
     }
 
-    /// The transfer that is in work, if one is: a copy, which no further answer changes.
+    /// The current transfer, if there is one: a copy, which no further answer changes.
     ///
     /// ```rust
     /// if let Some(transfer) = host.transfer() {

@@ -1,6 +1,6 @@
 //! The host's end of a USB 2.0 control pipe, and a host that reads all descriptors of a device and configures it.
 //!
-//! [`Transfer`] is one control transfer (USB 2.0, 8.5.3): [`Transfer::next`] is the transaction that is due,
+//! [`Transfer`] is one control transfer (USB 2.0, 8.5.3): [`Transfer::next`] is the next transaction,
 //! [`Transfer::take`] gets the reply, [`Heard`] is what that means to the caller, and [`Why`] has the reasons for which
 //! a transfer fails. It moves by one function of its view and the reply, written out in `specs/Transfer.antt` as the
 //! standard's table of stages: SETUP, data stage, status stage. Progress, a strike (no reply, or a packet that came
@@ -8,7 +8,7 @@
 //! transactions, at most `(naks + 3) * (wLength / packet size + 3)` at the start, and each reply lowers it. [`Write`] is a
 //! transfer with data to the device, which each ACK of a data packet moves on (`specs/Write.antt`).
 //!
-//! [`Host`] says what is due in an enumeration, a bus reset or a transaction, and takes what came back, within
+//! [`Host`] says what comes next in an enumeration, a bus reset or a transaction, and takes what came back, within
 //! [`Limits`] of the NAKs in a transfer and of the attempts. It drives no bus and knows no device. Its steps are
 //! definitions (`specs/Steps.antt`, `specs/Order.antt`), and [`laws`] says what holds of them whatever a device
 //! answers.

@@ -93,7 +93,7 @@ fn texts_due(alloc: Global, draft: &mut Draft) -> Due
     Due::Configure
 }
 
-/// What is due, where memory was not wanting.
+/// What comes next, where memory was not wanting.
 fn or_memory(due: Result<Due, NoMemory>) -> Result<Due, Why>
     ensures { OrMemory due result }
 {
@@ -143,7 +143,7 @@ fn read_header(terms: Terms, kind: SetKind, bytes: &[u8]) -> Result<Due, Why>
     }
 }
 
-/// After a set of so many bytes: as many as the wTotalLength that was read before, of its kind, and the first set can be
+/// After a set of this many bytes: as many as the wTotalLength that was read before, of its kind, and the first set can be
 /// selected.
 #[tactic(auto, using(crate::proofs::LeadLemmas::sets_go_on))]
 fn read_set(
@@ -232,7 +232,7 @@ fn read_text(alloc: Global, terms: Terms, bytes: &[u8], draft: &mut Draft) -> Re
     }
 }
 
-/// What is due after a read of so many bytes, or why it is rejected.
+/// What comes next after a read of this many bytes, or why it is rejected.
 fn lead_read(
     alloc: Global,
     terms: Terms,
@@ -311,7 +311,7 @@ pub(crate) fn lead_completed(
     lead_read(alloc, terms, due, draft, transfer.kept(), held)
 }
 
-/// What is due after a stand-in for what a read of strings was to bring: a language list of English (United States) alone,
+/// What comes next after a stand-in for what a read of strings was to bring: a language list of English (United States) alone,
 /// or an empty string.
 pub(crate) fn stand_in(alloc: Global, due: Due, draft: &mut Draft) -> Result<Due, NoMemory>
     requires { IsGood (place_of due draft.old) }

@@ -4,7 +4,7 @@ ghost use Rattle.usb_host.specs.Read.{get_descriptor, set_address, set_configura
 
 use usb_fields::{Setup, request, request_type};
 
-/// A control transfer that is due: the address that it goes to, the packet size there, and its setup packet.
+/// The next control transfer: the address that it goes to, the packet size there, and its setup packet.
 #[derive(Clone, Copy, Debug)]
 pub struct Request {
     pub address: u8,

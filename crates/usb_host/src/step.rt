@@ -91,7 +91,7 @@ impl fmt::Display for Step {
 /// Why an enumeration ended without success, and at which step.
 #[derive(Clone, Copy, Debug, PartialEq, Eq, Hash)]
 pub struct Trouble {
-    /// The step that was in work.
+    /// The step that was current.
     pub step: Step,
     /// The reason.
     pub why: Why,

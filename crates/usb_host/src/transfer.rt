@@ -52,8 +52,8 @@ const STRIKES: u8 = 2;
 /// ```rust
 /// let mut transfer = Transfer::new(0, 64, 16, Setup::from_bytes(&[0x80, 6, 0, 1, 0, 0, 2, 0]));
 /// transfer.take(Answer::Ack);
-/// let heard = transfer.take(Answer::Data(Toggle::Data1, &[18, 1]));
-/// assert_eq!(rt; heard, Heard::Bytes(&[18, 1]));
+/// let received = transfer.take(Answer::Data(Toggle::Data1, &[18, 1]));
+/// assert_eq!(rt; received, Heard::Bytes(&[18, 1]));
 /// assert_eq!(rt; transfer.take(Answer::Ack), Heard::Complete);
 /// assert_eq!(rt; transfer.next(), None);
 /// ```
@@ -142,7 +142,7 @@ impl Transfer {
         self.fields
     }
 
-    /// The transaction that is due, by the stage, the address and the request; `None` once the transfer has ended.
+    /// The next transaction, by the stage, the address and the request; `None` once the transfer has ended.
     ///
     /// In DataOut it is an empty DATA1, since a transfer has no data for the device. No device takes that as a packet of
     /// them, and its ACK is [`Why::Unexpected`].
@@ -177,7 +177,7 @@ impl Transfer {
         })
     }
 
-    /// The data packet that is due, of these data.
+    /// The next data packet, of these data.
     #[inline(always)]
     fn packet_of<'a>(&self, bytes: &'a [u8]) -> &'a [u8]
         ensures { result.now ≡ packet_due self.now bytes.now }
@@ -234,7 +234,7 @@ impl Transfer {
         self.fields.nak_count
     }
 
-    /// Whether a data packet to the device is due.
+    /// Whether a data packet to the device comes next.
     #[inline(always)]
     pub(crate) fn is_sending(&self) -> bool
         ensures { result ≡ is_sending self.now.stage }
@@ -256,7 +256,7 @@ impl Transfer {
         self.fields.stage == TransferStage::Setup && self.fields.strikes == 0
     }
 
-    /// Takes the reply to the transaction that was due, which moves the transfer as the table of stages says. A transfer
+    /// Takes the reply to the transaction that came next, which moves the transfer as the table of stages says. A transfer
     /// that has ended answers the same `Complete` or `Failed` from then on, and does not change. Whatever is replied, at
     /// most `(naks + 3) * (wLength / packet size + 3)` transactions are due. The request stays.
     ///
@@ -270,7 +270,7 @@ impl Transfer {
     /// ```
     #[inline(always)]
     pub fn take<'a>(&mut self, a: Answer<'a>) -> Heard<'a>
-        ensures heard { heard_of result ≡ (taken self.old (reply_of a.entry)).heard }
+        ensures received { heard_of result ≡ (taken self.old (reply_of a.entry)).received }
         ensures after { self.new ≡ (taken self.old (reply_of a.entry)).transfer }
         ensures request { self.new.request ≡ self.old.request }
         ensures fewer { IsSome (due self.old) → left self.new < left self.old }
@@ -283,7 +283,7 @@ impl Transfer {
     /// The same by the stage.
     #[inline(always)]
     fn take_at<'a>(&mut self, a: Answer<'a>) -> Heard<'a>
-        ensures heard { heard_of result ≡ (taken self.old (reply_of a.entry)).heard }
+        ensures received { heard_of result ≡ (taken self.old (reply_of a.entry)).received }
         ensures after { self.new ≡ (taken self.old (reply_of a.entry)).transfer }
     {
         match self.fields.stage {
@@ -332,7 +332,7 @@ impl Transfer {
     #[inline(always)]
     fn take_data<'a>(&mut self, toggle: Toggle, bytes: &'a [u8]) -> Heard<'a>
         requires { self.old.stage ≡ DataIn }
-        ensures heard { heard_of result ≡ (taken_data self.old toggle bytes.now).heard }
+        ensures received { heard_of result ≡ (taken_data self.old toggle bytes.now).received }
         ensures after { self.new ≡ (taken_data self.old toggle bytes.now).transfer }
     {
         if bytes.len() > usize::from(self.fields.packet) {
@@ -351,7 +351,7 @@ impl Transfer {
     /// A packet in the status stage.
     #[inline(always)]
     fn take_status(&mut self, toggle: Toggle, bytes: &[u8]) -> Heard<'static>
-        ensures heard { heard_of result ≡ (taken_status self.old toggle bytes.now).heard }
+        ensures received { heard_of result ≡ (taken_status self.old toggle bytes.now).received }
         ensures after { self.new ≡ (taken_status self.old toggle bytes.now).transfer }
     {
         if !bytes.is_empty() {
@@ -366,7 +366,7 @@ impl Transfer {
     /// Progress: on to this stage.
     #[inline(always)]
     fn go_on(&mut self, stage: TransferStage) -> Heard<'static>
-        ensures heard { heard_of result ≡ (moved self.old stage).heard }
+        ensures received { heard_of result ≡ (moved self.old stage).received }
         ensures after { self.new ≡ (moved self.old stage).transfer }
     {
         self.fields.stage = stage;
@@ -378,7 +378,7 @@ impl Transfer {
     /// Progress to the end.
     #[inline(always)]
     fn complete(&mut self) -> Heard<'static>
-        ensures heard { heard_of result ≡ (completed self.old).heard }
+        ensures received { heard_of result ≡ (completed self.old).received }
         ensures after { self.new ≡ (completed self.old).transfer }
     {
         self.fields.stage = TransferStage::Completed;
@@ -387,7 +387,7 @@ impl Transfer {
         Heard::Complete
     }
 
-    /// Progress by a data packet of so many bytes.
+    /// Progress by a data packet of this many bytes.
     #[inline(always)]
     fn keep(&mut self, count: u16)
         requires stage { self.old.stage ≡ DataIn }
@@ -404,10 +404,10 @@ impl Transfer {
         self.fields.nak_count = 0;
     }
 
-    /// Progress of a write by the data packet that was due.
+    /// Progress of a write by the data packet that came next.
     #[inline(always)]
     pub(crate) fn count_sent(&mut self) -> Heard<'static>
-        ensures heard { heard_of result ≡ (acknowledged self.old).heard }
+        ensures received { heard_of result ≡ (acknowledged self.old).received }
         ensures after { self.new ≡ (acknowledged self.old).transfer }
         ensures fewer { self.old.stage ≡ DataOut → left self.new < left self.old }
     {
@@ -429,7 +429,7 @@ impl Transfer {
     /// The end, for this reason.
     #[inline(always)]
     fn fail(&mut self, why: Why) -> Heard<'static>
-        ensures heard { heard_of result ≡ (failed self.old why).heard }
+        ensures received { heard_of result ≡ (failed self.old why).received }
         ensures after { self.new ≡ (failed self.old why).transfer }
     {
         self.fields.stage = TransferStage::Failed(why);
@@ -439,7 +439,7 @@ impl Transfer {
     /// No reply, or a packet that came before.
     #[inline(always)]
     fn strike(&mut self) -> Heard<'static>
-        ensures heard { heard_of result ≡ (struck self.old).heard }
+        ensures received { heard_of result ≡ (struck self.old).received }
         ensures after { self.new ≡ (struck self.old).transfer }
     {
         if self.fields.strikes < STRIKES {
@@ -453,7 +453,7 @@ impl Transfer {
     /// A NAK.
     #[inline(always)]
     fn delay(&mut self) -> Heard<'static>
-        ensures heard { heard_of result ≡ (delayed self.old).heard }
+        ensures received { heard_of result ≡ (delayed self.old).received }
         ensures after { self.new ≡ (delayed self.old).transfer }
     {
         if self.fields.nak_count < self.fields.naks {

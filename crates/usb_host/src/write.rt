@@ -87,7 +87,7 @@ impl Write {
         self.transfer.fields()
     }
 
-    /// The transaction that is due, by the stage, the address and the request; `None` once the write has ended. A data
+    /// The next transaction, by the stage, the address and the request; `None` once the write has ended. A data
     /// packet has the bytes from the first on that was not acknowledged: a whole packet, or all that is left (USB 2.0,
     /// 8.5.3).
     ///
@@ -153,7 +153,7 @@ impl Write {
         self.transfer.is_untried()
     }
 
-    /// Takes the reply to the transaction that was due, which moves the write as the table of stages says. A write that
+    /// Takes the reply to the transaction that came next, which moves the write as the table of stages says. A write that
     /// has ended answers the same `Complete` or `Failed` from then on, and does not change. Whatever is replied, at most
     /// `(naks + 3) * (wLength / packet size + 3)` transactions are due. The request stays.
     ///
@@ -166,7 +166,7 @@ impl Write {
     /// ```
     #[inline(always)]
     pub fn take<'a>(&mut self, answer: Answer<'a>) -> Heard<'a>
-        ensures heard { heard_of result ≡ (written self.old (reply_of answer.entry)).heard }
+        ensures received { heard_of result ≡ (written self.old (reply_of answer.entry)).received }
         ensures after { self.new ≡ (written self.old (reply_of answer.entry)).transfer }
         ensures request { self.new.request ≡ self.old.request }
         ensures fewer { IsSome (due self.old) → left self.new < left self.old }

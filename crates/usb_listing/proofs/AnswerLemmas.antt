@@ -130,30 +130,30 @@ end_missing : (s : Option DescriptorFile) (n : ℕ) → is_whole s ≡ false →
 end_missing None n e = refl
 end_missing (Some f) n e = ap (λ (b : Bool). cond b (Ok f) (Err (fault_behind n whys.Missing))) e
 
-fault_told : (s : Option DescriptorFile) (n : ℕ) (rest : List ℕ) (why : ListWhy) → IsBegun s → RestFaulty s rest why → walk_end (walk (going s n []) rest) ≡ Err (fault_behind n why)
-fault_told s n rest whys.Line begun (line, more, some, parts, print, end) =
+fault_reported : (s : Option DescriptorFile) (n : ℕ) (rest : List ℕ) (why : ListWhy) → IsBegun s → RestFaulty s rest why → walk_end (walk (going s n []) rest) ≡ Err (fault_behind n why)
+fault_reported s n rest whys.Line begun (line, more, some, parts, print, end) =
     ap (λ (xs : List ℕ). walk_end (walk (going s n []) xs)) parts ∙ line_stops s n line more (λ e. some (parts ∙ e)) print end
-fault_told s n rest whys.Word begun h =
+fault_reported s n rest whys.Word begun h =
     stops s n rest h.line h.more whys.Word h.first (no_word s h.line (no_word_in h.line h.fault (word_in (first_word h.line)) refl))
-fault_told s n rest whys.Place begun h =
+fault_reported s n rest whys.Place begun h =
     let w = h.fault.0 in
     stops s n rest h.line h.more whys.Place h.first (no_place s h.line w (ap word_in h.fault.1 ∙ word_again w) (no_stand s w begun h.fault.2))
-fault_told s n rest whys.Field begun h =
+fault_reported s n rest whys.Field begun h =
     let w = h.fault.0 in
     stops s n rest h.line h.more whys.Field h.first
     (placed s h.line w None (ap word_in h.fault.1 ∙ word_again w) (may_is s w (ordered_of s begun) h.fault.2) (no_item_in h.line h.fault.3 (item_of_line h.line) refl))
-fault_told s n rest whys.TooLong begun h =
+fault_reported s n rest whys.TooLong begun h =
     let item = h.fault.0 in
     let is = next s item h.fault.1 (ordered_of s begun) h.fault.3 in
     stops s n rest h.line h.more whys.TooLong h.first
     (said_made s h.line item h.fault.2 is.may ∙ ap (λ (b : Bool). cond b (Err whys.TooLong) (Ok (grown s item))) (ap has_over is.is ∙ h.fault.4))
-fault_told s n rest whys.Missing begun (none, due) = ap (λ (xs : List ℕ). walk_end (walk (going s n []) xs)) none ∙ end_missing s n due
-fault_told s n rest whys.Memory begun h = absurd h.fault
+fault_reported s n rest whys.Missing begun (none, due) = ap (λ (xs : List ℕ). walk_end (walk (going s n []) xs)) none ∙ end_missing s n due
+fault_reported s n rest whys.Memory begun h = absurd h.fault
 
 pub answer_faulty : (text : List ℕ) (line : ℕ) (why : ListWhy) → ListFaulty text line why → answer_of text ≡ Err (record { line = line; why = why })
 unfolding answer_of
 answer_faulty text line why l =
     let b = l.begins in
     ap walk_end (walk_front text l.so_far l.rest line b)
-    ∙ fault_told l.so_far (length (items_of l.so_far)) l.rest why b.begun l.fault
+    ∙ fault_reported l.so_far (length (items_of l.so_far)) l.rest why b.begun l.fault
     ∙ ap (λ (k : ℕ). Err (record { line = k; why = why })) (sym b.line_is)

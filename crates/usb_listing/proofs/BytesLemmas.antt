@@ -21,7 +21,7 @@ use Rattle.usb_listing.specs.declared.word.Word.TheVariants as words
 use Rattle.usb_listing.specs.Listings.{IsBegun, IsBytesOf, ListFaulty, Lists, is_whole}
 use Rattle.usb_listing.specs.Order.{MayStand, has_over}
 use Rattle.usb_listing.specs.Says.{IsItem, Item, fields, item_word, languages, string}
-use Rattle.usb_listing.specs.inside.Drafts.{AreHeld, Reading, Told, so_far}
+use Rattle.usb_listing.specs.inside.Drafts.{AreHeld, Reading, Reported, so_far}
 use Rattle.usb_listing.specs.inside.Growing.{file_and, joined_to, may_follow_sets, may_stand, open_sets, qualifier_of, set_and}
 use Rattle.usb_listing.specs.inside.Thinning.{Finished, ReadsOn, last_bytes, with_open}
 use Rattle.usb_listing.specs.inside.Walking.{Refused, count_before, text_read}
@@ -71,8 +71,8 @@ over_same f h out o (string us) is may =
 
 -- ---- faults
 
-told_file : (f h : DescriptorFile) (out : List ℕ) → Onto f h out → IsBegun (Some f) → IsBegun (Some h) → (rest : List ℕ) (why : ListWhy) → Told (Some h) rest why → Told (Some f) rest why
-told_file f h out o bf bh rest why told = cases why told
+reported_file : (f h : DescriptorFile) (out : List ℕ) → Onto f h out → IsBegun (Some f) → IsBegun (Some h) → (rest : List ℕ) (why : ListWhy) → Reported (Some h) rest why → Reported (Some f) rest why
+reported_file f h out o bf bh rest why report = cases why report
   where
     stands : (w : Word) → may_stand (Some f) w ≡ may_stand (Some h) w
     stands w = may_same f h w (onto_like f h out o) (onto_last f h out o)
@@ -83,7 +83,7 @@ told_file f h out o bf bh rest why told = cases why told
     back : (w : Word) → MayStand (Some f) w → MayStand (Some h) w
     back w m = may_then (Some h) w bh.0 (sym (may_same f h w (onto_like f h out o) (onto_last f h out o)) ∙ may_is (Some f) w bf.0 m)
 
-    cases : (why : ListWhy) → Told (Some h) rest why → Told (Some f) rest why
+    cases : (why : ListWhy) → Reported (Some h) rest why → Reported (Some f) rest why
     cases whys.Line t = t
     cases whys.Word t = record { line = t.line; more = t.more; first = t.first; fault = t.fault }
     cases whys.Place t = record { line = t.line; more = t.more; first = t.first; fault = (t.fault.0, t.fault.1, λ m. t.fault.2 (back t.fault.0 m)) }
@@ -101,12 +101,12 @@ told_file f h out o bf bh rest why told = cases why told
     cases whys.Missing t = (t.0, whole_same f h bf bh (onto_like f h out o) ∙ t.1)
     cases whys.Memory t = record { line = t.line; more = t.more; first = t.first; word = t.word; word_is = t.word_is; may = onward t.word t.may }
 
-told_same : (whole kept : Option Draft) (out : List ℕ) → OntoDraft whole kept out → AreHeld whole → AreHeld kept → (rest : List ℕ) (why : ListWhy)
-    → Told (so_far kept) rest why → Told (so_far whole) rest why
-told_same None None out o hw hk rest why t = t
-told_same (Some whole) (Some kept) out o hw hk rest why t = told_file whole.file kept.file out o hw.begun hk.begun rest why t
-told_same None (Some kept) out o hw hk rest why t = absurd o
-told_same (Some whole) None out o hw hk rest why t = absurd o
+reported_same : (whole kept : Option Draft) (out : List ℕ) → OntoDraft whole kept out → AreHeld whole → AreHeld kept → (rest : List ℕ) (why : ListWhy)
+    → Reported (so_far kept) rest why → Reported (so_far whole) rest why
+reported_same None None out o hw hk rest why t = t
+reported_same (Some whole) (Some kept) out o hw hk rest why t = reported_file whole.file kept.file out o hw.begun hk.begun rest why t
+reported_same None (Some kept) out o hw hk rest why t = absurd o
+reported_same (Some whole) None out o hw hk rest why t = absurd o
 
 -- ---- all lines
 
@@ -124,9 +124,9 @@ read_next form text rest more old new n out is r on shorter =
     record { whole = t.whole; reading = reading_next form text rest more r.whole t.whole n r.reading t.takes shorter; onto = t.onto; held = t.held }
 
 pub refused_on : (form : Form) (text rest : List ℕ) (d : Option Draft) (n m : ℕ) (why : ListWhy) (out : List ℕ) → ReadOnto form text d rest n out → (why ≢ whys.Memory → count_before form rest 0 ≡ 0)
-    → m ≡ n → (why ≢ whys.Memory → Told (so_far d) (text_read form rest) why) → why ≢ whys.Memory → Refused form text m why
-refused_on form text rest d n m why out r none e told other =
-    refused_line form text rest r.whole n m why r.reading (none other) e (told_same r.whole d out r.onto r.reading.holds r.held (text_read form rest) why (told other))
+    → m ≡ n → (why ≢ whys.Memory → Reported (so_far d) (text_read form rest) why) → why ≢ whys.Memory → Refused form text m why
+refused_on form text rest d n m why out r none e report other =
+    refused_line form text rest r.whole n m why r.reading (none other) e (reported_same r.whole d out r.onto r.reading.holds r.held (text_read form rest) why (report other))
 
 pub passed_why : {A : Type 0} (form : Form) (r : Result A ListFault) (text : List ℕ) (e : ListFault) → IsErrAnd r (λ y. y ≡ e) → (e.why ≢ whys.Memory → Refused form text e.line e.why)
     → IfErr r (λ fault. fault.why ≢ whys.Memory → Refused form text fault.line fault.why)
@@ -177,7 +177,7 @@ refused_missing form (Ok b) text d n out r due is = tt
 refused_missing form (Err e) text d n out r due is =
     λ other. refused_end form (Err e) text r.whole n r.reading (missing_same r.whole d out r.onto r.reading.holds r.held (due other)) (is other)
 
--- ---- why no bytes are told
+-- ---- why no bytes are reported
 
 is_faulty : (text : List ℕ) (line : ℕ) (why : ListWhy) → why ≢ whys.Memory → ListRefused text line why → ListFaulty text line why
 is_faulty text line whys.Memory other h = absurd (other refl)

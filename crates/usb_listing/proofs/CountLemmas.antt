@@ -39,14 +39,14 @@ use Rattle.usb_set.proofs.Items.{with_last-snoc}
 abbrev pub work_of : DescriptorFile → ℕ
 work_of f = length_of (last_of (open_sets f f.other))
 
--- with one more descriptor the last set has so many bytes, and is over where these are
+-- with one more descriptor the last set has this many bytes, and is over where these are
 pub record Counts (f : DescriptorFile) (w : Word) (b : List ℕ) : Type 0 where
   pub work : work_of (file_and (fields w b) f) ≡ work_with (work_of f) w (length b)
   pub over : has_over (file_and (fields w b) f) ≡ ltb 65535 (work_with (work_of f) w (length b))
   pub fits : Fits w b f
   pub total : strings_total (file_and (fields w b) f) (file_and (fields w b) f).strings ≡ strings_total f f.strings
 
--- sets that are in work as a part of a file
+-- sets of the current part of a file
 work_open : (d : DeviceDescriptor) (ss : List Configuration) (o : Option Other) (cs : List Configuration) → work_of (with_sets cs (made d ss o None) o) ≡ length_of (last_of cs)
 work_open d ss None cs = refl
 work_open d ss (Some o) cs = refl

@@ -100,7 +100,7 @@ decode_done digits bytes i all fits inv =
     inv ∙ ap (λ (d : List ℕ). prepend (take i bytes) (pairs_of d)) (drop_all (2 * i) digits fits)
     ∙ ap Some (append-nil (take i bytes) ∙ take_all i bytes all)
 
--- so many pairs are decoded, and these are the bits of all
+-- this many pairs are decoded, and these are the bits of all
 pub record Decoding (digits bytes : List ℕ) (i bits : ℕ) : Type 0 where
   pub right : bits < 256 → pairs_of digits ≡ prepend (take i bytes) (pairs_of (drop (2 * i) digits))
   pub wrong : 256 ≤ bits → pairs_of digits ≡ None

@@ -11,10 +11,10 @@ use Rattle.usb_listing.specs.declared.fault.ListWhy.TheVariants as whys
 use Rattle.usb_text.specs.Lines.{is_printable}
 use Rattle.usb_listing.specs.Listings.{IsBegun, LineFaulty, NoLineGoesOn}
 use Rattle.usb_listing.specs.declared.assembly.Form.{Form}
-use Rattle.usb_listing.specs.inside.Drafts.{IsJudged, Stops, Told}
+use Rattle.usb_listing.specs.inside.Drafts.{IsJudged, Stops, Reported}
 use Rattle.usb_listing.specs.inside.Walking.{line_read, text_read, Cut, HasNo, add_line}
 use Rattle.usb_listing.proofs.FormLemmas.{read_cut, read_none}
-use Rattle.usb_listing.proofs.ReadingLemmas.{told_line}
+use Rattle.usb_listing.proofs.ReadingLemmas.{reported_line}
 use Rattle.usb_listing.proofs.WalkLemmas.{Printable}
 use Rattle.usb_listing.proofs.WordLemmas.{byte_found, byte_nowhere}
 
@@ -121,15 +121,15 @@ bad_line text line more cut bad = at (ends line cut.none)
 -- ---- a line that was found
 
 -- the first reason that holds of a line that was refused
-first_told : (s : Option DescriptorFile) (text line more : List ℕ) (why : ListWhy) → IsBegun s → Cut 10 text line more → Stops (add_line s line) why → IsJudged s line why
-    → Told s text (cond (list_all is_printable line) why whys.Line)
-first_told s text line more why begun cut refused judged = cases (list_all is_printable line) refl
+first_reported : (s : Option DescriptorFile) (text line more : List ℕ) (why : ListWhy) → IsBegun s → Cut 10 text line more → Stops (add_line s line) why → IsJudged s line why
+    → Reported s text (cond (list_all is_printable line) why whys.Line)
+first_reported s text line more why begun cut refused judged = cases (list_all is_printable line) refl
   where
-    cases : (b : Bool) → list_all is_printable line ≡ b → Told s text (cond b why whys.Line)
-    cases true e = told_line s text line more why begun (record { parts = cut.parts; printable = e }) refused judged
+    cases : (b : Bool) → list_all is_printable line ≡ b → Reported s text (cond b why whys.Line)
+    cases true e = reported_line s text line more why begun (record { parts = cut.parts; printable = e }) refused judged
     cases false e = bad_line text line more cut e
 
-pub read_told : (form : Form) (s : Option DescriptorFile) (text line more read : List ℕ) (why : ListWhy) → IsBegun s → Cut 10 text line more → line_read form line ≡ Some read
-    → Stops (add_line s read) why → IsJudged s read why → Told s (text_read form text) (cond (list_all is_printable read) why whys.Line)
-read_told form s text line more read why begun cut is refused judged =
-    first_told s (text_read form text) read (text_read form more) why begun (read_cut form text line more read cut is) refused judged
+pub read_reported : (form : Form) (s : Option DescriptorFile) (text line more read : List ℕ) (why : ListWhy) → IsBegun s → Cut 10 text line more → line_read form line ≡ Some read
+    → Stops (add_line s read) why → IsJudged s read why → Reported s (text_read form text) (cond (list_all is_printable read) why whys.Line)
+read_reported form s text line more read why begun cut is refused judged =
+    first_reported s (text_read form text) read (text_read form more) why begun (read_cut form text line more read cut is) refused judged

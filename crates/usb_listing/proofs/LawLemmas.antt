@@ -169,19 +169,19 @@ none_fewer w (x ∷ text) =
     omega (arith, one, more)
 
 -- where the answer tells the fault
-abbrev told_line : Result DescriptorFile ListFault → ℕ
-told_line (Ok f) = 0
-told_line (Err e) = e.line
+abbrev reported_line : Result DescriptorFile ListFault → ℕ
+reported_line (Ok f) = 0
+reported_line (Err e) = e.line
 
-end_told : (w : Walk) (e : ListFault) → walk_end w ≡ Err e → e.line ≡ lines_walked w + 1
-end_told (stopped n why) e is = sym (ap told_line is)
-end_told (going s n (x ∷ line)) e is = sym (ap told_line is)
-end_told (going None n []) e is = sym (ap told_line is)
-end_told (going (Some f) n []) e is = cases (is_whole (Some f)) is
+end_reported : (w : Walk) (e : ListFault) → walk_end w ≡ Err e → e.line ≡ lines_walked w + 1
+end_reported (stopped n why) e is = sym (ap reported_line is)
+end_reported (going s n (x ∷ line)) e is = sym (ap reported_line is)
+end_reported (going None n []) e is = sym (ap reported_line is)
+end_reported (going (Some f) n []) e is = cases (is_whole (Some f)) is
   where
     cases : (b : Bool) → cond b (Ok f) (Err (fault_behind n whys.Missing)) ≡ Err e → e.line ≡ n + 1
     cases true is = cc
-    cases false is = sym (ap told_line is)
+    cases false is = sym (ap reported_line is)
 
 pub reached : (text : List ℕ) (m n : ℕ) (why : ListWhy) → IsLineStart text m → ListFaulty text n why → m ≤ n
 unfolding answer_of
@@ -190,10 +190,10 @@ reached text m n why start fault =
     let k = length (items_of start.so_far) in
     let w = walk (going start.so_far k []) start.rest in
     let walked : walk (going None 0 []) text ≡ w = walk_front text start.so_far start.rest m b in
-    let told : n ≡ lines_walked w + 1 = end_told w (record { line = n; why = why }) (sym (ap walk_end walked) ∙ answer_faulty text n why fault) in
+    let report : n ≡ lines_walked w + 1 = end_reported w (record { line = n; why = why }) (sym (ap walk_end walked) ∙ answer_faulty text n why fault) in
     let more : k ≤ lines_walked w = none_fewer (going start.so_far k []) start.rest in
     let line = b.line_is in
-    omega (arith, told, more, line)
+    omega (arith, report, more, line)
 
 -- ---- at a line that is judged up to its fields
 
@@ -219,20 +219,20 @@ placed_late s rest begun p =
     subst AreLate (sym (placed s p.line p.word (item_of_line p.line) is (may_is s p.word (ordered_of s begun) p.may) refl)) (added_late s (item_of_line p.line))
 
 -- the fault of the line
-late_told : (k n : ℕ) (more : List ℕ) (why : ListWhy) (r : Result DescriptorFile ListWhy) → AreLate r → n ≡ k + 1
+late_reported : (k n : ℕ) (more : List ℕ) (why : ListWhy) (r : Result DescriptorFile ListWhy) → AreLate r → n ≡ k + 1
     → walk_end (walk (after_line k r) more) ≡ Err (record { line = n; why = why }) → IsLate why
-late_told k n more why (Ok f) late at told =
+late_reported k n more why (Ok f) late at report =
     let w = walk (going (Some f) (k + 1) []) more in
-    let line : n ≡ lines_walked w + 1 = end_told w (record { line = n; why = why }) told in
+    let line : n ≡ lines_walked w + 1 = end_reported w (record { line = n; why = why }) report in
     let past : k + 1 ≤ lines_walked w = none_fewer (going (Some f) (k + 1) []) more in
     absurd (omega (arith, at, line, past))
-late_told k n more why (Err v) late at told =
-    let same : Err (fault_behind k v) ≡ Err (record { line = n; why = why }) = ap walk_end (sym (walk_stopped k v more)) ∙ told in
-    subst IsLate (ap told_why same) late
+late_reported k n more why (Err v) late at report =
+    let same : Err (fault_behind k v) ≡ Err (record { line = n; why = why }) = ap walk_end (sym (walk_stopped k v more)) ∙ report in
+    subst IsLate (ap reported_why same) late
   where
-    told_why : Result DescriptorFile ListFault → ListWhy
-    told_why (Ok f) = why
-    told_why (Err e) = e.why
+    reported_why : Result DescriptorFile ListFault → ListWhy
+    reported_why (Ok f) = why
+    reported_why (Err e) = e.why
 
 pub judged : (text : List ℕ) (n : ℕ) (why : ListWhy) → MayWant text n → ListFaulty text n why → (why ≡ whys.Field) ⊎ (why ≡ whys.TooLong)
 unfolding answer_of
@@ -243,4 +243,4 @@ judged text n why wants fault =
     let p = wants.placed in
     let walked : walk (going None 0 []) text ≡ walk (after_line k (add_line s p.line)) p.more =
     walk_front text s wants.start.rest n b ∙ ap (walk (going s k [])) p.first.parts ∙ walk_whole s k p.line p.more p.first.printable in
-    late_told k n p.more why (add_line s p.line) (placed_late s wants.start.rest b.begun p) b.line_is (ap walk_end (sym walked) ∙ answer_faulty text n why fault)
+    late_reported k n p.more why (add_line s p.line) (placed_late s wants.start.rest b.begun p) b.line_is (ap walk_end (sym walked) ∙ answer_faulty text n why fault)

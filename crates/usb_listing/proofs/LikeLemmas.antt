@@ -225,7 +225,7 @@ pub may_same : (f h : DescriptorFile) (w : Word) → Like f h → last_of (open_
 may_same f h w l last =
     may_strings f h w f.strings h.strings (same_sets_of f.device h.device f.sets h.sets f.other h.other f.strings h.strings l last) l.strings
 
--- ---- whether nothing is due any more
+-- ---- whether nothing comes next any more
 
 counts_same : (d e : DeviceDescriptor) (ss es : List Configuration) (o p : Option Other) (s t : Option Strings) → Like (made d ss o s) (made e es p t)
     → has_wrong_count (made d ss o s) ≡ has_wrong_count (made e es p t)

@@ -32,7 +32,7 @@ use Rattle.usb_file_data.proofs.Longest.{few_sets, few_strings}
 
 -- ---- lists of texts
 
--- where each text has at most so many characters
+-- where each text has at most this many characters
 each_at_most : {A : Type 0} (f : A → List ℕ) (most : ℕ) → ((x : A) → length (f x) ≤ most) → (xs : List A) → length (flat_map f xs) ≤ length xs * most
 each_at_most f most each [] = omega arith
 each_at_most f most each (x ∷ xs) = omega (arith, each x, each_at_most f most each xs, length-append (f x) (flat_map f xs))

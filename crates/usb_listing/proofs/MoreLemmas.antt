@@ -208,7 +208,7 @@ fields_more d ss (Some o) words.Qualifier b h is may = absurd (let no = may in c
 fields_more d ss o words.Languages b h is may = absurd is.1
 fields_more d ss o words.String b h is may = absurd is.1
 
--- so many units fit a descriptor
+-- this many units fit a descriptor
 pub units_few : (us : List ℕ) → AreBytes (units_bytes us) → is_long_string us ≡ false
 units_few us fits = le-ltb 126 (length us) (let h = fits.0 in omega arith)
 

@@ -139,7 +139,7 @@ pub items_here : (d : DeviceDescriptor) (ss : List Configuration) (o : Option Ot
     → file_items (made d ss o None) ≡ head_items d ss o ++ flat_map set_items (open_sets (made d ss o None) o)
 items_here d ss o = ap file_items (sym (same_sets d ss o)) ∙ items_open d ss o (open_sets (made d ss o None) o)
 
--- other sets in work, with one descriptor more
+-- other current sets, with one descriptor more
 pub record Grows (kind : SetKind) (count : ℕ) (cs new : List Configuration) (item : Item) : Type 0 where
   pub part : Part kind count new
   pub items : flat_map set_items new ≡ flat_map set_items cs ++ item ∷ []

@@ -16,7 +16,7 @@ use Rattle.usb_listing.specs.Says.{Item, Says, item_line}
 use Rattle.usb_listing.specs.Order.{IsOrdered, file_items, items_of}
 use Rattle.usb_listing.specs.Listings.{Begins, FirstFaulty, FirstLine, IsBegun, IsPlaced, ListRefused, Lists, RestFaulty, is_whole, lines_of}
 use Rattle.usb_listing.specs.declared.assembly.Form.{Form}
-use Rattle.usb_listing.specs.inside.Drafts.{AreHeld, HasPlace, IsJudged, Reading, Stops, Takes, TakesLine, Told, so_far}
+use Rattle.usb_listing.specs.inside.Drafts.{AreHeld, HasPlace, IsJudged, Reading, Stops, Takes, TakesLine, Reported, so_far}
 use Rattle.usb_listing.specs.inside.Walking.{Refused, count_before, line_read, text_read, add_line}
 use Rattle.usb_listing.proofs.FormLemmas.{before_passed, before_read, none_before_none, passed_cut, read_cut, read_none, refused}
 use Rattle.usb_listing.proofs.FileLineLemmas.{lines_are}
@@ -115,15 +115,15 @@ lasting s rest t whys.TooLong h = first_lasts s rest t whys.TooLong h
 lasting s rest t whys.Missing h = absurd h
 lasting s rest t whys.Memory h = absurd h.fault
 
--- a fault that was told is no want of memory
-faulty_told : (s : Option DescriptorFile) (rest : List ℕ) (why : ListWhy) → RestFaulty s rest why → Told s rest why
-faulty_told s rest whys.Line h = h
-faulty_told s rest whys.Word h = h
-faulty_told s rest whys.Place h = h
-faulty_told s rest whys.Field h = h
-faulty_told s rest whys.TooLong h = h
-faulty_told s rest whys.Missing h = h
-faulty_told s rest whys.Memory h = absurd h.fault
+-- a fault that was reported is no want of memory
+faulty_reported : (s : Option DescriptorFile) (rest : List ℕ) (why : ListWhy) → RestFaulty s rest why → Reported s rest why
+faulty_reported s rest whys.Line h = h
+faulty_reported s rest whys.Word h = h
+faulty_reported s rest whys.Place h = h
+faulty_reported s rest whys.Field h = h
+faulty_reported s rest whys.TooLong h = h
+faulty_reported s rest whys.Missing h = h
+faulty_reported s rest whys.Memory h = absurd h.fault
 
 placed_line : (s : Option DescriptorFile) (rest line more : List ℕ) → IsBegun s → FirstLine rest line more → HasPlace s line → IsPlaced s rest
 placed_line s rest line more begun first place = record {
@@ -135,14 +135,14 @@ placed_line s rest line more begun first place = record {
   may = may_then s place.word (ordered_of s begun) place.may;
 }
 
-pub told_line : (s : Option DescriptorFile) (rest line more : List ℕ) (why : ListWhy) → IsBegun s → FirstLine rest line more → Stops (add_line s line) why
-    → IsJudged s line why → Told s rest why
-told_line s rest line more why begun first (inl memory) judged =
-    subst (Told s rest) (sym memory) (placed_line s rest line more begun first (subst (IsJudged s line) memory judged))
-told_line s rest line more why begun first (inr refused) judged =
+pub reported_line : (s : Option DescriptorFile) (rest line more : List ℕ) (why : ListWhy) → IsBegun s → FirstLine rest line more → Stops (add_line s line) why
+    → IsJudged s line why → Reported s rest why
+reported_line s rest line more why begun first (inl memory) judged =
+    subst (Reported s rest) (sym memory) (placed_line s rest line more begun first (subst (IsJudged s line) memory judged))
+reported_line s rest line more why begun first (inr refused) judged =
     let made : Lasts s (line ++ 10 ∷ []) why = subst (Makes s line) refused (makes s line begun first.printable) in
     let is : (line ++ 10 ∷ []) ++ more ≡ rest = append_assoc line (10 ∷ []) more ∙ sym first.parts in
-    subst (λ (xs : List ℕ). Told s xs why) is (faulty_told s ((line ++ 10 ∷ []) ++ more) why (lasting s (line ++ 10 ∷ []) more why made))
+    subst (λ (xs : List ℕ). Reported s xs why) is (faulty_reported s ((line ++ 10 ∷ []) ++ more) why (lasting s (line ++ 10 ∷ []) more why made))
 
 -- where the next line is read
 begins_at : (form : Form) (text rest : List ℕ) (d : Option Draft) (n : ℕ) → Reading form text d rest n
@@ -157,21 +157,21 @@ line_at form text rest d n r none =
     let line : count_before form text (length (items_of (so_far d))) + 1 ≡ n + count_before form rest 0 = ap (λ (j : ℕ). count_before form text j + 1) (sym same) ∙ here in
     omega (arith, line, none)
 
-told_refused : (text rest : List ℕ) (s : Option DescriptorFile) (n : ℕ) (why : ListWhy) → Begins text s rest n → Told s rest why → ListRefused text n why
-told_refused text rest s n whys.Line b h = record { so_far = s; rest = rest; begins = b; fault = h }
-told_refused text rest s n whys.Word b h = record { so_far = s; rest = rest; begins = b; fault = h }
-told_refused text rest s n whys.Place b h = record { so_far = s; rest = rest; begins = b; fault = h }
-told_refused text rest s n whys.Field b h = record { so_far = s; rest = rest; begins = b; fault = h }
-told_refused text rest s n whys.TooLong b h = record { so_far = s; rest = rest; begins = b; fault = h }
-told_refused text rest s n whys.Missing b h = record { so_far = s; rest = rest; begins = b; fault = h }
-told_refused text rest s n whys.Memory b h = record { start = record { so_far = s; rest = rest; begins = b }; placed = h }
+reported_refused : (text rest : List ℕ) (s : Option DescriptorFile) (n : ℕ) (why : ListWhy) → Begins text s rest n → Reported s rest why → ListRefused text n why
+reported_refused text rest s n whys.Line b h = record { so_far = s; rest = rest; begins = b; fault = h }
+reported_refused text rest s n whys.Word b h = record { so_far = s; rest = rest; begins = b; fault = h }
+reported_refused text rest s n whys.Place b h = record { so_far = s; rest = rest; begins = b; fault = h }
+reported_refused text rest s n whys.Field b h = record { so_far = s; rest = rest; begins = b; fault = h }
+reported_refused text rest s n whys.TooLong b h = record { so_far = s; rest = rest; begins = b; fault = h }
+reported_refused text rest s n whys.Missing b h = record { so_far = s; rest = rest; begins = b; fault = h }
+reported_refused text rest s n whys.Memory b h = record { start = record { so_far = s; rest = rest; begins = b }; placed = h }
 
 pub refused_line : (form : Form) (text rest : List ℕ) (d : Option Draft) (n m : ℕ) (why : ListWhy) → Reading form text d rest n → count_before form rest 0 ≡ 0 → m ≡ n
-    → Told (so_far d) (text_read form rest) why → Refused form text m why
-refused_line form text rest d n m why r none e told =
+    → Reported (so_far d) (text_read form rest) why → Refused form text m why
+refused_line form text rest d n m why r none e report =
     let s = so_far d in
     refused form text (length (items_of s)) m why (e ∙ line_at form text rest d n r none)
-    (told_refused (text_read form text) (text_read form rest) s (length (items_of s) + 1) why (begins_at form text rest d n r) told)
+    (reported_refused (text_read form text) (text_read form rest) s (length (items_of s) + 1) why (begins_at form text rest d n r) report)
 
 -- ---- the end
 

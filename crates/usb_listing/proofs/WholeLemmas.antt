@@ -110,7 +110,7 @@ parts f begun =
     of_other None h raws over = (tt, refl)
     of_other (Some o) h raws over = let s = sets_whole o.sets h.1 raws over in (bytes_append (qualifier_bytes o.qualifier) (sets_bytes o.sets) h.0.0 s.fit, s.allowed)
 
--- no reason stands against a file of which none is told
+-- no reason stands against a file of which none is reported
 none_stands : (a b c d : Bool) → is_none (cond a (Some writes.Count) (cond b (Some writes.Kind) (cond c (Some writes.Layout) (cond d (Some writes.Texts) None)))) ≡ true
     → (a ≡ false) × (b ≡ false) × (c ≡ false) × (d ≡ false)
 none_stands true b c d e = cc
@@ -152,7 +152,7 @@ none_left true b c d all eb ec ed = refl
 none_left false b c d true eb ec ed = rw (eb, ec, ed) refl
 none_left false b c d false eb ec ed = rw (eb, ec, ed) refl
 
--- a file so far is whole where no set and no string is due
+-- a file so far is whole where no set and no string comes next
 pub whole_is : (f : DescriptorFile) (total : ℕ) → IsBegun (Some f) → total ≡ strings_total f f.strings
     → (not (has_wrong_count f) && has_all_strings f f.strings total) ≡ is_whole (Some f)
 whole_is f total begun t =
@@ -325,11 +325,11 @@ file_begun f b file =
         let s = sets_said o.sets (bytes_behind (qualifier_bytes o.qualifier) (sets_bytes o.sets) h) passes in
         (((bytes_before (qualifier_bytes o.qualifier) (sets_bytes o.sets) h, record { body = fields_bytes qualifier_fields o.qualifier; whole = refl; fills = refl }, refl), s.said), s.raws, s.over)
 
-none_told : (a b c d : Bool) → a ≡ false → b ≡ false → c ≡ false → d ≡ false
+nothing_reported : (a b c d : Bool) → a ≡ false → b ≡ false → c ≡ false → d ≡ false
     → is_none (cond a (Some writes.Count) (cond b (Some writes.Kind) (cond c (Some writes.Layout) (cond d (Some writes.Texts) None)))) ≡ true
-none_told a b c d ea eb ec ed = rw (ea, eb, ec, ed) refl
+nothing_reported a b c d ea eb ec ed = rw (ea, eb, ec, ed) refl
 
 -- and a whole one
 pub file_whole : (f : DescriptorFile) (b : List ℕ) → File f b → is_whole (Some f) ≡ true
 file_whole f b file =
-    none_told (has_wrong_count f) (has_wrong_kind f) (has_wrong_layout f) (are_wrong_strings (length (named_indices f)) f.strings) file.counts file.kinds file.layouts file.texts
+    nothing_reported (has_wrong_count f) (has_wrong_kind f) (has_wrong_layout f) (are_wrong_strings (length (named_indices f)) f.strings) file.counts file.kinds file.layouts file.texts

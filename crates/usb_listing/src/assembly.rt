@@ -8,7 +8,7 @@ ghost use Rattle.usb_text.specs.Lines.{is_printable};
 ghost use Rattle.usb_listing.specs.Comments.{CommentedRefused, uncommented};
 ghost use Rattle.usb_file_data.specs.File.{has_wrong_count, is_other_miscounted};
 ghost use Rattle.usb_listing.specs.Listings.{ListRefused, Lists, is_whole};
-ghost use Rattle.usb_listing.specs.inside.Drafts.{AreHeld, Holds, Reading, TakesLine, Told, so_far};
+ghost use Rattle.usb_listing.specs.inside.Drafts.{AreHeld, Holds, Reading, TakesLine, Reported, so_far};
 ghost use Rattle.usb_listing.specs.inside.Walking.{Refused, count_before, text_read, Cut, HasNo, has_all_strings};
 ghost use Rattle.memchr.specs.Find.{IsFirstByte, is_byte};
 ghost use Rattle.usb_file_data.specs.declared.file.DescriptorFile.{DescriptorFile};
@@ -125,7 +125,7 @@ pub(crate) fn read_next<'a>(
     requires some { text.now ≢ [] }
     ensures ok { IfOk result (λ more. TakesLine form draft.old text.now draft.new more.now) }
     ensures shorter { IfOk result (λ more. length more.now < length text.now) }
-    ensures err { IfErr result (λ fault. Told (so_far draft.old) (text_read form text.now) fault.why) }
+    ensures err { IfErr result (λ fault. Reported (so_far draft.old) (text_read form text.now) fault.why) }
     ensures read { IfErr result (λ fault. count_before form text.now 0 ≡ 0) }
     ensures place { IfErr result (λ fault. fault.line ≡ line) }
     ensures room { length buffer.new ≡ 255 }
@@ -164,7 +164,7 @@ fn read_lines(alloc: Global, form: Form, text: &[u8]) -> Result<(Option<Draft>, 
     Ok((draft, line))
 }
 
-/// Whether no set is due any more.
+/// Whether no set comes next any more.
 fn has_all_sets(f: &DescriptorFile) -> bool
     ensures { result ≡ not (has_wrong_count f.now) }
 {
@@ -180,7 +180,7 @@ fn has_all_other(other: &Option<Other>) -> bool
     }
 }
 
-/// Whether no string is due any more, of `total`.
+/// Whether no string comes next any more, of `total`.
 fn has_all_strings(f: &DescriptorFile, strings: &Option<Strings>, total: usize) -> bool
     ensures { result ≡ has_all_strings f.now strings.now total }
 {
@@ -190,7 +190,7 @@ fn has_all_strings(f: &DescriptorFile, strings: &Option<Strings>, total: usize) 
     }
 }
 
-/// Whether nothing is due any more. All else was checked line by line.
+/// Whether nothing comes next any more. All else was checked line by line.
 #[tactic(auto, using(crate::proofs::WholeLemmas::whole_is))]
 fn is_whole(draft: &Draft) -> bool
     requires { Holds draft.now }
@@ -199,7 +199,7 @@ fn is_whole(draft: &Draft) -> bool
     has_all_sets(&draft.file) && has_all_strings(&draft.file, &draft.file.strings, draft.total)
 }
 
-/// The file of a draft, where nothing is due any more.
+/// The file of a draft, where nothing comes next any more.
 pub(crate) fn finish(draft: Option<Draft>, line: usize) -> Result<DescriptorFile, ListFault>
     requires { AreHeld draft }
     ensures ok { IfOk result (λ f. so_far draft ≡ Some f) }
@@ -225,7 +225,7 @@ pub(crate) fn finish(draft: Option<Draft>, line: usize) -> Result<DescriptorFile
     }
 }
 
-/// Reads all lines to a file, where nothing is due any more.
+/// Reads all lines to a file, where nothing comes next any more.
 fn read_file(alloc: Global, form: Form, text: &[u8]) -> Result<DescriptorFile, ListFault>
     ensures ok { IfOk result (λ f. Lists (text_read form text.now) f) }
     ensures err { IfErr result (λ fault. Refused form text.now fault.line fault.why) }

@@ -5,7 +5,7 @@ ghost use Rattle.usb_file_data.specs.declared.file.DescriptorFile.{DescriptorFil
 ghost use Rattle.usb_listing.specs.Comments.{CommentedFaulty, uncommented};
 ghost use Rattle.usb_listing.specs.Listings.{IsBytesOf, ListFaulty, Lists, is_whole};
 ghost use Rattle.usb_listing.specs.declared.fault.ListWhy.TheVariants as whys;
-ghost use Rattle.usb_listing.specs.inside.Drafts.{AreHeld, Told, so_far};
+ghost use Rattle.usb_listing.specs.inside.Drafts.{AreHeld, Reported, so_far};
 ghost use Rattle.usb_listing.specs.inside.Growing.{open_sets};
 ghost use Rattle.usb_listing.specs.inside.Thinning.{Finished, ReadsOn, Writes, WritesIf, head_bytes, last_bytes, open_count, part_of};
 ghost use Rattle.usb_listing.specs.inside.Walking.{Refused, count_before, text_read};
@@ -173,7 +173,7 @@ fn read_on<'a>(
     requires some { text.now ≢ [] }
     ensures ok { IfOk result (λ more. ReadsOn form draft.old text.now draft.new more.now out.old.items out.new.items) }
     ensures shorter { IfOk result (λ more. length more.now < length text.now) }
-    ensures err { IfErr result (λ fault. fault.why ≢ whys.Memory → Told (so_far draft.old) (text_read form text.now) fault.why) }
+    ensures err { IfErr result (λ fault. fault.why ≢ whys.Memory → Reported (so_far draft.old) (text_read form text.now) fault.why) }
     ensures read { IfErr result (λ fault. fault.why ≢ whys.Memory → count_before form text.now 0 ≡ 0) }
     ensures place { IfErr result (λ fault. fault.line ≡ line) }
     ensures room { length buffer.new ≡ 255 }
@@ -190,7 +190,7 @@ fn read_on<'a>(
     }
 }
 
-/// The bytes of the draft's file, where nothing is due any more.
+/// The bytes of the draft's file, where nothing comes next any more.
 fn finish_bytes(draft: Option<Draft>, out: Vec<u8>, line: usize) -> Result<Vec<u8>, ListFault>
     requires { AreHeld draft }
     ensures ok { IfOk result (λ b. Finished draft out.items b.items) }

@@ -11,7 +11,7 @@ use Rattle.usb_capture.specs.declared.recorded_packet.RecordedPacket.{RecordedPa
 use Rattle.usb_capture.specs.Reading.{IsRead}
 use Rattle.usb_capture.specs.Recordings.{transactions_in}
 use Rattle.usb_recorded_runs.specs.Captures.{AreOfFrames, Moment, capture_of, frames, times}
-use Rattle.usb_recorded_runs.specs.Exchanges.{Exchange, exchanges, heard, packets_in, packets_of}
+use Rattle.usb_recorded_runs.specs.Exchanges.{Exchange, exchanges, received, packets_in, packets_of}
 use Rattle.usb_recorded_runs.specs.Laws.{IsRun}
 use Rattle.usb_recorded_runs.proofs.CaptureLemmas.{capture_read}
 use Rattle.usb_recorded_runs.proofs.RecordedLemmas.{IsRegular, read_again}
@@ -25,7 +25,7 @@ pub captured_again : (f : DescriptorFile) (fates : List Fate) (new : Pair) (earl
     (read : List Frame) (reader : CaptureReader) (recorded : List RecordedPacket) → IsRun f fates new earlier n last
     → (let xs = exchanges f fates earlier n in
     IsRead (capture_of clock (packets_in xs)) read reader → AreOfFrames 1 read recorded
-    → (read ≡ frames clock 1 (packets_in xs)) × (transactions_in recorded ≡ heard (times clock) 1 xs))
+    → (read ≡ frames clock 1 (packets_in xs)) × (transactions_in recorded ≡ received (times clock) 1 xs))
 captured_again f fates new earlier n last clock read reader recorded run is_read are =
     let xs = exchanges f fates earlier n in
     let regular = regular_plain f fates new earlier n last run.0 run.1 in

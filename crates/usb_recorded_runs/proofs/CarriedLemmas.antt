@@ -16,9 +16,9 @@ use Rattle.usb_bus.specs.DamagedRuns.{DamagedRunsAt}
 use Rattle.usb_bus.specs.Enumerate.{Pair, RunsAt}
 use Rattle.usb_bus.specs.Exchanges.{is_lost_ack, is_lost_down, is_lost_up}
 use Rattle.usb_bus.specs.Run.{fate_at}
-use Rattle.usb_bus.specs.Wire.{Receives, ack_packet, data_packet, heard_reply, heard_sent, is_ack, reply_packet, token_packet}
+use Rattle.usb_bus.specs.Wire.{Receives, ack_packet, data_packet, received_reply, received_sent, is_ack, reply_packet, token_packet}
 use Rattle.usb_host.specs.Steps.{Takes}
-use Rattle.usb_recorded_runs.proofs.RunLemmas.{due_fits, taken_whole, whole_heard}
+use Rattle.usb_recorded_runs.proofs.RunLemmas.{due_fits, taken_whole, whole_received}
 
 -- ---- packets
 
@@ -30,13 +30,13 @@ taken_none : (p received : Option PacketView) → IsTakenOf true [] p received �
 taken_none None received is = is
 taken_none (Some p) received is = lost_packet p received is.1
 
-heard_back : (reply : Reply) → heard_reply (reply_packet reply) ≡ reply
-heard_back AckReply = refl
-heard_back NakReply = refl
-heard_back StallReply = refl
-heard_back (DataReply toggles.Data0 bytes) = refl
-heard_back (DataReply toggles.Data1 bytes) = refl
-heard_back NoReply = refl
+received_back : (reply : Reply) → received_reply (reply_packet reply) ≡ reply
+received_back AckReply = refl
+received_back NakReply = refl
+received_back StallReply = refl
+received_back (DataReply toggles.Data0 bytes) = refl
+received_back (DataReply toggles.Data1 bytes) = refl
+received_back NoReply = refl
 
 ack_back : (reply : Reply) → is_ack (ack_packet reply) ≡ is_data reply
 ack_back (DataReply toggle bytes) = refl
@@ -54,7 +54,7 @@ module _ (table : State → Setup → Outcome) (cut : ℕ) where
     pub device_is : r.device ≡ device
 
   abbrev after_ack : Bool → DeviceView → DeviceView
-  after_ack heard d = if heard then acked table cut d else d
+  after_ack received d = if received then acked table cut d else d
 
   answered_so : (d : DeviceView) (sent : Sent) (fate : Fate) (number n : ℕ) (a : Reply) (r : Served) → is_lost_down fate ≡ false
       → IsAnswered table cut d (Some sent) number fate (bits_of [] n) a r
@@ -65,10 +65,10 @@ module _ (table : State → Setup → Outcome) (cut : ℕ) where
           → (let s = served table cut d sent (is_ready fate) in Comes r s.reply (after_ack (is_data s.reply) s.device))
       whole fate up ack x =
           let reply : x.reply ≡ reply_packet a = taken_whole (reply_packet a) x.reply (subst (λ lost. IsTakenOf lost [] (reply_packet a) x.reply) up x.reply_is) in
-          let heard : heard_reply x.reply ≡ a = ap heard_reply reply ∙ heard_back a in
-          let acks : x.ack ≡ ack_packet (heard_reply x.reply) = taken_whole (ack_packet (heard_reply x.reply)) x.ack (subst (λ lost. IsTakenOf lost [] (ack_packet (heard_reply x.reply)) x.ack) ack x.ack_is) in
-          let says : is_ack x.ack ≡ is_data (served table cut d sent (is_ready fate)).reply = ap is_ack acks ∙ ack_back (heard_reply x.reply) ∙ ap is_data (heard ∙ x.answers) in
-          record { reply_is = x.hears ∙ heard ∙ x.answers; device_is = x.device ∙ ap (λ c. after_ack c (served table cut d sent (is_ready fate)).device) says }
+          let received : received_reply x.reply ≡ a = ap received_reply reply ∙ received_back a in
+          let acks : x.ack ≡ ack_packet (received_reply x.reply) = taken_whole (ack_packet (received_reply x.reply)) x.ack (subst (λ lost. IsTakenOf lost [] (ack_packet (received_reply x.reply)) x.ack) ack x.ack_is) in
+          let says : is_ack x.ack ≡ is_data (served table cut d sent (is_ready fate)).reply = ap is_ack acks ∙ ack_back (received_reply x.reply) ∙ ap is_data (received ∙ x.answers) in
+          record { reply_is = x.receives_reply ∙ received ∙ x.answers; device_is = x.device ∙ ap (λ c. after_ack c (served table cut d sent (is_ready fate)).device) says }
 
       of : (fate : Fate) → is_lost_down fate ≡ false → IsAnswered table cut d (Some sent) number fate (bits_of [] n) a r
           → (let s = served table cut d sent (is_ready fate) in Comes r (brought fate s.reply) (after_ack (acknowledges fate s.reply) s.device))
@@ -77,19 +77,19 @@ module _ (table : State → Setup → Outcome) (cut : ℕ) where
       of fates.LostDown kept x = absurd (let w : ⊥ = cc in w)
       of fates.LostUp kept x =
           let none : x.reply ≡ None = taken_none (reply_packet a) x.reply x.reply_is in
-          let heard : heard_reply x.reply ≡ NoReply = ap heard_reply none in
-          let acks : x.ack ≡ None = subst (λ reply. IsTakenOf false [] (ack_packet reply) x.ack) heard x.ack_is in
-          record { reply_is = x.hears ∙ heard; device_is = x.device ∙ ap (λ k. after_ack (is_ack k) (served table cut d sent true).device) acks }
+          let received : received_reply x.reply ≡ NoReply = ap received_reply none in
+          let acks : x.ack ≡ None = subst (λ reply. IsTakenOf false [] (ack_packet reply) x.ack) received x.ack_is in
+          record { reply_is = x.receives_reply ∙ received; device_is = x.device ∙ ap (λ k. after_ack (is_ack k) (served table cut d sent true).device) acks }
       of fates.LostAck kept x =
           let reply : x.reply ≡ reply_packet a = taken_whole (reply_packet a) x.reply x.reply_is in
-          let heard : heard_reply x.reply ≡ a = ap heard_reply reply ∙ heard_back a in
-          let acks : x.ack ≡ None = taken_none (ack_packet (heard_reply x.reply)) x.ack x.ack_is in
-          record { reply_is = x.hears ∙ heard ∙ x.answers; device_is = x.device ∙ ap (λ k. after_ack (is_ack k) (served table cut d sent true).device) acks }
+          let received : received_reply x.reply ≡ a = ap received_reply reply ∙ received_back a in
+          let acks : x.ack ≡ None = taken_none (ack_packet (received_reply x.reply)) x.ack x.ack_is in
+          record { reply_is = x.receives_reply ∙ received ∙ x.answers; device_is = x.device ∙ ap (λ k. after_ack (is_ack k) (served table cut d sent true).device) acks }
 
-  heard_whole : (sent : Sent) (token after : Option PacketView) → fits sent.token ≡ true → token ≡ Some (token_packet sent) → after ≡ data_packet sent.token
-      → fitting (heard_sent token after) ≡ Some sent
-  heard_whole sent token after fit is next =
-      ap (λ t. fitting (heard_sent t after)) is ∙ ap (λ b. fitting (heard_sent (Some (token_packet sent)) b)) next ∙ whole_heard sent.address sent.token fit
+  received_whole : (sent : Sent) (token after : Option PacketView) → fits sent.token ≡ true → token ≡ Some (token_packet sent) → after ≡ data_packet sent.token
+      → fitting (received_sent token after) ≡ Some sent
+  received_whole sent token after fit is next =
+      ap (λ t. fitting (received_sent t after)) is ∙ ap (λ b. fitting (received_sent (Some (token_packet sent)) b)) next ∙ whole_received sent.address sent.token fit
 
   pub carried_so : (d : DeviceView) (sent : Sent) (fate : Fate) (n : ℕ) (a : Reply) (r : Served) → fits sent.token ≡ true
       → IsExchanged table cut d sent fate (bits_of [] n) a r → (let s = carried table cut d sent fate in Comes r s.reply s.device)
@@ -101,7 +101,7 @@ module _ (table : State → Setup → Outcome) (cut : ℕ) where
           let token : x.token ≡ Some (token_packet sent) = taken_whole (Some (token_packet sent)) x.token (subst (λ lost. IsTakenOf lost [] (Some (token_packet sent)) x.token) down x.token_is) in
           let after : x.after ≡ data_packet sent.token = taken_whole (data_packet sent.token) x.after (subst (λ lost. IsTakenOf lost [] (data_packet sent.token) x.after) down x.after_is) in
           answered_so d sent fate (reply_number sent.token) n a r down
-          (subst (λ h. IsAnswered table cut d h (reply_number sent.token) fate (bits_of [] n) a r) (heard_whole sent x.token x.after fit token after) x.rest)
+          (subst (λ h. IsAnswered table cut d h (reply_number sent.token) fate (bits_of [] n) a r) (received_whole sent x.token x.after fit token after) x.rest)
 
       of : (fate : Fate) → IsExchanged table cut d sent fate (bits_of [] n) a r → (let s = carried table cut d sent fate in Comes r s.reply s.device)
       of fates.Pass x = kept fates.Pass refl x
@@ -110,15 +110,15 @@ module _ (table : State → Setup → Outcome) (cut : ℕ) where
       of fates.LostAck x = kept fates.LostAck refl x
       of fates.LostDown x =
           let token : x.token ≡ None = taken_none (Some (token_packet sent)) x.token x.token_is in
-          let heard : fitting (heard_sent x.token x.after) ≡ None = ap (λ t. fitting (heard_sent t x.after)) token in
-          silent (subst (λ h. IsAnswered table cut d h (reply_number sent.token) fates.LostDown (bits_of [] n) a r) heard x.rest)
+          let received : fitting (received_sent x.token x.after) ≡ None = ap (λ t. fitting (received_sent t x.after)) token in
+          silent (subst (λ h. IsAnswered table cut d h (reply_number sent.token) fates.LostDown (bits_of [] n) a r) received x.rest)
         where
           silent : IsAnswered table cut d None (reply_number sent.token) fates.LostDown (bits_of [] n) a r → Comes r NoReply d
           silent x =
               let none : x.reply ≡ None = subst (λ b. IsTakenOf false [] (reply_packet b) x.reply) x.answers x.reply_is in
-              let heard : heard_reply x.reply ≡ NoReply = ap heard_reply none in
-              let acks : x.ack ≡ None = subst (λ reply. IsTakenOf false [] (ack_packet reply) x.ack) heard x.ack_is in
-              record { reply_is = x.hears ∙ heard; device_is = x.device ∙ ap (λ k. after_ack (is_ack k) d) acks }
+              let received : received_reply x.reply ≡ NoReply = ap received_reply none in
+              let acks : x.ack ≡ None = subst (λ reply. IsTakenOf false [] (ack_packet reply) x.ack) received x.ack_is in
+              record { reply_is = x.receives_reply ∙ received; device_is = x.device ∙ ap (λ k. after_ack (is_ack k) d) acks }
 
   -- ---- a run
 

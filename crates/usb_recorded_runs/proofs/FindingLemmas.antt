@@ -23,7 +23,7 @@ use Rattle.usb_capture.specs.declared.transaction.Transaction.{Transaction}
 use Rattle.usb_capture.specs.BusPackets.{IsPacketOf, packet_fault}
 use Rattle.usb_capture.specs.Events.{setup_at}
 use Rattle.usb_capture.specs.PacketFindings.{damage_in, is_found, lacks_request, refuses_setup}
-use Rattle.usb_recorded_runs.specs.Exchanges.{Exchange, data_heard, handshake_heard, heard, packets_of, transaction_of, unless_lost}
+use Rattle.usb_recorded_runs.specs.Exchanges.{Exchange, data_received, handshake_received, received, packets_of, transaction_of, unless_lost}
 use Rattle.usb_bus.specs.Wire.{token_kind}
 use Rattle.usb_recorded_runs.specs.Captures.{AreOfFrames, IsOfFrame, Moment, frame_of, frames}
 use Rattle.usb_recorded_runs.specs.Findings.{IsFreeAfter, LosesHandshake}
@@ -42,10 +42,10 @@ first_free finding false t ts before free later = (free, later (before ++ t ∷ 
 
 -- so it is found in none
 all_free : (finding : PacketFinding) (times : ℕ → Option ℕ) (number : ℕ) (xs : List Exchange) (before : List Transaction) → AllByRecursion (IsFree finding) xs
-    → IsFreeAfter finding before (heard times number xs)
+    → IsFreeAfter finding before (received times number xs)
 all_free finding times number [] before free = tt
 all_free finding times number (x ∷ xs) before free =
-    first_free finding (is_lost_down x.fate) (transaction_of number (times number) x) (heard times (number + length (packets_of x)) xs) before
+    first_free finding (is_lost_down x.fate) (transaction_of number (times number) x) (received times (number + length (packets_of x)) xs) before
     (free.0 before number (times number)) (λ earlier. all_free finding times (number + length (packets_of x)) xs earlier free.1)
 
 -- a SETUP has its request
@@ -53,7 +53,7 @@ has_request : (x : Exchange) (number : ℕ) (time : Option ℕ) → fits x.sent.
 has_request x number time asks = of x.sent.token asks
   where
     of : (token : Token) → fits token ≡ true
-        → lacks_request (record (transaction_of number time x) { token = token_kind token; «data» = data_heard token (brought x.fate x.answered) }) ≡ false
+        → lacks_request (record (transaction_of number time x) { token = token_kind token; «data» = data_received token (brought x.fate x.answered) }) ≡ false
     of InToken asks = refl
     of (OutToken toggle bytes) asks = refl
     of (SetupToken bytes) asks = ap (λ t. not (is_some (if true && t then Some (setup_at bytes 0) else None))) asks
@@ -63,7 +63,7 @@ not_refused : (x : Exchange) (number : ℕ) (time : Option ℕ) → Fits x.sent.
 not_refused x number time answers = of x.fate x.sent.token x.answered answers
   where
     of : (fate : Fate) (token : Token) (reply : Reply) → Fits token reply
-        → refuses_setup (record (transaction_of number time x) { token = token_kind token; handshake = handshake_heard (is_lost_ack fate) (brought fate reply) }) ≡ false
+        → refuses_setup (record (transaction_of number time x) { token = token_kind token; handshake = handshake_received (is_lost_ack fate) (brought fate reply) }) ≡ false
     of fate InToken reply answers = refl
     of fate (OutToken toggle bytes) reply answers = refl
     of Pass (SetupToken bytes) AckReply answers = refl
@@ -84,19 +84,19 @@ all_request : (xs : List Exchange) → AllByRecursion IsRegular xs → AllByRecu
 all_request [] regular = tt
 all_request (x ∷ xs) regular = (λ before number time. has_request x number time regular.0.asks, all_request xs regular.1)
 
-pub all_requests : (times : ℕ → Option ℕ) (number : ℕ) (xs : List Exchange) → AllByRecursion IsRegular xs → IsFreeAfter NoRequest [] (heard times number xs)
+pub all_requests : (times : ℕ → Option ℕ) (number : ℕ) (xs : List Exchange) → AllByRecursion IsRegular xs → IsFreeAfter NoRequest [] (received times number xs)
 all_requests times number xs regular = all_free NoRequest times number xs [] (all_request xs regular)
 
 all_not_refused : (xs : List Exchange) → AllByRecursion IsRegular xs → AllByRecursion (IsFree SetupRefused) xs
 all_not_refused [] regular = tt
 all_not_refused (x ∷ xs) regular = (λ before number time. not_refused x number time regular.0.answers, all_not_refused xs regular.1)
 
-pub none_refused : (times : ℕ → Option ℕ) (number : ℕ) (xs : List Exchange) → AllByRecursion IsRegular xs → IsFreeAfter SetupRefused [] (heard times number xs)
+pub none_refused : (times : ℕ → Option ℕ) (number : ℕ) (xs : List Exchange) → AllByRecursion IsRegular xs → IsFreeAfter SetupRefused [] (received times number xs)
 none_refused times number xs regular = all_free SetupRefused times number xs [] (all_not_refused xs regular)
 
 -- ---- a handshake
 
-none_came : (fate : Fate) (reply : Reply) → not (is_some (handshake_heard (is_lost_ack fate) (brought fate reply))) ≡ true
+none_came : (fate : Fate) (reply : Reply) → not (is_some (handshake_received (is_lost_ack fate) (brought fate reply))) ≡ true
     → (fate ≡ LostUp) ⊎ ((fate ≡ LostAck) ⊎ (reply ≡ NoReply))
 none_came LostUp reply found = inl refl
 none_came LostAck reply found = inr (inl refl)

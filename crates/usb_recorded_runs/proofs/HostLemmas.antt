@@ -21,7 +21,7 @@ use Rattle.usb_host.specs.Order.{asks, refused_leads, spared}
 use Rattle.usb_host.specs.Place.{Place, First, Address, Device, Header, Set, Qualifier, Languages, Text, Configure, Reported, Stopped}
 use Rattle.usb_host.specs.Plan.{Plan, Begin, Success, GivesUp}
 use Rattle.usb_host.specs.Read.{get_descriptor}
-use Rattle.usb_host.specs.Steps.{Ended, HostPhase, HostView, KeepsHeard, Reading, ResetDue, TakesHeard, TakesIn, WantsReset, blames_bus, completed_leads, enter, entered, goes_on, reset, reset_in, sends, settled, terms_of, wanted}
+use Rattle.usb_host.specs.Steps.{Ended, HostPhase, HostView, KeepsReceived, Reading, ResetDue, TakesReceived, TakesIn, WantsReset, blames_bus, completed_leads, enter, entered, goes_on, reset, reset_in, sends, settled, terms_of, wanted}
 use Rattle.usb_host.specs.Transfer.{Taken, TransferView, begun, completed, delayed, due, failed, kept_packet, moved, stage_after_setup, struck, taken, taken_at, taken_data, taken_status}
 use Rattle.usb_host.specs.declared.transfer.TransferStage.{TransferStage}
 use Rattle.usb_host.specs.declared.transfer.TransferStage.TheVariants as stages
@@ -90,7 +90,7 @@ module _ (size : ℕ) where
     ReadsOn by new = ReadsFirst by.transfer new
 
     abbrev Keeping : Taken → Type 0
-    Keeping by = (result : Result Progress SetFault) (new : Kept) → KeepsHeard k by.heard result new → ReadsOn by new
+    Keeping by = (result : Result Progress SetFault) (new : Kept) → KeepsReceived k by.received result new → ReadsOn by new
 
     either_keeps : (c : Bool) (x y : Taken) → (c ≡ true → Keeping x) → (c ≡ false → Keeping y) → Keeping (if c then x else y)
     either_keeps true x y p q = p refl
@@ -186,7 +186,7 @@ module _ (size : ℕ) where
     taken_keeps (stages.Failed why) reply at has may = λ result next same. record { request_is = request_is; packet_is = packet_is; has = subst (λ s. KeptSo s t.kept next) (sym at) tt }
 
   first_taken : (t : TransferView) (k : Kept) (reply : Reply) (result : Result Progress SetFault) (next : Kept) → ReadsFirst t k → (t.stage ≡ stages.DataIn → MayCome reply)
-      → KeepsHeard k (taken t reply).heard result next → ReadsFirst (taken t reply).transfer next
+      → KeepsReceived k (taken t reply).received result next → ReadsFirst (taken t reply).transfer next
   first_taken t k reply result next reads may keeps = taken_keeps t k reads.request_is reads.packet_is t.stage reply refl reads.has may result next keeps
 
   -- ---- a host
@@ -242,11 +242,11 @@ module _ (size : ℕ) where
     goes_works limits terms place t k stages.StatusOut at works = works
     goes_works limits terms place t k stages.StatusIn at works = works
 
-    heard_works : (limits : LimitView) (terms : Terms) (place : Place) (t : TransferView) (old : Kept) (reply : Reply) (new : HostPhase) (before after : List Trouble)
+    received_works : (limits : LimitView) (terms : Terms) (place : Place) (t : TransferView) (old : Kept) (reply : Reply) (new : HostPhase) (before after : List Trouble)
         → P (taken t reply).transfer → KnowsSize size place → (place ≡ First → ReadsFirst t old) → (place ≡ First → t.stage ≡ stages.DataIn → MayCome reply)
-        → TakesHeard limits terms place old (taken t reply) new before after → InWork new
-    heard_works limits terms place t old reply new b a holds knows first may (result, k, keeps, inl (lacks, e, same)) = subst InWork (sym e) tt
-    heard_works limits terms place t old reply new b a holds knows first may (result, k, keeps, inr (lacks, e, adds)) =
+        → TakesReceived limits terms place old (taken t reply) new before after → InWork new
+    received_works limits terms place t old reply new b a holds knows first may (result, k, keeps, inl (lacks, e, same)) = subst InWork (sym e) tt
+    received_works limits terms place t old reply new b a holds knows first may (result, k, keeps, inr (lacks, e, adds)) =
         subst InWork (sym e)
         (goes_works limits terms place (taken t reply).transfer k (taken t reply).transfer.stage refl
         (record { holds = holds; knows = knows; first = λ at. first_taken t old reply result k (first at) (may at) keeps }))
@@ -273,10 +273,10 @@ module _ (size : ℕ) where
 
     pub takes_works : (v w : HostView) (place : Place) (t : TransferView) (k : Kept) (reply : Reply) → P (taken t reply).transfer → KnowsSize size place
         → (place ≡ First → ReadsFirst t k) → (place ≡ First → t.stage ≡ stages.DataIn → MayCome reply) → TakesIn v (Reading place t k) reply w → InWork w.phase
-    takes_works v w place t k reply holds knows first may (phase, heard, e) =
+    takes_works v w place t k reply holds knows first may (phase, received, e) =
         subst (λ u. InWork u.phase) (sym e)
         (settled_works v.limits.attempts v.resets phase
-        (heard_works v.limits (terms_of v) place t k reply phase v.forgiven w.forgiven holds knows first may heard))
+        (received_works v.limits (terms_of v) place t k reply phase v.forgiven w.forgiven holds knows first may received))
 
     no_reset : (o : Option Sent) → sends o ≡ WantsReset → ⊥
     no_reset None e = let w : ⊥ = cc in w

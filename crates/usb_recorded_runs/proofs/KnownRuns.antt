@@ -34,13 +34,13 @@ use Rattle.usb_capture.specs.BusTransfers.{Pipes, none_open, pipes_after, pipes_
 use Rattle.usb_capture.specs.PacketFindings.{has_wrong_toggle, is_early, is_found}
 use Rattle.usb_capture.specs.PacketSizes.{size_at, sizes_in}
 use Rattle.usb_capture.proofs.Folds.{after_push, given_push}
-use Rattle.usb_recorded_runs.specs.Exchanges.{Exchange, arriving, exchange_in, exchanges, heard, packets_in, packets_of, transaction_of, unless_lost}
+use Rattle.usb_recorded_runs.specs.Exchanges.{Exchange, arriving, exchange_in, exchanges, received, packets_in, packets_of, transaction_of, unless_lost}
 use Rattle.usb_recorded_runs.specs.Findings.{IsFreeAfter}
 use Rattle.usb_recorded_runs.proofs.HostLemmas.{InWork, reset_works, takes_works}
 use Rattle.usb_recorded_runs.proofs.PipeLemmas.{Sound, sound_first}
 use Rattle.usb_recorded_runs.proofs.RecordedLemmas.{IsRegular}
 use Rattle.usb_recorded_runs.proofs.AnswerLemmas.{all_fronts, described_by}
-use Rattle.usb_recorded_runs.proofs.HeardLemmas.{heard_in}
+use Rattle.usb_recorded_runs.proofs.ReceivedLemmas.{received_in}
 use Rattle.usb_recorded_runs.proofs.LengthLemmas.{IsShortIn, one_not_long}
 use Rattle.usb_recorded_runs.proofs.SizeLemmas.{Fronts, IfOver, IsSound, all_says, own_size}
 use Rattle.usb_recorded_runs.proofs.StepLemmas.{Agree, after_answer, after_none, fresh_agrees, step, taken_agrees}
@@ -55,20 +55,20 @@ free_push finding before (u ∷ ts) t free last =
 
 -- one exchange more
 module _ (times : ℕ → Option ℕ) where
-  abbrev pub one_heard : ℕ → Exchange → List Transaction
-  one_heard number x = unless_lost (is_lost_down x.fate) (transaction_of number (times number) x)
+  abbrev pub one_received : ℕ → Exchange → List Transaction
+  one_received number x = unless_lost (is_lost_down x.fate) (transaction_of number (times number) x)
 
-  pub heard_push : (number : ℕ) (xs : List Exchange) (x : Exchange)
-      → heard times number (xs ++ x ∷ []) ≡ heard times number xs ++ one_heard (number + length (packets_in xs)) x
-  heard_push number [] x =
+  pub received_push : (number : ℕ) (xs : List Exchange) (x : Exchange)
+      → received times number (xs ++ x ∷ []) ≡ received times number xs ++ one_received (number + length (packets_in xs)) x
+  received_push number [] x =
       let same : number ≡ number + 0 = omega arith in
-      append-nil (one_heard number x) ∙ ap (λ n. one_heard n x) same
-  heard_push number (y ∷ xs) x =
-      let first = one_heard number y in
+      append-nil (one_received number x) ∙ ap (λ n. one_received n x) same
+  received_push number (y ∷ xs) x =
+      let first = one_received number y in
       let after = number + length (packets_of y) in
       let same : after + length (packets_in xs) ≡ number + length (packets_of y ++ packets_in xs) = omega (arith, length-append (packets_of y) (packets_in xs)) in
-      ap (λ ts. first ++ ts) (heard_push after xs x ∙ ap (λ n. heard times after xs ++ one_heard n x) same)
-      ∙ sym (append_assoc first (heard times after xs) (one_heard (number + length (packets_of y ++ packets_in xs)) x))
+      ap (λ ts. first ++ ts) (received_push after xs x ∙ ap (λ n. received times after xs ++ one_received n x) same)
+      ∙ sym (append_assoc first (received times after xs) (one_received (number + length (packets_of y ++ packets_in xs)) x))
 
 -- ---- addresses
 
@@ -223,29 +223,29 @@ module _ (f : DescriptorFile) (kept_table : IsTable (answer f)) (list : List Fat
           let token = stepped.0 in
           let sent_is : made.sent ≡ record { address = t.address; token = token } = stepped.1 in
           let r : Served = served table cut d (record { address = t.address; token = token }) (is_ready fate) in
-          let heard_is : T ≡ heard_in number (times number) t.address token (is_lost_ack fate) (brought fate r.reply) =
+          let received_is : T ≡ received_in number (times number) t.address token (is_lost_ack fate) (brought fate r.reply) =
           ap (λ s. transaction_of number (times number) (made_of d s fate)) sent_is
-          ∙ ap (λ a. heard_in number (times number) t.address token (is_lost_ack fate) (brought fate a)) (answered_kept d (record { address = t.address; token = token }) fate kept) in
+          ∙ ap (λ a. received_in number (times number) t.address token (is_lost_ack fate) (brought fate a)) (answered_kept d (record { address = t.address; token = token }) fate kept) in
           let served_is : carried table cut d made.sent fate ≡ record { reply = brought fate r.reply; device = after_answer table cut described tells fate r } =
           ap (λ s. carried table cut d s fate) sent_is ∙ carried_kept d (record { address = t.address; token = token }) fate kept in
           let device_is : last.device ≡ after_answer table cut described tells fate r = made.device ∙ ap (λ c. c.device) served_is in
-          let pipes_is : pipes_in (ts ++ T ∷ []) ≡ pipes_after (heard_in number (times number) t.address token (is_lost_ack fate) (brought fate r.reply)) (pipes_in ts) =
-          after ∙ ap (λ u. pipes_after u (pipes_in ts)) heard_is in
+          let pipes_is : pipes_in (ts ++ T ∷ []) ≡ pipes_after (received_in number (times number) t.address token (is_lost_ack fate) (brought fate r.reply)) (pipes_in ts) =
+          after ∙ ap (λ u. pipes_after u (pipes_in ts)) received_is in
           record {
-            toggles = free_push Toggle [] ts T right.toggles (ap (λ u. has_wrong_toggle u (pipes_in ts)) heard_is ∙ stepped.2.right);
+            toggles = free_push Toggle [] ts T right.toggles (ap (λ u. has_wrong_toggle u (pipes_in ts)) received_is ∙ stepped.2.right);
             lengths = free_push Long [] ts T right.lengths (one_not_long cut number (times number) (made_of d made.sent fate) short (sizes_in (transfers_in ts)) own);
             endings = free_push NoShortPacket [] ts T right.endings
-                (ap (λ u. is_early (size_at made.sent.address (sizes_in (transfers_in ts))) u (pipes_in ts)) heard_is
+                (ap (λ u. is_early (size_at made.sent.address (sizes_in (transfers_in ts))) u (pipes_in ts)) received_is
                 ∙ stepped.2.not_early (size_at made.sent.address (sizes_in (transfers_in ts))) own
                 (λ zero. size_zero made.sent.address (sizes_in (transfers_in ts)) (ap (λ s. s.address) sent_is ∙ zero)));
             transfers = subst (AllByRecursion (IsSound cut described)) (sym (given_push pipes_after transfer_over none_open ts T))
-                (all_over (transfers_in ts) (transfer_over T (pipes_in ts)) right.transfers (subst (λ u. IfOver cut described (transfer_over u (pipes_in ts))) (sym heard_is) stepped.2.over));
+                (all_over (transfers_in ts) (transfer_over T (pipes_in ts)) right.transfers (subst (λ u. IfOver cut described (transfer_over u (pipes_in ts))) (sym received_is) stepped.2.over));
             sound = subst Sound (sym pipes_is) stepped.2.sound_then;
             known =
                 subst (λ p. Known last.device.stage p last.host.phase) (sym pipes_is)
-                (subst (λ v. Known v.stage (pipes_after (heard_in number (times number) t.address token (is_lost_ack fate) (brought fate r.reply)) (pipes_in ts)) last.host.phase) (sym device_is)
-                (takes_works cut (Agree table cut described tells (after_answer table cut described tells fate r).stage (pipes_after (heard_in number (times number) t.address token (is_lost_ack fate) (brought fate r.reply)) (pipes_in ts)))
-                (fresh_agrees table cut described tells (after_answer table cut described tells fate r).stage (pipes_after (heard_in number (times number) t.address token (is_lost_ack fate) (brought fate r.reply)) (pipes_in ts)))
+                (subst (λ v. Known v.stage (pipes_after (received_in number (times number) t.address token (is_lost_ack fate) (brought fate r.reply)) (pipes_in ts)) last.host.phase) (sym device_is)
+                (takes_works cut (Agree table cut described tells (after_answer table cut described tells fate r).stage (pipes_after (received_in number (times number) t.address token (is_lost_ack fate) (brought fate r.reply)) (pipes_in ts)))
+                (fresh_agrees table cut described tells (after_answer table cut described tells fate r).stage (pipes_after (received_in number (times number) t.address token (is_lost_ack fate) (brought fate r.reply)) (pipes_in ts)))
                 x.host last.host place t k (brought fate r.reply) stepped.2.agrees known.knows known.first
                 (λ first at. stepped.2.may_come at (known.first first).request_is)
                 (subst (λ c. TakesIn x.host (Reading place t k) c.reply last.host) served_is takes)));
@@ -268,7 +268,7 @@ module _ (f : DescriptorFile) (kept_table : IsTable (answer f)) (list : List Fat
           known.knows known.first (λ first at. tt) takes)
 
   one_right : (x last : Pair) (fate : Fate) (made : IsTransactionAt table cut fate x last) (ts : List Transaction) (number : ℕ) → IsSmall (made_of x.device made.sent fate) → IsShortIn cut (made_of x.device made.sent fate)
-      → IsRight ts x → IsRight (ts ++ one_heard times number (made_of x.device made.sent fate)) last
+      → IsRight ts x → IsRight (ts ++ one_received times number (made_of x.device made.sent fate)) last
   one_right x last fates.Pass made ts number small short right = kept_right x last fates.Pass made ts number refl small short right
   one_right x last fates.Busy made ts number small short right = kept_right x last fates.Busy made ts number refl small short right
   one_right x last fates.LostUp made ts number small short right = kept_right x last fates.LostUp made ts number refl small short right
@@ -276,7 +276,7 @@ module _ (f : DescriptorFile) (kept_table : IsTable (answer f)) (list : List Fat
   one_right x last fates.LostDown made ts number small short right = lost_right x last made ts right
 
   pub run_right : (new : Pair) (earlier : List Pair) (n : ℕ) (last : Pair) → new.host.phase ≡ ResetDue → RunsAt table cut list new earlier n last
-      → AllByRecursion IsSmall (exchanges f list earlier n) → AllByRecursion (IsShortIn cut) (exchanges f list earlier n) → IsRight (heard times 1 (exchanges f list earlier n)) last
+      → AllByRecursion IsSmall (exchanges f list earlier n) → AllByRecursion (IsShortIn cut) (exchanges f list earlier n) → IsRight (received times 1 (exchanges f list earlier n)) last
   run_right new [] n last due (same, none) small short = record {
     toggles = tt;
     lengths = tt;
@@ -289,9 +289,9 @@ module _ (f : DescriptorFile) (kept_table : IsTable (answer f)) (list : List Fat
       let small_then = all_front IsSmall (exchanges f list earlier n) [] (subst (λ w. AllByRecursion IsSmall (exchanges f list earlier (count_before w n) ++ exchange_in f list n x.device w)) reset.due small) in
       let short_then = all_front (IsShortIn cut) (exchanges f list earlier n) [] (subst (λ w. AllByRecursion (IsShortIn cut) (exchanges f list earlier (count_before w n) ++ exchange_in f list n x.device w)) reset.due short) in
       let before = run_right new earlier n x due run small_then short_then in
-      let ts = heard times 1 (exchanges f list earlier n) in
-      subst (λ w. IsRight (heard times 1 (exchanges f list earlier (count_before w n) ++ exchange_in f list n x.device w)) last) (sym reset.due)
-      (subst (λ xs. IsRight (heard times 1 xs) last) (sym (append-nil (exchanges f list earlier n)))
+      let ts = received times 1 (exchanges f list earlier n) in
+      subst (λ w. IsRight (received times 1 (exchanges f list earlier (count_before w n) ++ exchange_in f list n x.device w)) last) (sym reset.due)
+      (subst (λ xs. IsRight (received times 1 xs) last) (sym (append-nil (exchanges f list earlier n)))
       (record {
         toggles = before.toggles;
         lengths = before.lengths;
@@ -311,7 +311,7 @@ module _ (f : DescriptorFile) (kept_table : IsTable (answer f)) (list : List Fat
       subst (λ k. AllByRecursion (IsShortIn cut) (exchanges f list earlier k ++ made_of x.device made.sent (fate_at list k) ∷ [])) back
       (subst (λ w. AllByRecursion (IsShortIn cut) (exchanges f list earlier (count_before w n) ++ exchange_in f list n x.device w)) made.due short) in
       let before = run_right new earlier m x due run (all_front IsSmall xs (one ∷ []) all) (all_front (IsShortIn cut) xs (one ∷ []) all_short) in
-      subst (λ w. IsRight (heard times 1 (exchanges f list earlier (count_before w n) ++ exchange_in f list n x.device w)) last) (sym made.due)
-      (subst (λ k. IsRight (heard times 1 (exchanges f list earlier k ++ made_of x.device made.sent (fate_at list k) ∷ [])) last) (sym back)
-      (subst (λ ts. IsRight ts last) (sym (heard_push times 1 xs one))
-      (one_right x last (fate_at list m) made (heard times 1 xs) (1 + length (packets_in xs)) (all_last IsSmall xs one all) (all_last (IsShortIn cut) xs one all_short) before)))
+      subst (λ w. IsRight (received times 1 (exchanges f list earlier (count_before w n) ++ exchange_in f list n x.device w)) last) (sym made.due)
+      (subst (λ k. IsRight (received times 1 (exchanges f list earlier k ++ made_of x.device made.sent (fate_at list k) ∷ [])) last) (sym back)
+      (subst (λ ts. IsRight ts last) (sym (received_push times 1 xs one))
+      (one_right x last (fate_at list m) made (received times 1 xs) (1 + length (packets_in xs)) (all_last IsSmall xs one all) (all_last (IsShortIn cut) xs one all_short) before)))

@@ -25,7 +25,7 @@ use Rattle.usb_bus.specs.Run.{fate_at}
 use Rattle.usb_bus.specs.Wire.{token_kind}
 use Rattle.usb_capture.specs.declared.transaction.Transaction.{Transaction}
 use Rattle.usb_capture.specs.PacketSizes.{is_long, is_longer, size_at}
-use Rattle.usb_recorded_runs.specs.Exchanges.{Exchange, data_heard, exchange_in, exchanges, heard, packets_of, transaction_of, unless_lost}
+use Rattle.usb_recorded_runs.specs.Exchanges.{Exchange, data_received, exchange_in, exchanges, received, packets_of, transaction_of, unless_lost}
 use Rattle.usb_recorded_runs.proofs.RecordedLemmas.{Fits}
 use Rattle.usb_recorded_runs.proofs.RunLemmas.{all_append, here_fits}
 
@@ -154,7 +154,7 @@ module _ (f : DescriptorFile) where
         tt,
       ))
 
--- ---- what is heard
+-- ---- what is received
 
 came_short : (size : ℕ) (fate : Fate) (reply : Reply) → IsShort size reply → IsShort size (brought fate reply)
 came_short size fates.LostUp reply short = tt
@@ -168,7 +168,7 @@ not_longer known size n (inl none) few = grind (arith, nat_tests)
 not_longer known size n (inr own) few = grind (arith, nat_tests)
 
 token_right : (size known : ℕ) (token : Token) (came : Reply) → (known ≡ 0) ⊎ (known ≡ size) → IsShortToken size token → IsShort size came
-    → is_longer (token_kind token) (data_heard token came) known ≡ false
+    → is_longer (token_kind token) (data_received token came) known ≡ false
 token_right size known (SetupToken bytes) came own token reply = refl
 token_right size known (OutToken toggle bytes) came own token reply = not_longer known size (length bytes) own token
 token_right size known InToken (DataReply toggle bytes) own token reply = not_longer known size (length bytes) own reply
@@ -190,9 +190,9 @@ none_long_first size true t ts short later = later
 none_long_first size false t ts short later = (short, later)
 
 pub none_long : (size : ℕ) (times : ℕ → Option ℕ) (number : ℕ) (xs : List Exchange) → AllByRecursion (IsShortIn size) xs
-    → AllByRecursion (IsNotLong size) (heard times number xs)
+    → AllByRecursion (IsNotLong size) (received times number xs)
 none_long size times number [] short = tt
 none_long size times number (x ∷ xs) short =
-    none_long_first size (is_lost_down x.fate) (transaction_of number (times number) x) (heard times (number + length (packets_of x)) xs)
+    none_long_first size (is_lost_down x.fate) (transaction_of number (times number) x) (received times (number + length (packets_of x)) xs)
     (one_not_long size number (times number) x short.0)
     (none_long size times (number + length (packets_of x)) xs short.1)

@@ -9,7 +9,7 @@ pub mod PipeLemmas
 pub mod CarriedLemmas
 pub mod FrontLemmas
 pub mod DeviceLemmas
-pub mod HeardLemmas
+pub mod ReceivedLemmas
 pub mod StepLemmas
 pub mod KnownRuns
 pub mod SizeLemmas

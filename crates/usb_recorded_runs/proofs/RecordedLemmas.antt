@@ -15,9 +15,9 @@ use Rattle.usb_bus.specs.Wire.{ack_packet, data_packet, reply_packet, token_kind
 use Rattle.usb_capture.specs.declared.recorded_packet.RecordedPacket.{RecordedPacket}
 use Rattle.usb_capture.specs.declared.transaction.Transaction.{Transaction}
 use Rattle.usb_capture.specs.Recordings.{AreRecorded, MayHave, RecordAll, Records, data_packets, handshake_packets, transactions_in}
-use Rattle.usb_capture.proofs.RecordingLaws.{heard_again}
+use Rattle.usb_capture.proofs.RecordingLaws.{received_again}
 use Rattle.usb_recorded_runs.specs.Captures.{AreOfFrames, IsOfFrame, Moment, frame_of, frames, times}
-use Rattle.usb_recorded_runs.specs.Exchanges.{Exchange, arriving, data_heard, data_of, handshake_heard, heard, packets_in, packets_of, transaction_of, unless_lost}
+use Rattle.usb_recorded_runs.specs.Exchanges.{Exchange, arriving, data_received, data_of, handshake_received, received, packets_in, packets_of, transaction_of, unless_lost}
 
 -- ---- what a device may answer
 
@@ -62,7 +62,7 @@ abbrev answer_packets : Fate → Reply → List PacketView
 answer_packets fate reply = arriving (is_lost_up fate) (reply_packet reply) ++ arriving (is_lost_ack fate) (ack_packet (brought fate reply))
 
 in_packets : (fate : Fate) (reply : Reply)
-    → answer_packets fate reply ≡ data_packets (data_of (brought fate reply)) ++ handshake_packets (handshake_heard (is_lost_ack fate) (brought fate reply))
+    → answer_packets fate reply ≡ data_packets (data_of (brought fate reply)) ++ handshake_packets (handshake_received (is_lost_ack fate) (brought fate reply))
 in_packets Pass AckReply = refl
 in_packets Busy AckReply = refl
 in_packets LostDown AckReply = refl
@@ -71,7 +71,7 @@ in_packets LostAck AckReply = refl
 in_packets fate reply = refl
 
 out_packets : (fate : Fate) (reply : Reply) → IsNoData reply
-    → answer_packets fate reply ≡ handshake_packets (handshake_heard (is_lost_ack fate) (brought fate reply))
+    → answer_packets fate reply ≡ handshake_packets (handshake_received (is_lost_ack fate) (brought fate reply))
 out_packets Pass AckReply right = refl
 out_packets Busy AckReply right = refl
 out_packets LostDown AckReply right = refl
@@ -83,14 +83,14 @@ out_packets fate reply right = refl
 -- after the token, which has arrived
 after_token : (fate : Fate) (token : Token) (reply : Reply) → is_lost_down fate ≡ false → Fits token reply
     → arriving (is_lost_down fate) (data_packet token) ++ answer_packets fate reply
-    ≡ data_packets (data_heard token (brought fate reply)) ++ handshake_packets (handshake_heard (is_lost_ack fate) (brought fate reply))
+    ≡ data_packets (data_received token (brought fate reply)) ++ handshake_packets (handshake_received (is_lost_ack fate) (brought fate reply))
 after_token fate (SetupToken bytes) reply kept right =
     ap (λ lost. arriving lost (data_packet (SetupToken bytes)) ++ answer_packets fate reply) kept
-    ∙ ap (λ ps. data_packets (data_heard (SetupToken bytes) (brought fate reply)) ++ ps) (out_packets fate reply (setup_no_data bytes reply right))
+    ∙ ap (λ ps. data_packets (data_received (SetupToken bytes) (brought fate reply)) ++ ps) (out_packets fate reply (setup_no_data bytes reply right))
 after_token fate InToken reply kept right = in_packets fate reply
 after_token fate (OutToken toggle bytes) reply kept right =
     ap (λ lost. arriving lost (data_packet (OutToken toggle bytes)) ++ answer_packets fate reply) kept
-    ∙ ap (λ ps. data_packets (data_heard (OutToken toggle bytes) (brought fate reply)) ++ ps) (out_packets fate reply (out_no_data toggle bytes reply right))
+    ∙ ap (λ ps. data_packets (data_received (OutToken toggle bytes) (brought fate reply)) ++ ps) (out_packets fate reply (out_no_data toggle bytes reply right))
 
 whole : (x : Exchange) (number : ℕ) (time : Option ℕ) → is_lost_down x.fate ≡ false → Fits x.sent.token x.answered
     → (let t = transaction_of number time x in packets_of x ≡ TokenPacket t.token t.to ∷ (data_packets t.data ++ handshake_packets t.handshake))
@@ -115,7 +115,7 @@ nothing x lost none =
 may_have : (x : Exchange) (number : ℕ) (time : Option ℕ) → (let t = transaction_of number time x in MayHave t t.data)
 may_have x number time = of x.sent.token (brought x.fate x.answered)
   where
-    of : (token : Token) (came : Reply) → MayHave (record (transaction_of number time x) { token = token_kind token }) (data_heard token came)
+    of : (token : Token) (came : Reply) → MayHave (record (transaction_of number time x) { token = token_kind token }) (data_received token came)
     of (SetupToken bytes) came = refl
     of (OutToken toggle bytes) came = refl
     of InToken (DataReply toggle bytes) = refl
@@ -217,15 +217,15 @@ module _ (clock : ℕ → Moment) where
       subst (AreRecorded ts) (sym (ap (λ rs. rs ++ back) none)) later
 
   recorded_all : (xs : List Exchange) (number : ℕ) (recorded : List RecordedPacket) → AllByRecursion IsRegular xs
-      → AreOfFrames number (frames clock number (packets_in xs)) recorded → AreRecorded (heard (times clock) number xs) recorded
+      → AreOfFrames number (frames clock number (packets_in xs)) recorded → AreRecorded (received (times clock) number xs) recorded
   recorded_all [] number recorded regular are = none_left number recorded are
   recorded_all (x ∷ xs) number recorded regular are =
       let parts = parted number (packets_of x) (packets_in xs) recorded are in
       let after = number + length (packets_of x) in
       let later = recorded_all xs after parts.1 regular.1 parts.4 in
-      subst (AreRecorded (heard (times clock) number (x ∷ xs))) (sym parts.2)
-      (record_first x number parts.0 parts.1 (heard (times clock) after xs) (is_lost_down x.fate) regular.0 refl parts.3 later)
+      subst (AreRecorded (received (times clock) number (x ∷ xs))) (sym parts.2)
+      (record_first x number parts.0 parts.1 (received (times clock) after xs) (is_lost_down x.fate) regular.0 refl parts.3 later)
 
   pub read_again : (xs : List Exchange) (recorded : List RecordedPacket) → AllByRecursion IsRegular xs
-      → AreOfFrames 1 (frames clock 1 (packets_in xs)) recorded → transactions_in recorded ≡ heard (times clock) 1 xs
-  read_again xs recorded regular are = heard_again (heard (times clock) 1 xs) recorded (recorded_all xs 1 recorded regular are)
+      → AreOfFrames 1 (frames clock 1 (packets_in xs)) recorded → transactions_in recorded ≡ received (times clock) 1 xs
+  read_again xs recorded regular are = received_again (received (times clock) 1 xs) recorded (recorded_all xs 1 recorded regular are)

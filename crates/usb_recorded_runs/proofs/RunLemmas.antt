@@ -28,7 +28,7 @@ use Rattle.usb_bus.specs.Enumerate.{Pair, RunsAt, answered, answered_to}
 use Rattle.usb_bus.specs.Exchanges.{is_lost_ack, is_lost_down, is_lost_up}
 use Rattle.usb_bus.specs.Log.{count_before}
 use Rattle.usb_bus.specs.Run.{fate_at}
-use Rattle.usb_bus.specs.Wire.{Receives, ack_packet, data_packet, heard_sent, reply_packet, served_heard, token_packet}
+use Rattle.usb_bus.specs.Wire.{Receives, ack_packet, data_packet, received_sent, reply_packet, served_received, token_packet}
 use Rattle.usb_bus.proofs.WireArrivals.{none_is_not_some}
 use Rattle.usb_recorded_runs.specs.Exchanges.{Exchange, arriving, exchange_in, exchanges, packets_in, packets_of}
 use Rattle.usb_recorded_runs.proofs.RecordedLemmas.{Fits, IsRegular}
@@ -134,7 +134,7 @@ module _ (table : State → Setup → Outcome) (cut : ℕ) where
       of true is none = absurd (subst Speaks none (here_speaks d sent.token ready))
       of false is none = other sent.address d.state.address is
 
--- ---- what is due
+-- ---- what comes next
 
 same_fits : (s sent : Sent) → WantsSent s ≡ WantsSent sent → fits s.token ≡ true → fits sent.token ≡ true
 same_fits s sent e is = let same : s ≡ sent = cc in subst (λ x. fits x.token ≡ true) same is
@@ -177,14 +177,14 @@ pub all_append : {A : Type 0} (P : A → Type 0) (xs ys : List A) → AllByRecur
 all_append P [] ys p q = q
 all_append P (x ∷ xs) ys p q = (p.0, all_append P xs ys p.1 q)
 
--- a device that hears all that is sent
-pub whole_heard : (address : ℕ) (token : Token) → fits token ≡ true
-    → (let s : Sent = record { address = address; token = token } in fitting (heard_sent (Some (token_packet s)) (data_packet token)) ≡ Some s)
-whole_heard address (SetupToken bytes) e =
+-- a device that receives all that is sent
+pub whole_received : (address : ℕ) (token : Token) → fits token ≡ true
+    → (let s : Sent = record { address = address; token = token } in fitting (received_sent (Some (token_packet s)) (data_packet token)) ≡ Some s)
+whole_received address (SetupToken bytes) e =
     let s : Sent = record { address = address; token = SetupToken bytes } in ap (λ c. if c then Some s else None) e
-whole_heard address InToken e = refl
-whole_heard address (OutToken Data0 bytes) e = refl
-whole_heard address (OutToken Data1 bytes) e = refl
+whole_received address InToken e = refl
+whole_received address (OutToken Data0 bytes) e = refl
+whole_received address (OutToken Data1 bytes) e = refl
 
 -- ---- one transaction
 
@@ -199,9 +199,9 @@ module _ (f : DescriptorFile) where
         let token : x.token ≡ Some (token_packet sent) = taken_whole (Some (token_packet sent)) x.token (subst (λ lost. IsTakenOf lost [] (Some (token_packet sent)) x.token) kept x.token_is) in
         let after : x.after ≡ data_packet sent.token = taken_whole (data_packet sent.token) x.after (subst (λ lost. IsTakenOf lost [] (data_packet sent.token) x.after) kept x.after_is) in
         x.rest.answers
-        ∙ ap (λ t. (served_heard (answer f) f.device.packet d (fitting (heard_sent t x.after)) (is_ready fate)).reply) token
-        ∙ ap (λ b. (served_heard (answer f) f.device.packet d (fitting (heard_sent (Some (token_packet sent)) b)) (is_ready fate)).reply) after
-        ∙ ap (λ h. (served_heard (answer f) f.device.packet d h (is_ready fate)).reply) (whole_heard sent.address sent.token fit)
+        ∙ ap (λ t. (served_received (answer f) f.device.packet d (fitting (received_sent t x.after)) (is_ready fate)).reply) token
+        ∙ ap (λ b. (served_received (answer f) f.device.packet d (fitting (received_sent (Some (token_packet sent)) b)) (is_ready fate)).reply) after
+        ∙ ap (λ h. (served_received (answer f) f.device.packet d h (is_ready fate)).reply) (whole_received sent.address sent.token fit)
 
     regular_kept : is_lost_down fate ≡ false → readiness fate ≡ Some (is_ready fate) → IsRegular (made_of d sent fate)
     regular_kept kept ready =

@@ -38,7 +38,7 @@ use Rattle.usb_capture.specs.Readings.{reads_descriptor}
 use Rattle.usb_recorded_runs.proofs.PlaceLemmas.{FirstTells}
 use Rattle.usb_recorded_runs.proofs.DeviceLemmas.{Follows, IsElsewhere, IsEmpty, IsNext, IsSent, acked_flips, acked_so, in_toggle, none_some, served_sends}
 use Rattle.usb_recorded_runs.proofs.FrontLemmas.{front_more}
-use Rattle.usb_recorded_runs.proofs.HeardLemmas.{EndsWhole, Goes, IsNoData, NotEarly, Right, bytes_cases, bytes_count, bytes_cut, bytes_keep, bytes_total, heard_in, packet_in, quiet_in, right_at, setup_right, status_in, status_out, with_again, with_next}
+use Rattle.usb_recorded_runs.proofs.ReceivedLemmas.{EndsWhole, Goes, IsNoData, NotEarly, Right, bytes_cases, bytes_count, bytes_cut, bytes_keep, bytes_total, received_in, packet_in, quiet_in, right_at, setup_right, status_in, status_out, with_again, with_next}
 use Rattle.usb_recorded_runs.proofs.SizeLemmas.{Fronts, IfOver, Tells, Told, nothing_tells}
 
 -- which way data go by the request that was recorded
@@ -109,7 +109,7 @@ module _ (table : State → Setup → Outcome) (cut : ℕ) (described : Setup �
     pub few : going.transfer.length ≤ length (joined (take count (packets all cut q.length)))
     pub next_is : going.toggle.next ≡ toggle_of count
 
-  -- as many as the device has heard an ACK of, or one more
+  -- as many as the device has received an ACK of, or one more
   pub record Reads (q : Setup) (all : List ℕ) (acked_ones : ℕ) (going : Going) : Type 0 where
     pub count : ℕ
     pub counted : (count ≡ acked_ones) ⊎ (count ≡ suc acked_ones)
@@ -153,7 +153,7 @@ module _ (table : State → Setup → Outcome) (cut : ℕ) (described : Setup �
   told_content (device.Receiving q got) going elsewhere told = told
   told_content (device.Written q got) going elsewhere told = told
 
-  -- no packet was heard
+  -- no packet was received
   content_stays : (old new : DeviceStage) (going : Going) → (new ≡ old) ⊎ IsElsewhere new → Content old going → Content new going
   content_stays old new going (inl same) content = subst (λ s. Content s going) (sym same) content
   content_stays old new going (inr elsewhere) content = told_content new going elsewhere (content_told old going content)
@@ -164,7 +164,7 @@ module _ (table : State → Setup → Outcome) (cut : ℕ) (described : Setup �
   content_acked q all acked_ones [] going came = come_told q all (suc acked_ones) going came
   content_acked q all acked_ones (p ∷ rest) going came = record { count = suc acked_ones; counted = inl refl; came = came }
 
-  -- of a packet that was heard, where the ACK of it is lost or not
+  -- of a packet that was received, where the ACK of it is lost or not
   abbrev After : Bool → DeviceStage → Going → Type 0
   After true stage going = Content stage going
   After false stage going = Content (acked_stage table cut stage) going
@@ -256,27 +256,27 @@ module _ (table : State → Setup → Outcome) (cut : ℕ) (described : Setup �
   told_after true stage going elsewhere acked_is told = told_content stage going elsewhere told
   told_after false stage going elsewhere acked_is told = told_content (acked_stage table cut stage) going acked_is told
 
-  -- what is known of the bytes after a packet that was heard
+  -- what is known of the bytes after a packet that was received
   module _ (old new : DeviceStage) (toggle : Toggle) (bytes : List ℕ) (lost : Bool) (going : Going) (content : Content old going) where
-    heard_next : IsNext table cut old new toggle bytes ⊎ IsEmpty table cut old new bytes → (new ≡ old) ⊎ IsElsewhere new
+    received_next : IsNext table cut old new toggle bytes ⊎ IsEmpty table cut old new bytes → (new ≡ old) ⊎ IsElsewhere new
         → has_toggle (data_kind toggle) going.toggle.next ≡ true → After lost new (with_next bytes lost going)
-    heard_next (inl next) stays is =
+    received_next (inl next) stays is =
         subst (λ s. After lost s (with_next bytes lost going)) (sym next.is)
         (packet_next lost next.request next.all next.acked_ones bytes next.later going next.due
         (subst (λ t. has_toggle (data_kind t) going.toggle.next ≡ true) next.toggle_is is) (subst (λ s. Content s going) next.was content))
-    heard_next (inr empty) stays is = told_after lost new (with_next bytes lost going) (elsewhere stays) empty.acked_is (told_bytes bytes going.transfer empty.none (content_told old going content))
+    received_next (inr empty) stays is = told_after lost new (with_next bytes lost going) (elsewhere stays) empty.acked_is (told_bytes bytes going.transfer empty.none (content_told old going content))
       where
         elsewhere : (new ≡ old) ⊎ IsElsewhere new → IsElsewhere new
         elsewhere (inl same) = subst IsElsewhere (sym same) empty.was
         elsewhere (inr other) = other
 
-    heard_again : IsNext table cut old new toggle bytes ⊎ IsEmpty table cut old new bytes → (new ≡ old) ⊎ IsElsewhere new
+    received_once_more : IsNext table cut old new toggle bytes ⊎ IsEmpty table cut old new bytes → (new ≡ old) ⊎ IsElsewhere new
         → has_toggle (data_kind toggle) going.toggle.next ≡ false → After lost new (with_again lost going)
-    heard_again (inl next) stays is =
+    received_once_more (inl next) stays is =
         subst (λ s. After lost s (with_again lost going)) (sym next.is)
         (packet_again lost next.request next.all next.acked_ones going
         (subst (λ t. has_toggle (data_kind t) going.toggle.next ≡ false) next.toggle_is is) (subst (λ s. Content s going) next.was content))
-    heard_again (inr empty) stays is = told_after lost new (with_again lost going) (elsewhere stays) empty.acked_is (content_told old going content)
+    received_once_more (inr empty) stays is = told_after lost new (with_again lost going) (elsewhere stays) empty.acked_is (content_told old going content)
       where
         elsewhere : (new ≡ old) ⊎ IsElsewhere new → IsElsewhere new
         elsewhere (inl same) = subst IsElsewhere (sym same) empty.was
@@ -317,7 +317,7 @@ module _ (table : State → Setup → Outcome) (cut : ℕ) (described : Setup �
   abbrev pub Fits : TransferStage → DeviceStage → TransferView → Going → Type 0
   Fits at stage t going = FitsBy at stage t.address t.awaited t.kept t.request going
 
-  -- the same after a packet that was heard, which the host takes for the next one or not
+  -- the same after a packet that was received, which the host takes for the next one or not
   pub record AfterPacket (toggle : Toggle) (bytes : List ℕ) (stage : DeviceStage) (awaited : Toggle) (kept : ℕ) (q : Setup) (going : Going) : Type 0 where
     pub took : is_same_toggle toggle awaited ≡ true → kept + length bytes ≤ q.length
         → InData stage (flipped awaited) (kept + length bytes) q going × (going.toggle.last ≡ length bytes)
@@ -559,7 +559,7 @@ module _ (table : State → Setup → Outcome) (cut : ℕ) (described : Setup �
 
     data_step : (t : TransferView) (fate : Fate) (old : DeviceStage) (reply : Reply) (new : DeviceView) → is_lost_down fate ≡ false → Follows old new.stage
         → (new.stage ≡ old) ⊎ IsElsewhere new.stage → IsSent table cut old new reply → OpenAt address (InData old t.awaited t.kept t.request) pipes
-        → Right cut described (heard_in number time address InToken (is_lost_ack fate) (brought fate reply))
+        → Right cut described (received_in number time address InToken (is_lost_ack fate) (brought fate reply))
         (AfterData (brought fate reply) (after_answer fate (record { reply = reply; device = new })).stage t) pipes
     data_step t fate old reply new kept follows stays_so sent opens = of fate reply kept sent
       where
@@ -577,48 +577,48 @@ module _ (table : State → Setup → Outcome) (cut : ℕ) (described : Setup �
           low = h.low;
         }
 
-        quiet : (lost : Bool) (came : Reply) → IsNoData came → Right cut described (heard_in number time address InToken lost came) (InData new.stage t.awaited t.kept t.request) pipes
+        quiet : (lost : Bool) (came : Reply) → IsNoData came → Right cut described (received_in number time address InToken lost came) (InData new.stage t.awaited t.kept t.request) pipes
         quiet lost came none = quiet_in cut described number time address small pipes sound Before (InData new.stage t.awaited t.kept t.request) lost came none opens
             (λ going h. content_told old going h.content) stays
 
-        unheard : (toggle : Toggle) (bytes : List ℕ) → IsSent table cut old new (DataReply toggle bytes)
-            → Right cut described (heard_in number time address InToken true (DataReply toggle bytes)) (AfterPacket toggle bytes new.stage t.awaited t.kept t.request) pipes
-        unheard toggle bytes sent = packet_in cut described number time address small pipes sound toggle bytes Before (AfterPacket toggle bytes new.stage t.awaited t.kept t.request) opens
+        unreceived : (toggle : Toggle) (bytes : List ℕ) → IsSent table cut old new (DataReply toggle bytes)
+            → Right cut described (received_in number time address InToken true (DataReply toggle bytes)) (AfterPacket toggle bytes new.stage t.awaited t.kept t.request) pipes
+        unreceived toggle bytes sent = packet_in cut described number time address small pipes sound toggle bytes Before (AfterPacket toggle bytes new.stage t.awaited t.kept t.request) opens
             (λ going h. h.way) (λ going h. h.in_time toggle sent.was) true (λ going h. (
-              λ e. next_packet_so t toggle bytes true old new.stage going h (λ other is. inr refl) (heard_next old new.stage toggle bytes true going h.content sent.which stays_so e) e,
-              λ e. again_packet_so t toggle bytes true old new.stage going h (λ other is. inr refl) (heard_again old new.stage toggle bytes true going h.content sent.which stays_so e) e,
+              λ e. next_packet_so t toggle bytes true old new.stage going h (λ other is. inr refl) (received_next old new.stage toggle bytes true going h.content sent.which stays_so e) e,
+              λ e. again_packet_so t toggle bytes true old new.stage going h (λ other is. inr refl) (received_once_more old new.stage toggle bytes true going h.content sent.which stays_so e) e,
             ))
 
-        heard : (toggle : Toggle) (bytes : List ℕ) → IsSent table cut old new (DataReply toggle bytes)
-            → Right cut described (heard_in number time address InToken false (DataReply toggle bytes)) (AfterPacket toggle bytes (acked table cut new).stage t.awaited t.kept t.request) pipes
-        heard toggle bytes sent = packet_in cut described number time address small pipes sound toggle bytes Before (AfterPacket toggle bytes (acked table cut new).stage t.awaited t.kept t.request) opens
+        received : (toggle : Toggle) (bytes : List ℕ) → IsSent table cut old new (DataReply toggle bytes)
+            → Right cut described (received_in number time address InToken false (DataReply toggle bytes)) (AfterPacket toggle bytes (acked table cut new).stage t.awaited t.kept t.request) pipes
+        received toggle bytes sent = packet_in cut described number time address small pipes sound toggle bytes Before (AfterPacket toggle bytes (acked table cut new).stage t.awaited t.kept t.request) opens
             (λ going h. h.way) (λ going h. h.in_time toggle sent.was) false (λ going h. (
               λ e. next_packet_so t toggle bytes false old (acked table cut new).stage going h
                   (λ other is. inl (acked_flips table cut new toggle other sent.waits sent.is is ∙ flips_next toggle going.toggle.next e))
                   (subst (λ s. Content s (with_next bytes false going)) (sym (acked_so table cut new sent.waits))
-                  (heard_next old new.stage toggle bytes false going h.content sent.which stays_so e)) e,
+                  (received_next old new.stage toggle bytes false going h.content sent.which stays_so e)) e,
               λ e. again_packet_so t toggle bytes false old (acked table cut new).stage going h
                   (λ other is. inl (acked_flips table cut new toggle other sent.waits sent.is is ∙ flips_again toggle going.toggle.next e))
                   (subst (λ s. Content s (with_again false going)) (sym (acked_so table cut new sent.waits))
-                  (heard_again old new.stage toggle bytes false going h.content sent.which stays_so e)) e,
+                  (received_once_more old new.stage toggle bytes false going h.content sent.which stays_so e)) e,
             ))
 
         of : (fate : Fate) (reply : Reply) → is_lost_down fate ≡ false → IsSent table cut old new reply
-            → Right cut described (heard_in number time address InToken (is_lost_ack fate) (brought fate reply))
+            → Right cut described (received_in number time address InToken (is_lost_ack fate) (brought fate reply))
             (AfterData (brought fate reply) (after_answer fate (record { reply = reply; device = new })).stage t) pipes
         of fates.LostDown reply kept sent = absurd (let w : ⊥ = cc in w)
         of fates.LostUp reply kept sent = quiet false NoReply tt
-        of fates.LostAck (DataReply toggle bytes) kept sent = unheard toggle bytes sent
+        of fates.LostAck (DataReply toggle bytes) kept sent = unreceived toggle bytes sent
         of fates.LostAck AckReply kept sent = quiet true AckReply tt
         of fates.LostAck NakReply kept sent = quiet true NakReply tt
         of fates.LostAck StallReply kept sent = quiet true StallReply tt
         of fates.LostAck NoReply kept sent = quiet true NoReply tt
-        of fates.Pass (DataReply toggle bytes) kept sent = heard toggle bytes sent
+        of fates.Pass (DataReply toggle bytes) kept sent = received toggle bytes sent
         of fates.Pass AckReply kept sent = quiet false AckReply tt
         of fates.Pass NakReply kept sent = quiet false NakReply tt
         of fates.Pass StallReply kept sent = quiet false StallReply tt
         of fates.Pass NoReply kept sent = quiet false NoReply tt
-        of fates.Busy (DataReply toggle bytes) kept sent = heard toggle bytes sent
+        of fates.Busy (DataReply toggle bytes) kept sent = received toggle bytes sent
         of fates.Busy AckReply kept sent = quiet false AckReply tt
         of fates.Busy NakReply kept sent = quiet false NakReply tt
         of fates.Busy StallReply kept sent = quiet false StallReply tt
@@ -628,24 +628,24 @@ module _ (table : State → Setup → Outcome) (cut : ℕ) (described : Setup �
     status_step : (fate : Fate) (old : DeviceStage) (reply : Reply) (new : DeviceView) → is_lost_down fate ≡ false → Follows old new.stage → (new.stage ≡ old) ⊎ IsElsewhere new.stage
         → IsSent table cut old new reply
         → OpenAt address (InStatusIn old) pipes
-        → Right cut described (heard_in number time address InToken (is_lost_ack fate) (brought fate reply)) (InStatusIn (after_answer fate (record { reply = reply; device = new })).stage) pipes
+        → Right cut described (received_in number time address InToken (is_lost_ack fate) (brought fate reply)) (InStatusIn (after_answer fate (record { reply = reply; device = new })).stage) pipes
     status_step fate old reply new kept follows stays_so sent opens = of fate reply kept sent
       where
         P : Going → Type 0
         P = InStatusIn old
 
-        quiet : (lost : Bool) (came : Reply) → IsNoData came → Right cut described (heard_in number time address InToken lost came) (InStatusIn new.stage) pipes
+        quiet : (lost : Bool) (came : Reply) → IsNoData came → Right cut described (received_in number time address InToken lost came) (InStatusIn new.stage) pipes
         quiet lost came none = quiet_in cut described number time address small pipes sound P (InStatusIn new.stage) lost came none opens (λ going h. h.told) (λ going h. record { way = h.way; first = λ toggle is. h.first toggle (follows toggle is); told = h.told })
 
         zero_one : Data0 ≡ Data1 → ⊥
         zero_one e = let w : ⊥ = cc in w
 
-        packet : (lost : Bool) (toggle : Toggle) (bytes : List ℕ) (Q : Going → Type 0) → IsSent table cut old new (DataReply toggle bytes) → Right cut described (heard_in number time address InToken lost (DataReply toggle bytes)) Q pipes
+        packet : (lost : Bool) (toggle : Toggle) (bytes : List ℕ) (Q : Going → Type 0) → IsSent table cut old new (DataReply toggle bytes) → Right cut described (received_in number time address InToken lost (DataReply toggle bytes)) Q pipes
         packet lost Data1 bytes Q sent = status_in cut described number time address small pipes sound P Q lost bytes opens (λ going h. h.way) (λ going h. h.told)
-        packet lost Data0 bytes Q sent = right_at cut described (heard_in number time address InToken lost (DataReply Data0 bytes)) P Q pipes sound refl opens (λ going unended h. absurd (zero_one (h.first Data0 sent.was)))
+        packet lost Data0 bytes Q sent = right_at cut described (received_in number time address InToken lost (DataReply Data0 bytes)) P Q pipes sound refl opens (λ going unended h. absurd (zero_one (h.first Data0 sent.was)))
 
         of : (fate : Fate) (reply : Reply) → is_lost_down fate ≡ false → IsSent table cut old new reply
-            → Right cut described (heard_in number time address InToken (is_lost_ack fate) (brought fate reply)) (InStatusIn (after_answer fate (record { reply = reply; device = new })).stage) pipes
+            → Right cut described (received_in number time address InToken (is_lost_ack fate) (brought fate reply)) (InStatusIn (after_answer fate (record { reply = reply; device = new })).stage) pipes
         of fates.LostDown reply kept sent = absurd (let w : ⊥ = cc in w)
         of fates.LostUp reply kept sent = quiet false NoReply tt
         of fates.LostAck (DataReply toggle bytes) kept sent = packet true toggle bytes (InStatusIn new.stage) sent
@@ -784,8 +784,8 @@ module _ (table : State → Setup → Outcome) (cut : ℕ) (described : Setup �
   stays_same asked old new (inl is) same = subst (AsksSame stages.DataIn asked) (sym is) same
   stays_same asked old new (inr elsewhere) same = elsewhere_same asked new elsewhere
 
-  answer_same : (asked : Setup) (heard : Bool) (d : DeviceView) → AsksSame stages.DataIn asked d.stage
-      → AsksSame stages.DataIn asked (if heard then acked table cut d else d).stage
+  answer_same : (asked : Setup) (received : Bool) (d : DeviceView) → AsksSame stages.DataIn asked d.stage
+      → AsksSame stages.DataIn asked (if received then acked table cut d else d).stage
   answer_same asked false d same = same
   answer_same asked true d same = of d.pending refl
     where
@@ -823,7 +823,7 @@ module _ (table : State → Setup → Outcome) (cut : ℕ) (described : Setup �
   comes_tell fates.LostAck old (DataReply toggle bytes) new same sent = packet_tells old new.stage toggle bytes same sent.which
   comes_tell fate old reply new same sent = tt
 
-  -- what was heard of a transaction of this host's transfer with a device that is so: nothing wrong is found in it, and the three agree
+  -- what was received of a transaction of this host's transfer with a device that is so: nothing wrong is found in it, and the three agree
   -- after it
   module _ (d : DeviceView) (fate : Fate) (kept : is_lost_down fate ≡ false) (number : ℕ) (time : Option ℕ) (pipes : Pipes) (sound : Sound pipes) (t : TransferView) (small : t.address < 256)
       (low : t.stage ≡ stages.Setup → t.request.length < 65536) where
@@ -833,23 +833,23 @@ module _ (table : State → Setup → Outcome) (cut : ℕ) (described : Setup �
     abbrev answer_to : Token → Served
     answer_to token = served table cut d (sent_to token) (is_ready fate)
 
-    abbrev heard_of : Token → Transaction
-    heard_of token = heard_in number time t.address token (is_lost_ack fate) (brought fate (answer_to token).reply)
+    abbrev received_of : Token → Transaction
+    received_of token = received_in number time t.address token (is_lost_ack fate) (brought fate (answer_to token).reply)
 
     abbrev later : Token → DeviceStage
     later token = (after_answer fate (answer_to token)).stage
 
     pub record Steps (stage : TransferStage) (token : Token) : Type 0 where
-      pub right : has_wrong_toggle (heard_of token) pipes ≡ false
-      pub over : IfOver cut described (transfer_over (heard_of token) pipes)
-      pub not_early : NotEarly cut t.address (λ known. is_early known (heard_of token) pipes)
-      pub sound_then : Sound (pipes_after (heard_of token) pipes)
-      pub agrees : Agree (later token) (pipes_after (heard_of token) pipes) (taken_at t stage (brought fate (answer_to token).reply)).transfer
+      pub right : has_wrong_toggle (received_of token) pipes ≡ false
+      pub over : IfOver cut described (transfer_over (received_of token) pipes)
+      pub not_early : NotEarly cut t.address (λ known. is_early known (received_of token) pipes)
+      pub sound_then : Sound (pipes_after (received_of token) pipes)
+      pub agrees : Agree (later token) (pipes_after (received_of token) pipes) (taken_at t stage (brought fate (answer_to token).reply)).transfer
       pub may_come : stage ≡ stages.DataIn → t.request ≡ get_descriptor 1 0 0 8 → MayCome cut (brought fate (answer_to token).reply)
 
     -- at a stage where nothing is known of an ACK
     step_at : (stage : TransferStage) (token : Token) → t.stage ≡ stage → (stage ≡ stages.Setup → ⊥) → SizeIsKnown cut t.address t.packet → MayBe stage t
-        → AsksSame stage t.request (later token) → Right cut described (heard_of token) (AfterReply stage (brought fate (answer_to token).reply) (later token) t) pipes
+        → AsksSame stage t.request (later token) → Right cut described (received_of token) (AfterReply stage (brought fate (answer_to token).reply) (later token) t) pipes
         → (stage ≡ stages.DataIn → t.request ≡ get_descriptor 1 0 0 8 → MayCome cut (brought fate (answer_to token).reply)) → Steps stage token
     step_at stage token at other size_is may same right comes =
         record {
@@ -857,7 +857,7 @@ module _ (table : State → Setup → Outcome) (cut : ℕ) (described : Setup �
           over = right.1;
           not_early = right.2;
           sound_then = right.3.0;
-          agrees = taken_agrees (later token) (pipes_after (heard_of token) pipes) t size_is stage (brought fate (answer_to token).reply) at may same right.3.1 (λ is. absurd (other is));
+          agrees = taken_agrees (later token) (pipes_after (received_of token) pipes) t size_is stage (brought fate (answer_to token).reply) at may same right.3.1 (λ is. absurd (other is));
           may_come = comes;
         }
 
@@ -865,15 +865,15 @@ module _ (table : State → Setup → Outcome) (cut : ℕ) (described : Setup �
     setup_step at size_is may =
         let token = SetupToken (setup_bytes t.request) in
         let came = brought fate (answer_to token).reply in
-        let right : Right cut described (heard_of token) (λ going. Unit {0}) pipes = setup_right cut described number time t.address small pipes sound t.request (is_lost_ack fate) came (λ going. Unit {0}) tt in
+        let right : Right cut described (received_of token) (λ going. Unit {0}) pipes = setup_right cut described number time t.address small pipes sound t.request (is_lost_ack fate) came (λ going. Unit {0}) tt in
         record {
           right = right.0;
           over = right.1;
           not_early = right.2;
           sound_then = right.3.0;
-          agrees = taken_agrees (later token) (pipes_after (heard_of token) pipes) t size_is stages.Setup came at may tt right.3.1
+          agrees = taken_agrees (later token) (pipes_after (received_of token) pipes) t size_is stages.Setup came at may tt right.3.1
               (λ is acks.
-              let after = after_setup t d.state (later token) (heard_of token) may (low at) (setup_stage d t.request t.address fate kept acks) in
+              let after = after_setup t d.state (later token) (received_of token) may (low at) (setup_stage d t.request t.address fate kept acks) in
               record {
                 may_be = after.may_be;
                 size_is = size_is;

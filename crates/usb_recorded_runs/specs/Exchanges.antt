@@ -1,4 +1,4 @@
--- The transactions of a run of a host and a device, as the bus has made them, and what a recorder hears of them: each packet that
+-- The transactions of a run of a host and a device, as the bus has made them, and what a recorder receives of them: each packet that
 -- arrives at the end to which it was sent (USB 2.0, 8.4 and 8.5).
 use Rattle.std.specs.Prelude.{ℕ, ◌+◌, ◌-◌, Bool, true, false, if◌then◌else◌, List, [], ◌∷◌, ◌++◌, length, Option, Some, None}
 use Rattle.usb_wire.specs.declared.pid.DataKind.TheVariants as datas
@@ -66,18 +66,18 @@ data_of (DataReply toggle bytes) = Some (record { kind = data_kind toggle; bytes
 data_of reply = None
 
 -- the data of a transaction in which this answer has come
-abbrev pub data_heard : Token → Reply → Option DataPacket
-data_heard (SetupToken bytes) came = Some (record { kind = datas.Data0; bytes = bytes })
-data_heard InToken came = data_of came
-data_heard (OutToken toggle bytes) came = Some (record { kind = data_kind toggle; bytes = bytes })
+abbrev pub data_received : Token → Reply → Option DataPacket
+data_received (SetupToken bytes) came = Some (record { kind = datas.Data0; bytes = bytes })
+data_received InToken came = data_of came
+data_received (OutToken toggle bytes) came = Some (record { kind = data_kind toggle; bytes = bytes })
 
 -- its handshake: that of the device, or the host's ACK of data, which may be lost
-abbrev pub handshake_heard : Bool → Reply → Option Handshake
-handshake_heard lost AckReply = Some handshakes.Ack
-handshake_heard lost NakReply = Some handshakes.Nak
-handshake_heard lost StallReply = Some handshakes.Stall
-handshake_heard lost (DataReply toggle bytes) = if lost then None else Some handshakes.Ack
-handshake_heard lost NoReply = None
+abbrev pub handshake_received : Bool → Reply → Option Handshake
+handshake_received lost AckReply = Some handshakes.Ack
+handshake_received lost NakReply = Some handshakes.Nak
+handshake_received lost StallReply = Some handshakes.Stall
+handshake_received lost (DataReply toggle bytes) = if lost then None else Some handshakes.Ack
+handshake_received lost NoReply = None
 
 -- a transaction whose token's frame has this number and this time
 abbrev pub transaction_of : ℕ → Option ℕ → Exchange → Transaction
@@ -86,17 +86,17 @@ transaction_of number time x = record {
   time = time;
   token = token_kind x.sent.token;
   to = record { address = x.sent.address; endpoint = 0 };
-  «data» = data_heard x.sent.token (brought x.fate x.answered);
-  handshake = handshake_heard (is_lost_ack x.fate) (brought x.fate x.answered);
+  «data» = data_received x.sent.token (brought x.fate x.answered);
+  handshake = handshake_received (is_lost_ack x.fate) (brought x.fate x.answered);
 }
 
--- Of one whose token is lost nothing is heard.
+-- Of one whose token is lost nothing is received.
 abbrev pub unless_lost : Bool → Transaction → List Transaction
 unless_lost true transaction = []
 unless_lost false transaction = transaction ∷ []
 
 -- the transactions, where the first frame has this number and each one the time of its number
-abbrev pub heard : (ℕ → Option ℕ) → ℕ → List Exchange → List Transaction
-heard times number [] = []
-heard times number (x ∷ xs) =
-    unless_lost (is_lost_down x.fate) (transaction_of number (times number) x) ++ heard times (number + length (packets_of x)) xs
+abbrev pub received : (ℕ → Option ℕ) → ℕ → List Exchange → List Transaction
+received times number [] = []
+received times number (x ∷ xs) =
+    unless_lost (is_lost_down x.fate) (transaction_of number (times number) x) ++ received times (number + length (packets_of x)) xs

@@ -24,7 +24,7 @@ use Rattle.usb_capture.specs.PacketSizes.{is_long, size_at}
 use Rattle.usb_capture.specs.Reading.{IsRead}
 use Rattle.usb_capture.specs.Recordings.{transactions_in}
 use Rattle.usb_recorded_runs.specs.Captures.{AreOfFrames, Moment, capture_of, frames, times}
-use Rattle.usb_recorded_runs.specs.Exchanges.{exchanges, heard, packets_in, transaction_of}
+use Rattle.usb_recorded_runs.specs.Exchanges.{exchanges, received, packets_in, transaction_of}
 use Rattle.usb_recorded_runs.specs.Findings.{IsFreeAfter, IsTransferFreeAfter, LosesHandshake}
 
 -- A run from a new pair on, of n transactions under these fates, as that of an enumeration: these are the pairs on the way, the newest
@@ -44,7 +44,7 @@ RecordedRunsAreRead =
     (f : DescriptorFile) (fates : List Fate) (new : Pair) (earlier : List Pair) (n : ℕ) (last : Pair) (clock : ℕ → Moment)
     (recorded : List RecordedPacket) → IsRun f fates new earlier n last →
     (let xs = exchanges f fates earlier n in
-    AreOfFrames 1 (frames clock 1 (packets_in xs)) recorded → transactions_in recorded ≡ heard (times clock) 1 xs)
+    AreOfFrames 1 (frames clock 1 (packets_in xs)) recorded → transactions_in recorded ≡ received (times clock) 1 xs)
 
 -- So are they where the packets stand in a capture file: whoever has read its bytes, in any pieces, has these frames, and with them
 -- that very list of transactions.
@@ -54,7 +54,7 @@ CapturedRunsAreRead =
     (read : List Frame) (reader : CaptureReader) (recorded : List RecordedPacket) → IsRun f fates new earlier n last →
     (let xs = exchanges f fates earlier n in
     IsRead (capture_of clock (packets_in xs)) read reader → AreOfFrames 1 read recorded →
-    (read ≡ frames clock 1 (packets_in xs)) × (transactions_in recorded ≡ heard (times clock) 1 xs))
+    (read ≡ frames clock 1 (packets_in xs)) × (transactions_in recorded ≡ received (times clock) 1 xs))
 
 -- No packet that arrives is damaged (8.3.1, 8.3.5, 8.4).
 abbrev pub NoPacketIsDamaged : Type 0
@@ -68,7 +68,7 @@ abbrev pub SetupsAreTaken : Type 0
 SetupsAreTaken =
     (f : DescriptorFile) (fates : List Fate) (new : Pair) (earlier : List Pair) (n : ℕ) (last : Pair) (times : ℕ → Option ℕ) →
     IsRun f fates new earlier n last →
-    (let transactions = heard times 1 (exchanges f fates earlier n) in
+    (let transactions = received times 1 (exchanges f fates earlier n) in
     IsFreeAfter NoRequest [] transactions × IsFreeAfter SetupRefused [] transactions)
 
 -- No data toggle is wrong (8.5.3, 8.6), of a host that enumerates a new device: a packet that comes again, since its ACK was lost, has
@@ -77,7 +77,7 @@ abbrev pub NoToggleIsWrong : Type 0
 NoToggleIsWrong =
     (f : DescriptorFile) (fates : List Fate) (limits : LimitView) (speed : Speed) (choice : Choice) (earlier : List Pair) (n : ℕ) (last : Pair)
     (times : ℕ → Option ℕ) → IsRun f fates (chosen_pair limits speed choice) earlier n last →
-    IsFreeAfter Toggle [] (heard times 1 (exchanges f fates earlier n))
+    IsFreeAfter Toggle [] (received times 1 (exchanges f fates earlier n))
 
 -- No packet of data is longer than bMaxPacketSize0 of the device (5.5.3, 9.6.1): none is found to be, where that or nothing is known of
 -- the packet size at its address.
@@ -87,28 +87,28 @@ NoPacketIsLong =
     IsRun f fates new earlier n last →
     AllByRecursion
     (λ t. (sizes : List ℕ) → (size_at t.to.address sizes ≡ 0) ⊎ (size_at t.to.address sizes ≡ f.device.packet) → is_long sizes t ≡ false)
-    (heard times 1 (exchanges f fates earlier n))
+    (received times 1 (exchanges f fates earlier n))
 
 -- None is found to be too long in an enumeration of a new device, whatever was read of its packet size: the device says no other one.
 abbrev pub NoLongPacketIsFound : Type 0
 NoLongPacketIsFound =
     (f : DescriptorFile) (fates : List Fate) (limits : LimitView) (speed : Speed) (choice : Choice) (earlier : List Pair) (n : ℕ) (last : Pair)
     (times : ℕ → Option ℕ) → IsRun f fates (chosen_pair limits speed choice) earlier n last →
-    IsFreeAfter Long [] (heard times 1 (exchanges f fates earlier n))
+    IsFreeAfter Long [] (received times 1 (exchanges f fates earlier n))
 
 -- No status stage comes before its data stage is complete (5.5.3, 8.5.3.2): all bytes came, or a packet that is shorter than a whole one.
 abbrev pub NoShortPacketLacks : Type 0
 NoShortPacketLacks =
     (f : DescriptorFile) (fates : List Fate) (limits : LimitView) (speed : Speed) (choice : Choice) (earlier : List Pair) (n : ℕ) (last : Pair)
     (times : ℕ → Option ℕ) → IsRun f fates (chosen_pair limits speed choice) earlier n last →
-    IsFreeAfter NoShortPacket [] (heard times 1 (exchanges f fates earlier n))
+    IsFreeAfter NoShortPacket [] (received times 1 (exchanges f fates earlier n))
 
 -- Of the control transfers of an enumeration none has more bytes than wLength (9.3.5), and none is a GET_STATUS that a device refuses (9.4.5).
 abbrev pub NoTransferHasMore : Type 0
 NoTransferHasMore =
     (f : DescriptorFile) (fates : List Fate) (limits : LimitView) (speed : Speed) (choice : Choice) (earlier : List Pair) (n : ℕ) (last : Pair)
     (times : ℕ → Option ℕ) → IsRun f fates (chosen_pair limits speed choice) earlier n last →
-    (let transfers = transfers_in (heard times 1 (exchanges f fates earlier n)) in
+    (let transfers = transfers_in (received times 1 (exchanges f fates earlier n)) in
     IsTransferFreeAfter MoreThanAsked [] transfers × IsTransferFreeAfter RefusesStatus [] transfers)
 
 -- What a device says of a descriptor is what it said of it before (9.4.3), as far as both have bytes.
@@ -116,14 +116,14 @@ abbrev pub NoDescriptorChanges : Type 0
 NoDescriptorChanges =
     (f : DescriptorFile) (fates : List Fate) (limits : LimitView) (speed : Speed) (choice : Choice) (earlier : List Pair) (n : ℕ) (last : Pair)
     (times : ℕ → Option ℕ) → IsRun f fates (chosen_pair limits speed choice) earlier n last →
-    IsTransferFreeAfter OtherBytes [] (transfers_in (heard times 1 (exchanges f fates earlier n)))
+    IsTransferFreeAfter OtherBytes [] (transfers_in (received times 1 (exchanges f fates earlier n)))
 
 -- A descriptor that comes has the type that was asked for (9.4.3), of a device with accepted descriptors.
 abbrev pub DescriptorsHaveTypes : Type 0
 DescriptorsHaveTypes =
     (f : DescriptorFile) (fates : List Fate) (limits : LimitView) (speed : Speed) (choice : Choice) (earlier : List Pair) (n : ℕ) (last : Pair)
     (times : ℕ → Option ℕ) → Accepted f speed → IsRun f fates (chosen_pair limits speed choice) earlier n last →
-    IsTransferFreeAfter OtherType [] (transfers_in (heard times 1 (exchanges f fates earlier n)))
+    IsTransferFreeAfter OtherType [] (transfers_in (received times 1 (exchanges f fates earlier n)))
 
 -- A handshake lacks in a transaction whose token arrives only where it was lost, or where the device has another address (8.5).
 abbrev pub HandshakesAreLost : Type 0

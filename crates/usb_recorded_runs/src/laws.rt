@@ -77,7 +77,7 @@ pub fn each_descriptor_has_its_type()
 }
 
 /// `NoHandshake` is found only where an answer or an ACK was lost, or where the device has another address, as one that has not
-/// heard the ACK of its SET_ADDRESS.
+/// received the ACK of its SET_ADDRESS.
 pub fn a_handshake_lacks_by_a_loss()
     ensures { HandshakesAreLost }
 {}

@@ -12,7 +12,7 @@ use Rattle.usb_walk.specs.Surroundings.{rest_of_set}
 use Rattle.usb_walk.specs.Positions.{position_at}
 use Rattle.usb_walk.specs.Roles.{inner_role, is_interface, next_role, outer_role, role_of, typed_role}
 use Rattle.usb_remarks.specs.InterfaceNumbers.{has_setting, is_numbered}
-use Rattle.usb_remarks.specs.Standings.{start}
+use Rattle.usb_remarks.specs.OutlineStates.{start}
 use Rattle.usb_walk.specs.Trees.{descriptor_length, descriptors}
 use Rattle.usb_remarks.specs.inside.Coming.{Awaits, Counts, interfaces_of}
 use Rattle.usb_walk.proofs.Cuts.{descriptors_step, length_within}

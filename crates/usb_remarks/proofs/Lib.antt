@@ -6,11 +6,11 @@ pub mod EndpointsShown
 pub mod EndpointWalks
 pub mod NumberSteps
 pub mod Open
+pub mod OutlineStates
 pub mod Outlines
 pub mod RemarksPlaced
 pub mod SettingSteps
 pub mod Spans
-pub mod Standings
 pub mod Tables
 pub mod Telling
 pub mod WalkedOutlines

@@ -3,15 +3,15 @@ use Rattle.std.proofs.Common.{◌≡◌, ◌<◌, inl, inr, ℕ, ◌+◌, List, 
 use Rattle.usb_file_data.specs.declared.cause.Found.{Found}
 use Rattle.usb_walk.specs.declared.role.Role.{Role}
 use Rattle.usb_remarks.specs.declared.speed.SetSpeed.{SetSpeed}
-use Rattle.usb_remarks.specs.declared.standing.Standing.{Standing}
+use Rattle.usb_remarks.specs.declared.outline_state.OutlineState.{OutlineState}
 use Rattle.usb_walk.specs.Surroundings.{depth_of}
 use Rattle.usb_remarks.specs.OutlineLaws.{Span, as_in_tree, span_of}
 use Rattle.usb_remarks.specs.Outline.{Ahead, Entry, after_next, bytes_of, describe, entry_next, findings_of, here, left_next, next_ahead, outline_from, pass_ahead}
 use Rattle.usb_walk.specs.Owners.{owner_of}
 use Rattle.usb_walk.specs.Roles.{next_role}
 use Rattle.usb_walk.specs.Trees.{TreeDescriptor, tree_descriptor}
-use Rattle.usb_remarks.specs.Standings.{AreCounted}
-use Rattle.usb_remarks.proofs.Standings.{counted_entered}
+use Rattle.usb_remarks.specs.OutlineStates.{AreCounted}
+use Rattle.usb_remarks.proofs.OutlineStates.{counted_entered}
 use Rattle.usb_walk.proofs.NextRoles.{next_bounds}
 use Rattle.usb_walk.proofs.Positions.{counted_noted}
 use Rattle.usb_fields.proofs.Unfolded.{unfolded_enough, unfolded_none}
@@ -25,27 +25,27 @@ fewer_ahead running here next e =
     let b = next_bounds here.0.position here.2 next e in
     omega (arith, b.0, b.1, length-drop next.1 here.2)
 
-pub outline_next : (running : Option SetSpeed) (s : Standing) (found : List Found) (ahead : List ℕ) (next : Role × ℕ) → next_role s.position ahead ≡ Some next
+pub outline_next : (running : Option SetSpeed) (s : OutlineState) (found : List Found) (ahead : List ℕ) (next : Role × ℕ) → next_role s.position ahead ≡ Some next
     → outline_from running s found ahead
     ≡ describe running (entry_next running s found ahead next) ∷ outline_from running (after_next running s ahead next) (left_next running s found ahead next) (drop next.1 ahead)
 outline_next running s found ahead next e =
     ap (λ l. map (describe running) l)
     (unfolded_enough next_ahead (pass_ahead running) (λ here. length here.2) (fewer_ahead running) (length ahead) (s, found, ahead) next e (omega arith))
 
-pub outline_none : (running : Option SetSpeed) (s : Standing) (found : List Found) (ahead : List ℕ) → next_role s.position ahead ≡ None → outline_from running s found ahead ≡ []
+pub outline_none : (running : Option SetSpeed) (s : OutlineState) (found : List Found) (ahead : List ℕ) → next_role s.position ahead ≡ None → outline_from running s found ahead ≡ []
 outline_none running s found ahead e = ap (λ l. map (describe running) l) (unfolded_none next_ahead (pass_ahead running) (length ahead) (s, found, ahead) (inr e))
 
-pub outline_nil : (running : Option SetSpeed) (s : Standing) (found : List Found) → outline_from running s found [] ≡ []
+pub outline_nil : (running : Option SetSpeed) (s : OutlineState) (found : List Found) → outline_from running s found [] ≡ []
 outline_nil running s found = ap (λ l. map (describe running) l) (unfolded_none next_ahead (pass_ahead running) 0 (s, found, []) (inl refl))
 
 -- from the same state the same is left
-pub left_same : (running : Option SetSpeed) (s t : Standing) (fs gs : List Found) (a b : List ℕ) → s ≡ t → fs ≡ gs → a ≡ b
+pub left_same : (running : Option SetSpeed) (s t : OutlineState) (fs gs : List Found) (a b : List ℕ) → s ≡ t → fs ≡ gs → a ≡ b
     → outline_from running s fs a ≡ outline_from running t gs b
 left_same running s t fs gs a b e f g = cc
 
 -- ---- what is kept from one descriptor to the next
 
-pub stays_counted : (running : Option SetSpeed) (s : Standing) (ahead : List ℕ) (next : Role × ℕ) → next_role s.position ahead ≡ Some next → AreCounted s
+pub stays_counted : (running : Option SetSpeed) (s : OutlineState) (ahead : List ℕ) (next : Role × ℕ) → next_role s.position ahead ≡ Some next → AreCounted s
     → AreCounted (after_next running s ahead next)
 stays_counted running s ahead next e counted =
     let step = step_of s.position ahead next e in
@@ -57,7 +57,7 @@ stays_counted running s ahead next e counted =
       descriptors = omega (arith, at, place, step.least, entered.descriptors);
     }
 
-pub stays_room : (running : Option SetSpeed) (s : Standing) (ahead : List ℕ) (next : Role × ℕ) → next_role s.position ahead ≡ Some next → s.position.at + length ahead < 9223372036854775808
+pub stays_room : (running : Option SetSpeed) (s : OutlineState) (ahead : List ℕ) (next : Role × ℕ) → next_role s.position ahead ≡ Some next → s.position.at + length ahead < 9223372036854775808
     → (after_next running s ahead next).position.at + length (drop next.1 ahead) < 9223372036854775808
 stays_room running s ahead next e room =
     let step = step_of s.position ahead next e in
@@ -78,7 +78,7 @@ found_same running (e ∷ es) = ap (λ l. findings_of e ++ l) (found_same runnin
 
 -- a place and a length
 abbrev pub entry_span : Entry → Span
-entry_span e = record { start = e.standing.position.at; count = length e.bytes }
+entry_span e = record { start = e.state.position.at; count = length e.bytes }
 
 pub spans_same : (running : Option SetSpeed) (es : List Entry) → map span_of (map (describe running) es) ≡ map entry_span es
 unfolding describe
@@ -87,7 +87,7 @@ spans_same running (e ∷ es) = ap (λ l. entry_span e ∷ l) (spans_same runnin
 
 -- a descriptor as in a tree
 abbrev pub entry_in_tree : Entry → TreeDescriptor
-entry_in_tree e = tree_descriptor e.role (depth_of e.standing.position e.role) (owner_of e.standing.position e.role e.bytes) e.bytes
+entry_in_tree e = tree_descriptor e.role (depth_of e.state.position e.role) (owner_of e.state.position e.role e.bytes) e.bytes
 
 pub tree_same : (running : Option SetSpeed) (es : List Entry) → map as_in_tree (map (describe running) es) ≡ map entry_in_tree es
 unfolding describe

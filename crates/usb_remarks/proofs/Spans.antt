@@ -5,22 +5,22 @@ use Rattle.std.proofs.lemmas.List.{take-append-drop}
 use Rattle.std.proofs.Math.Seq.{drop-append_seam}
 use Rattle.usb_walk.specs.Trees.{TreeDescriptor}
 use Rattle.usb_walk.specs.declared.role.Role.{Role}
-use Rattle.usb_remarks.specs.declared.standing.Standing.{Standing}
+use Rattle.usb_remarks.specs.declared.outline_state.OutlineState.{OutlineState}
 use Rattle.usb_remarks.specs.Outline.{Entry, after_next, bytes_of, end_of, entries, entry_next, findings_of, first_entries, here, left_next, next_ahead, outline, pass_ahead}
 use Rattle.usb_remarks.specs.Findings.{found_at}
 use Rattle.usb_remarks.specs.OutlineLaws.{AllEachByteOnce, AreNumbered, Cut, Follow, HasItsOwnFindings, span_of}
 use Rattle.usb_walk.specs.Roles.{next_role}
-use Rattle.usb_remarks.specs.Standings.{start}
+use Rattle.usb_remarks.specs.OutlineStates.{start}
 use Rattle.usb_remarks.specs.declared.speed.SetSpeed.{SetSpeed}
 use Rattle.usb_file_data.specs.declared.cause.Found.{Found}
 use Rattle.usb_remarks.proofs.Outlines.{bytes_same, entry_in_tree, entry_span, spans_same}
 use Rattle.usb_fields.proofs.Unfolded.{by_each_step}
 use Rattle.usb_walk.proofs.WalkSteps.{step_of}
-use Rattle.usb_remarks.proofs.Standings.{looked_number, start_at}
+use Rattle.usb_remarks.proofs.OutlineStates.{looked_number, start_at}
 use Rattle.usb_remarks.proofs.Telling.{are_numbered, found_front}
 
 -- What a walk shows from here on.
-pub record Walk (s : Standing) (found : List Found) (ahead : List ℕ) (shown : List Entry) : Type 0 where
+pub record Walk (s : OutlineState) (found : List Found) (ahead : List ℕ) (shown : List Entry) : Type 0 where
   pub rest : List ℕ
   pub end : ℕ
   pub cut : Cut ahead shown rest
@@ -29,10 +29,10 @@ pub record Walk (s : Standing) (found : List Found) (ahead : List ℕ) (shown : 
   pub tells : flat_map findings_of shown ++ left ≡ found
   pub numbered : AreNumbered s.descriptors shown
 
-walk_none : (s : Standing) (found : List Found) (ahead : List ℕ) → Walk s found ahead []
+walk_none : (s : OutlineState) (found : List Found) (ahead : List ℕ) → Walk s found ahead []
 walk_none s found ahead = record { rest = ahead; end = s.position.at; cut = refl; spans = refl; left = found; tells = refl; numbered = tt }
 
-walk_more : (running : Option SetSpeed) (s : Standing) (found : List Found) (ahead : List ℕ) (next : Role × ℕ) (shown : List Entry) → next_role s.position ahead ≡ Some next
+walk_more : (running : Option SetSpeed) (s : OutlineState) (found : List Found) (ahead : List ℕ) (next : Role × ℕ) (shown : List Entry) → next_role s.position ahead ≡ Some next
     → Walk (after_next running s ahead next) (left_next running s found ahead next) (drop next.1 ahead) shown → Walk s found ahead (entry_next running s found ahead next ∷ shown)
 walk_more running s found ahead next shown e w =
     let step = step_of s.position ahead next e in
@@ -54,7 +54,7 @@ walk_more running s found ahead next shown e w =
     }
 
 -- each walk shows descriptors one after another
-pub walk_shows : (n : ℕ) (running : Option SetSpeed) (s : Standing) (found : List Found) (ahead : List ℕ) → Walk s found ahead (first_entries n running s found ahead)
+pub walk_shows : (n : ℕ) (running : Option SetSpeed) (s : OutlineState) (found : List Found) (ahead : List ℕ) → Walk s found ahead (first_entries n running s found ahead)
 walk_shows n running s found ahead =
     by_each_step next_ahead (pass_ahead running) (λ n here shown. Walk here.0 here.1 here.2 shown)
     (λ n here none. walk_none here.0 here.1 here.2) (λ n here next shown is w. walk_more running here.0 here.1 here.2 next shown is w) n (s, found, ahead)
@@ -68,17 +68,17 @@ abbrev pub adding : Aim → List TreeDescriptor → Aim
 adding E before = λ rest c. E rest (before ++ c)
 
 -- a walk of which this holds, whose descriptors have their own findings, and which comes to the end of these
-pub record Ended (E : Aim) (s : Standing) (found : List Found) (ahead : List ℕ) (shown : List Entry) : Type 0 where
+pub record Ended (E : Aim) (s : OutlineState) (found : List Found) (ahead : List ℕ) (shown : List Entry) : Type 0 where
   pub walk : Walk s found ahead shown
   pub aimed : E walk.rest (map entry_in_tree shown)
   pub own : AllByRecursion HasItsOwnFindings shown
   pub all_reported : walk.left ≡ []
 
-pub ended_none : (E : Aim) (s : Standing) (found : List Found) → found ≡ [] → E [] [] → Ended E s found [] []
+pub ended_none : (E : Aim) (s : OutlineState) (found : List Found) → found ≡ [] → E [] [] → Ended E s found [] []
 unfolding walk_none
 ended_none E s found none aimed = record { walk = walk_none s found []; aimed = aimed; own = tt; all_reported = none }
 
-pub ended_more : (E : Aim) (running : Option SetSpeed) (s : Standing) (found : List Found) (ahead : List ℕ) (next : Role × ℕ) (shown : List Entry)
+pub ended_more : (E : Aim) (running : Option SetSpeed) (s : OutlineState) (found : List Found) (ahead : List ℕ) (next : Role × ℕ) (shown : List Entry)
     → next_role s.position ahead ≡ Some next → HasItsOwnFindings (entry_next running s found ahead next)
     → Ended (adding E (entry_in_tree (entry_next running s found ahead next) ∷ [])) (after_next running s ahead next) (left_next running s found ahead next) (drop next.1 ahead) shown
     → Ended E s found ahead (entry_next running s found ahead next ∷ shown)

@@ -11,7 +11,7 @@ use Rattle.usb_remarks.specs.declared.speed_evidence.Evidence.{Evidence}
 use Rattle.usb_remarks.specs.Bindings.{binding, bindings, binds, bound_at}
 use Rattle.usb_remarks.specs.InterfaceNumbers.{has_number, has_setting, interface_numbers, is_numbered}
 use Rattle.usb_remarks.specs.SetSpeeds.{Survey, evidence_of, excludes_low, hints_low_or_full, is_companion, proves_full, proves_high, survey_of}
-use Rattle.usb_remarks.specs.inside.Walking.{AllBound, Gathers, Hears, bound_cell, bound_first, bound_with, heard}
+use Rattle.usb_remarks.specs.inside.Walking.{AllBound, Gathers, Collects, bound_cell, bound_first, bound_with, collected}
 
 -- the first of two, of which there is one alone
 or_none : (x : Option ℕ) → option_or x None ≡ x
@@ -83,32 +83,32 @@ now_bound old new bound association first count end most below all before end_mo
     let n_most : n < 256 = omega (arith, within, end_most) in
     rw (is n n_most) (either_stays (slice_index old n) association (binds first count n) below (bound_or_binds old bound first count n all before (omega (arith, within, end_within))))
 
--- no descriptor was heard
-pub hears_none : (all : List (List ℕ)) → Hears all record { companion = false; high = false; full = false; above_low = false; slow = false } all
-hears_none all = record { companion = refl; high = refl; full = refl; above_low = refl; slow = refl }
+-- no descriptor was looked at
+pub collects_none : (all : List (List ℕ)) → Collects all record { companion = false; high = false; full = false; above_low = false; slow = false } all
+collects_none all = record { companion = refl; high = refl; full = refl; above_low = refl; slow = refl }
 
--- one was heard more
-heard_more : (p : List ℕ → Bool) (before : Bool) (d : List ℕ) (ds : List (List ℕ)) → before || list_any p (d ∷ ds) ≡ (before || p d) || list_any p ds
-heard_more p true d ds = refl
-heard_more p false d ds = refl
+-- one more was looked at
+collected_more : (p : List ℕ → Bool) (before : Bool) (d : List ℕ) (ds : List (List ℕ)) → before || list_any p (d ∷ ds) ≡ (before || p d) || list_any p ds
+collected_more p true d ds = refl
+collected_more p false d ds = refl
 
-pub hears_on : (all : List (List ℕ)) (e : Evidence) (d : List ℕ) (ds : List (List ℕ)) → Hears all e (d ∷ ds) → Hears all (heard d e) ds
-hears_on all e d ds h = record {
-  companion = h.companion ∙ heard_more is_companion e.companion d ds;
-  high = h.high ∙ heard_more proves_high e.high d ds;
-  full = h.full ∙ heard_more proves_full e.full d ds;
-  above_low = h.above_low ∙ heard_more excludes_low e.above_low d ds;
-  slow = h.slow ∙ heard_more hints_low_or_full e.slow d ds;
+pub receives_on : (all : List (List ℕ)) (e : Evidence) (d : List ℕ) (ds : List (List ℕ)) → Collects all e (d ∷ ds) → Collects all (collected d e) ds
+receives_on all e d ds h = record {
+  companion = h.companion ∙ collected_more is_companion e.companion d ds;
+  high = h.high ∙ collected_more proves_high e.high d ds;
+  full = h.full ∙ collected_more proves_full e.full d ds;
+  above_low = h.above_low ∙ collected_more excludes_low e.above_low d ds;
+  slow = h.slow ∙ collected_more hints_low_or_full e.slow d ds;
 }
 
--- what was heard of all descriptors is what they say
-pub heard_all : (all : List (List ℕ)) (e : Evidence) → Hears all e [] → e ≡ evidence_of all
-heard_all all e hears =
-    let companion : list_any is_companion all ≡ e.companion = hears.companion ∙ or-false e.companion in
-    let high : list_any proves_high all ≡ e.high = hears.high ∙ or-false e.high in
-    let full : list_any proves_full all ≡ e.full = hears.full ∙ or-false e.full in
-    let above_low : list_any excludes_low all ≡ e.above_low = hears.above_low ∙ or-false e.above_low in
-    let slow : list_any hints_low_or_full all ≡ e.slow = hears.slow ∙ or-false e.slow in
+-- what was collected of all descriptors is what they say
+pub received_all : (all : List (List ℕ)) (e : Evidence) → Collects all e [] → e ≡ evidence_of all
+received_all all e collects =
+    let companion : list_any is_companion all ≡ e.companion = collects.companion ∙ or-false e.companion in
+    let high : list_any proves_high all ≡ e.high = collects.high ∙ or-false e.high in
+    let full : list_any proves_full all ≡ e.full = collects.full ∙ or-false e.full in
+    let above_low : list_any excludes_low all ≡ e.above_low = collects.above_low ∙ or-false e.above_low in
+    let slow : list_any hints_low_or_full all ≡ e.slow = collects.slow ∙ or-false e.slow in
     rw (companion, high, full, above_low, slow) refl
 
 -- one descriptor more
@@ -133,7 +133,7 @@ numbers_table all t len same =
 pub gathers_none : (all : List (List ℕ)) → Gathers all record { companion = false; high = false; full = false; above_low = false; slow = false } (replicate 256 None) 0 (replicate 256 false) all
 gathers_none all = record {
   cells = length-replicate {A = Option ℕ} 256 None;
-  evidence = hears_none all;
+  evidence = collects_none all;
   bindings = λ n within. sym (ap (λ x. option_or x (binding n 0 all)) (get_or-replicate 256 n None None within));
   number_cells = length-replicate {A = Bool} 256 false;
   numbers = λ n within. sym (ap (λ x. x || has_setting n all) (get_or-replicate 256 n false false within));
@@ -146,10 +146,10 @@ pub gathered_on : (all : List (List ℕ)) (e : Evidence) (table : List (Option �
     → ((n : ℕ) → n < 256 → (ds : List (List ℕ)) → bound_with table count n (d ∷ ds) ≡ bound_with table' count' n ds)
     → (length names ≡ 256 → length names' ≡ 256)
     → (length names ≡ 256 → (n : ℕ) → n < 256 → has_number names' n ≡ (has_number names n || is_numbered n d))
-    → Gathers all (heard d e) table' count' names' ds
+    → Gathers all (collected d e) table' count' names' ds
 gathered_on all e table count names d ds gathers table' count' names' cells binds number_cells numbers = record {
   cells = cells gathers.cells;
-  evidence = hears_on all e d ds gathers.evidence;
+  evidence = receives_on all e d ds gathers.evidence;
   bindings = λ n within. gathers.bindings n within ∙ binds n within ds;
   number_cells = number_cells gathers.number_cells;
   numbers = λ n within. gathers.numbers n within ∙ numbers_on n d ds _ _ (numbers gathers.number_cells n within);
@@ -160,7 +160,7 @@ pub gathered_all : (all : List (List ℕ)) (e : Evidence) (table : List (Option 
     → ◌≡◌ {A = Survey} record { spoken = e; bindings = table; interfaces = names } (survey_of all)
 unfolding survey_of
 gathered_all all e table count names gathers =
-    let evidence : e ≡ evidence_of all = heard_all all e gathers.evidence in
+    let evidence : e ≡ evidence_of all = received_all all e gathers.evidence in
     let bound : table ≡ bindings all = whole_table all table gathers.cells (λ n within. gathers.bindings n within ∙ or_none (bound_at table n)) in
     let numbers : names ≡ interface_numbers all = numbers_table all names gathers.number_cells (λ n within. gathers.numbers n within ∙ none_left n (has_number names n)) in
     cc

@@ -11,11 +11,11 @@ use Rattle.usb_file_data.specs.Causes.{Broken}
 use Rattle.usb_file_data.specs.Findings.{found, found_from}
 use Rattle.usb_walk.specs.declared.position.Position.{Position}
 use Rattle.usb_walk.specs.declared.role.Role.{Role}
-use Rattle.usb_remarks.specs.declared.standing.Standing.{Standing}
+use Rattle.usb_remarks.specs.declared.outline_state.OutlineState.{OutlineState}
 use Rattle.usb_remarks.specs.Findings.{IsAtPlace, found_at, is_here}
 
 -- the next finding is one of the descriptor
-pub one_on : (s : Standing) (found : List Found) (i : ℕ) (f : Found) → i < length found → is_here s (get_or found i f) ≡ true
+pub one_on : (s : OutlineState) (found : List Found) (i : ℕ) (f : Found) → i < length found → is_here s (get_or found i f) ≡ true
     → length (take_while (is_here s) (drop i found)) ≡ length (take_while (is_here s) (drop (i + 1) found)) + 1
 one_on s found i f below here_is =
     let here = is_here s in
@@ -27,30 +27,30 @@ one_on s found i f below here_is =
     ap (λ (l : List Found). length l) tells ∙ omega arith
 
 -- the findings of a descriptor, and those that are left behind them, are those that were left before
-pub found_front : (s : Standing) (found : List Found) → found_at s found ++ drop (length (found_at s found)) found ≡ found
+pub found_front : (s : OutlineState) (found : List Found) → found_at s found ++ drop (length (found_at s found)) found ≡ found
 unfolding found_at
 found_front s found =
     let here = is_here s in
     ap (λ n. take_while here found ++ drop n found) (length-prefix_len here found) ∙ take-append-drop (prefix_len here found) found
 
 -- they are the first ones
-pub here_front : (s : Standing) (found : List Found) → take (length (found_at s found)) found ≡ found_at s found
+pub here_front : (s : OutlineState) (found : List Found) → take (length (found_at s found)) found ≡ found_at s found
 unfolding found_at
 here_front s found = ap (λ n. take n found) (length-prefix_len (is_here s) found)
 
-pub here_within : (s : Standing) (found : List Found) → length (found_at s found) ≤ length found
+pub here_within : (s : OutlineState) (found : List Found) → length (found_at s found) ≤ length found
 here_within s found =
     omega (arith, ap (λ (l : List Found). length l) (found_front s found), length-append (found_at s found) (drop (length (found_at s found)) found))
 
 -- ---- whose they are
 
 -- they have its number
-numbered_by : (s : Standing) (f : Found) (rest : List Found) (b : Bool) → is_here s f ≡ b → AllByRecursion (λ f. f.descriptor ≡ s.descriptors) rest
+numbered_by : (s : OutlineState) (f : Found) (rest : List Found) (b : Bool) → is_here s f ≡ b → AllByRecursion (λ f. f.descriptor ≡ s.descriptors) rest
     → AllByRecursion (λ f. f.descriptor ≡ s.descriptors) (cond b (f ∷ rest) [])
 numbered_by s f rest true e all = (eqb-true f.descriptor s.descriptors e, all)
 numbered_by s f rest false e all = tt
 
-pub are_numbered : (s : Standing) (found : List Found) → AllByRecursion (λ f. f.descriptor ≡ s.descriptors) (found_at s found)
+pub are_numbered : (s : OutlineState) (found : List Found) → AllByRecursion (λ f. f.descriptor ≡ s.descriptors) (found_at s found)
 unfolding found_at
 are_numbered s [] = tt
 are_numbered s (f ∷ found) =
@@ -58,11 +58,11 @@ are_numbered s (f ∷ found) =
     (numbered_by s f (take_while (is_here s) found) (is_here s f) refl (are_numbered s found))
 
 -- these are all that is found at descriptors of which the first has this number, or nothing is found
-abbrev pub Told : ℕ → List (List Broken) → List Found → Type 0
-Told n broken fs = (fs ≡ found_from n broken) ⊎ (fs ≡ [])
+abbrev pub Reported : ℕ → List (List Broken) → List Found → Type 0
+Reported n broken fs = (fs ≡ found_from n broken) ⊎ (fs ≡ [])
 
 -- what is found at later descriptors is not of this one
-none_after : (s : Standing) (m : ℕ) (later : List (List Broken)) → s.descriptors < m → take_while (is_here s) (found_from m later) ≡ []
+none_after : (s : OutlineState) (m : ℕ) (later : List (List Broken)) → s.descriptors < m → take_while (is_here s) (found_from m later) ≡ []
 none_after s m [] h = refl
 none_after s m ([] ∷ later) h = none_after s (m + 1) later (omega (arith, h))
 none_after s m ((b ∷ bs) ∷ later) h =
@@ -70,7 +70,7 @@ none_after s m ((b ∷ bs) ∷ later) h =
     ∙ cond-false (m == s.descriptors) _ _ (ne_eqb m s.descriptors (λ e. omega (arith, h, e)))
 
 -- of what is found at it and later, just its own is of it
-mine_first : (s : Standing) (mine : List Broken) (later : List (List Broken))
+mine_first : (s : OutlineState) (mine : List Broken) (later : List (List Broken))
     → take_while (is_here s) (map (found s.descriptors) mine ++ found_from (s.descriptors + 1) later) ≡ map (found s.descriptors) mine
 mine_first s [] later = none_after s (s.descriptors + 1) later (omega arith)
 mine_first s (b ∷ mine) later =
@@ -79,15 +79,15 @@ mine_first s (b ∷ mine) later =
     ∙ ap (λ l. found s.descriptors b ∷ l) (mine_first s mine later)
 
 -- behind it the later ones are left
-pub told_behind : (s : Standing) (mine : List Broken) (later : List (List Broken)) (fs : List Found) → Told s.descriptors (mine ∷ later) fs
-    → Told (s.descriptors + 1) later (drop (length (found_at s fs)) fs)
+pub reported_behind : (s : OutlineState) (mine : List Broken) (later : List (List Broken)) (fs : List Found) → Reported s.descriptors (mine ∷ later) fs
+    → Reported (s.descriptors + 1) later (drop (length (found_at s fs)) fs)
 unfolding found_at
-told_behind s mine later fs (inl e) =
+reported_behind s mine later fs (inl e) =
     let own = map (found s.descriptors) mine in
     let rest = found_from (s.descriptors + 1) later in
     inl (ap (λ (l : List Found). drop (length (take_while (is_here s) l)) l) e
     ∙ ap (λ (l : List Found). drop (length l) (own ++ rest)) (mine_first s mine later) ∙ drop-append_seam own rest)
-told_behind s mine later fs (inr e) = inr (ap (λ (l : List Found). drop (length (take_while (is_here s) l)) l) e)
+reported_behind s mine later fs (inr e) = inr (ap (λ (l : List Found). drop (length (take_while (is_here s) l)) l) e)
 
 -- what is found at a descriptor of this role is at its place
 abbrev pub AllAtPlace : Position → Role → List Found → Type 0
@@ -101,11 +101,11 @@ numbered_at : (p : Position) (role : Role) (n : ℕ) (mine : List Broken) → Al
 numbered_at p role n [] own = tt
 numbered_at p role n (b ∷ mine) own = (own.0, numbered_at p role n mine own.1)
 
-pub none_at : (s : Standing) (role : Role) (fs : List Found) → fs ≡ [] → AllAtPlace s.position role (found_at s fs)
+pub none_at : (s : OutlineState) (role : Role) (fs : List Found) → fs ≡ [] → AllAtPlace s.position role (found_at s fs)
 unfolding found_at
 none_at s role fs none = subst (λ l. AllAtPlace s.position role (take_while (is_here s) l)) (sym none) tt
 
-pub own_at : (s : Standing) (role : Role) (mine : List Broken) (later : List (List Broken)) (fs : List Found) → AllBrokenAt s.position role mine → Told s.descriptors (mine ∷ later) fs
+pub own_at : (s : OutlineState) (role : Role) (mine : List Broken) (later : List (List Broken)) (fs : List Found) → AllBrokenAt s.position role mine → Reported s.descriptors (mine ∷ later) fs
     → AllAtPlace s.position role (found_at s fs)
 unfolding found_at
 own_at s role mine later fs own (inl e) =

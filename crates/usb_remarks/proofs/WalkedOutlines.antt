@@ -15,7 +15,7 @@ use Rattle.usb_walk.proofs.WalkSteps.{next_numbered, numbered, pass_numbered}
 use Rattle.usb_walk.proofs.Walking.{walk_by_positions}
 use Rattle.usb_remarks.specs.declared.speed.SetSpeed.{SetSpeed}
 use Rattle.usb_remarks.specs.Outline.{Entry, entries, next_ahead, pass_ahead}
-use Rattle.usb_remarks.specs.Standings.{start}
+use Rattle.usb_remarks.specs.OutlineStates.{start}
 use Rattle.usb_remarks.specs.WalkedOutlines.{WalkIsOutline, by_position}
 use Rattle.usb_remarks.proofs.Outlines.{entry_in_tree, tree_same}
 use Rattle.usb_remarks.proofs.rest.Inputs.{whole_shows}

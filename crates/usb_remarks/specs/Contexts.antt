@@ -6,7 +6,7 @@ use Rattle.usb_remarks.specs.declared.speed.SetSpeed.{SetSpeed}
 use Rattle.usb_remarks.specs.declared.speed.SetSpeed.TheVariants.{FullOrHigh, Super}
 use Rattle.usb_walk.specs.declared.role.Role.{Role}
 use Rattle.usb_walk.specs.declared.role.Role.TheVariants.{Device, Qualifier}
-use Rattle.usb_remarks.specs.declared.standing.Standing.{Standing}
+use Rattle.usb_remarks.specs.declared.outline_state.OutlineState.{OutlineState}
 use Rattle.usb_remarks.specs.SetSpeeds.{high_beside, high_side, is_super_device, one_speed, other_speed}
 
 -- a device of SuperSpeed: it ran so, or its descriptor is one of SuperSpeed
@@ -16,7 +16,7 @@ is_super (Some Super) usb packet = true
 is_super (Some running) usb packet = false
 
 -- its speed: that of the device or the qualifier, as far as it is known or their sides prove it, or of its set
-abbrev pub speed_of : Option SetSpeed → Standing → Role → List ℕ → SetSpeed
+abbrev pub speed_of : Option SetSpeed → OutlineState → Role → List ℕ → SetSpeed
 speed_of running s Device d =
     if is_super running (little_endian_at d 2) (slice_index d 7) then Super
     else unwrap_or (option_or running (high_side s.own_side)) FullOrHigh
@@ -25,6 +25,6 @@ speed_of running s Qualifier d =
 speed_of running s _ d = s.speed
 
 -- the speed that both sides of a device have, at its qualifier
-abbrev pub one_speed_at : Standing → Role → Option SetSpeed
+abbrev pub one_speed_at : OutlineState → Role → Option SetSpeed
 one_speed_at s Qualifier = one_speed s.own_side s.other_side
 one_speed_at s role = None

@@ -13,14 +13,14 @@ use Rattle.usb_walk.specs.declared.position.Position.{Position}
 use Rattle.usb_walk.specs.declared.role.Role.{Role}
 use Rattle.usb_walk.specs.declared.role.Role.TheVariants.{Device, Qualifier, Configuration, Association, Interface, Endpoint}
 use Rattle.usb_walk.specs.Places.{place_in}
-use Rattle.usb_remarks.specs.declared.standing.Standing.{Standing}
+use Rattle.usb_remarks.specs.declared.outline_state.OutlineState.{OutlineState}
 
 -- whether what was found is of this descriptor, whose number is how many came before it
-abbrev pub is_here : Standing → Found → Bool
+abbrev pub is_here : OutlineState → Found → Bool
 is_here s f = f.descriptor == s.descriptors
 
 -- what was found of this descriptor: that with which these findings begin, which no descriptor before it has
-unfoldable pub found_at : Standing → List Found → List Found
+unfoldable pub found_at : OutlineState → List Found → List Found
 found_at s found = take_while (is_here s) found
 
 -- What holds of it: where it is, and which rules a descriptor can break.

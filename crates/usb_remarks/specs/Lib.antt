@@ -11,6 +11,7 @@ pub mod HeaderRemarks
 pub mod InterfaceNumbers
 pub mod Outline
 pub mod OutlineLaws
+pub mod OutlineStates
 pub mod OwnedEndpoints
 pub mod PlacedRemarks
 pub mod Power
@@ -20,7 +21,6 @@ pub mod Remarks
 pub mod SetSpeeds
 pub mod SetStart
 pub mod SettingRemarks
-pub mod Standings
 pub mod StringRemarks
 pub mod Uncovered
 pub mod WalkedEndpoints

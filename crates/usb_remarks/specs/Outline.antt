@@ -5,7 +5,7 @@ use Rattle.usb_file_data.specs.declared.cause.Found.{Found}
 use Rattle.usb_names.specs.declared.codes.ClassCodes.{ClassCodes}
 use Rattle.usb_remarks.specs.declared.descriptor.Descriptor.{Descriptor}
 use Rattle.usb_walk.specs.declared.owner.DescriptorOwner.{DescriptorOwner}
-use Rattle.usb_remarks.specs.declared.standing.Standing.{Standing}
+use Rattle.usb_remarks.specs.declared.outline_state.OutlineState.{OutlineState}
 use Rattle.usb_walk.specs.declared.place.Place.{Place}
 use Rattle.usb_walk.specs.declared.role.Role.{Role}
 use Rattle.usb_remarks.specs.declared.speed.SetSpeed.{SetSpeed}
@@ -20,7 +20,7 @@ use Rattle.usb_walk.specs.Places.{place_in}
 use Rattle.usb_walk.specs.Roles.{next_role}
 use Rattle.usb_fields.specs.Unfolded.{unfolded}
 use Rattle.usb_remarks.specs.SetStart.{entered}
-use Rattle.usb_remarks.specs.Standings.{passed, start}
+use Rattle.usb_remarks.specs.OutlineStates.{passed, start}
 
 -- A descriptor of an input.
 pub record Described : Type 0 where
@@ -81,7 +81,7 @@ described d = record {
 
 -- a descriptor where it stands: what came before it, what it is there, its bytes, those after it, and what is found from it on
 pub record Entry : Type 0 where
-  pub standing : Standing
+  pub state : OutlineState
   pub role : Role
   pub bytes : List ℕ
   pub after : List ℕ
@@ -89,51 +89,51 @@ pub record Entry : Type 0 where
 
 -- what is found there
 abbrev pub findings_of : Entry → List Found
-findings_of e = found_at e.standing e.found
+findings_of e = found_at e.state e.found
 
 -- all that is known of it, where the device ran at a speed that is known or isn't
 unfoldable pub describe : Option SetSpeed → Entry → Described
 describe running e = record {
-  at = e.standing.position.at;
-  place = place_in e.standing.position e.role;
+  at = e.state.position.at;
+  place = place_in e.state.position e.role;
   bytes = e.bytes;
   role = e.role;
-  depth = depth_of e.standing.position e.role;
-  owner = owner_of e.standing.position e.role e.bytes;
-  speed = speed_of running e.standing e.role e.bytes;
+  depth = depth_of e.state.position e.role;
+  owner = owner_of e.state.position e.role e.bytes;
+  speed = speed_of running e.state e.role e.bytes;
   findings = findings_of e;
-  associations = e.standing.position.associations;
-  association = bound_at e.standing.bindings (slice_index e.bytes 2);
-  missing = missing_interface e.standing.interfaces (codes_of e.standing.position) e.bytes;
-  follows = follows (interface_number e.standing.position e.role e.bytes) (rest_of_set e.standing.position e.bytes e.after);
-  interface = codes_of e.standing.position;
-  string = e.standing.position.strings;
-  rest = rest_of_set e.standing.position e.bytes e.after;
-  is_late = is_late e.standing.before e.role e.bytes;
+  associations = e.state.position.associations;
+  association = bound_at e.state.bindings (slice_index e.bytes 2);
+  missing = missing_interface e.state.interfaces (codes_of e.state.position) e.bytes;
+  follows = follows (interface_number e.state.position e.role e.bytes) (rest_of_set e.state.position e.bytes e.after);
+  interface = codes_of e.state.position;
+  string = e.state.position.strings;
+  rest = rest_of_set e.state.position e.bytes e.after;
+  is_late = is_late e.state.before e.role e.bytes;
   has_associations = has_associations e.role e.bytes e.after;
-  one_speed = one_speed_at e.standing e.role;
+  one_speed = one_speed_at e.state e.role;
 }
 
 -- the state at the descriptor with which these bytes begin: in its set, where it begins one
-abbrev pub here : Option SetSpeed → Standing → List ℕ → Role × ℕ → Standing
+abbrev pub here : Option SetSpeed → OutlineState → List ℕ → Role × ℕ → OutlineState
 here running s ahead next = entered next.0 running ahead s
 
 -- the descriptor with which these bytes begin
-abbrev pub entry_next : Option SetSpeed → Standing → List Found → List ℕ → Role × ℕ → Entry
+abbrev pub entry_next : Option SetSpeed → OutlineState → List Found → List ℕ → Role × ℕ → Entry
 entry_next running s found ahead next =
-    record { standing = here running s ahead next; role = next.0; bytes = take next.1 ahead; after = drop next.1 ahead; found = found }
+    record { state = here running s ahead next; role = next.0; bytes = take next.1 ahead; after = drop next.1 ahead; found = found }
 
 -- the findings that are left after it
-abbrev pub left_next : Option SetSpeed → Standing → List Found → List ℕ → Role × ℕ → List Found
+abbrev pub left_next : Option SetSpeed → OutlineState → List Found → List ℕ → Role × ℕ → List Found
 left_next running s found ahead next = drop (length (found_at (here running s ahead next) found)) found
 
 -- the state after that descriptor
-abbrev pub after_next : Option SetSpeed → Standing → List ℕ → Role × ℕ → Standing
+abbrev pub after_next : Option SetSpeed → OutlineState → List ℕ → Role × ℕ → OutlineState
 after_next running s ahead next = passed next.0 (take next.1 ahead) (here running s ahead next)
 
 -- what a walk goes on with: the state, the findings that are left, and the bytes ahead
 abbrev pub Ahead : Type 0
-Ahead = Standing × List Found × List ℕ
+Ahead = OutlineState × List Found × List ℕ
 
 -- what may come there
 abbrev pub next_ahead : Ahead → Option (Role × ℕ)
@@ -145,15 +145,15 @@ pass_ahead running (s, found, ahead) next =
     (entry_next running s found ahead next, (after_next running s ahead next, left_next running s found ahead next, drop next.1 ahead))
 
 -- the descriptors from here on, at most n
-abbrev pub first_entries : ℕ → Option SetSpeed → Standing → List Found → List ℕ → List Entry
+abbrev pub first_entries : ℕ → Option SetSpeed → OutlineState → List Found → List ℕ → List Entry
 first_entries n running s found ahead = unfolded next_ahead (pass_ahead running) n (s, found, ahead)
 
 -- all of them: there are no more than bytes
-abbrev pub entries_from : Option SetSpeed → Standing → List Found → List ℕ → List Entry
+abbrev pub entries_from : Option SetSpeed → OutlineState → List Found → List ℕ → List Entry
 entries_from running s found ahead = first_entries (length ahead) running s found ahead
 
 -- the same with what is known of each
-abbrev pub outline_from : Option SetSpeed → Standing → List Found → List ℕ → List Described
+abbrev pub outline_from : Option SetSpeed → OutlineState → List Found → List ℕ → List Described
 outline_from running s found ahead = map (describe running) (entries_from running s found ahead)
 
 -- the descriptors of an input, where these are its findings in the order of its bytes

@@ -60,7 +60,7 @@ BrokenCoversUpToFault =
 
 -- what stands at a descriptor are findings of its own: each is at its place, and of a rule that such a descriptor can break
 abbrev pub HasItsOwnFindings : Entry → Type 0
-HasItsOwnFindings d = AllByRecursion (λ f. IsAtPlace d.standing.position d.role f.finding f.cause) (findings_of d)
+HasItsOwnFindings d = AllByRecursion (λ f. IsAtPlace d.state.position d.role f.finding f.cause) (findings_of d)
 
 -- what stands at each of these descriptors has its number, which is this one for the first
 abbrev pub AreNumbered : ℕ → List Entry → Type 0

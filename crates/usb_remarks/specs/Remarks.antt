@@ -22,7 +22,7 @@ use Rattle.usb_remarks.specs.RemarkValues.{is_size, remark_if, there}
 use Rattle.usb_remarks.specs.DeviceRemarks.{associations_remark, count_remark, device_class_remark, one_speed_remark, packet_remark, power_remark, qualifier_release_remark, release_remark}
 use Rattle.usb_remarks.specs.EndpointAddresses.{endpoints_remark}
 use Rattle.usb_remarks.specs.SettingRemarks.{default_remark, empty_remark, pipe_remark, setting_remark}
-use Rattle.usb_remarks.specs.Standings.{device_codes}
+use Rattle.usb_remarks.specs.OutlineStates.{device_codes}
 use Rattle.usb_remarks.specs.ClassRemarks.{class_release_remark, functional_remark, hid_length_remark, hid_report_remark, late_remark}
 use Rattle.usb_remarks.specs.StringRemarks.{languages_remark, text_remark}
 

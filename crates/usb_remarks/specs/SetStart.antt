@@ -12,7 +12,7 @@ use Rattle.usb_remarks.specs.SetSpeeds.{evidence_of, other_speed, side_speed, sp
 use Rattle.usb_walk.specs.declared.role.Role.{Role}
 use Rattle.usb_walk.specs.declared.role.Role.TheVariants.{Configuration, Device}
 use Rattle.usb_remarks.specs.declared.device_facts.DeviceFacts.{DeviceFacts}
-use Rattle.usb_remarks.specs.declared.standing.Standing.{Standing}
+use Rattle.usb_remarks.specs.declared.outline_state.OutlineState.{OutlineState}
 use Rattle.usb_walk.specs.Positions.{position_at}
 
 -- what is known of sets by the device or the qualifier before them, beside a speed that is known, and the device's other speed
@@ -34,7 +34,7 @@ abbrev pub background_after : Option SetSpeed → DeviceFacts → SetSpeed → B
 background_after running qualifier own = background_of (option_and_then other_speed running) qualifier (Some own)
 
 -- what is known of a set after a device and its qualifier, after a device alone, or alone
-abbrev pub background_by : Option SetSpeed → Standing → Option DeviceFacts → Option DeviceFacts → Background
+abbrev pub background_by : Option SetSpeed → OutlineState → Option DeviceFacts → Option DeviceFacts → Background
 background_by running s None qualifier = background_alone running
 background_by running s (Some device) None = background_of running device s.other_speed
 background_by running s (Some device) (Some qualifier) = background_after running qualifier s.own_speed
@@ -86,7 +86,7 @@ unfoldable pub other_side : List ℕ → Option SetSpeed
 other_side ahead = side_of_qualifier (after_own_sets ahead)
 
 -- what the bytes of a set say of the whole of it, as far as they are there
-unfoldable pub surveyed : Option SetSpeed → List ℕ → Standing → Standing
+unfoldable pub surveyed : Option SetSpeed → List ℕ → OutlineState → OutlineState
 surveyed running ahead s =
     let survey = survey_of (descriptors (take (little_endian_at ahead 2) ahead)) in
     record s {
@@ -97,7 +97,7 @@ surveyed running ahead s =
     }
 
 -- what is looked for ahead at a descriptor of this role: the two speeds of a device, and what a set says
-abbrev pub looked : Role → Option SetSpeed → List ℕ → Standing → Standing
+abbrev pub looked : Role → Option SetSpeed → List ℕ → OutlineState → OutlineState
 looked Device running ahead s = record s {
   own_speed = own_ahead running ahead;
   own_side = own_side ahead;
@@ -108,5 +108,5 @@ looked Configuration running ahead s = surveyed running ahead s
 looked _ running ahead s = s
 
 -- at a descriptor of this role, with which the bytes begin
-abbrev pub entered : Role → Option SetSpeed → List ℕ → Standing → Standing
+abbrev pub entered : Role → Option SetSpeed → List ℕ → OutlineState → OutlineState
 entered role running ahead s = record (looked role running ahead s) { position = position_at role ahead s.position }

@@ -8,7 +8,7 @@ use Rattle.usb_remarks.specs.Outline.{Entry, entries}
 
 -- a descriptor of an outline by its position
 abbrev pub by_position : Entry → Numbered
-by_position e = record { position = e.standing.position; role = e.role; bytes = e.bytes }
+by_position e = record { position = e.state.position; role = e.role; bytes = e.bytes }
 
 -- the walk from the first descriptor on has the descriptors of the outline, whatever is known of the bytes beside: each as the
 -- numbers of its position

@@ -2,14 +2,14 @@
 ghost use Rattle.std.specs.Prelude.{◌≡◌};
 ghost use Rattle.usb_remarks.specs.Contexts.{is_super, one_speed_at, speed_of};
 
+use crate::outline_state::OutlineState;
 use crate::set_speed::{high_beside, high_side, is_super_device, one_speed};
 use crate::set_start::other_speed_of;
 use crate::speed::SetSpeed;
-use crate::standing::Standing;
 use usb_fields::{byte_at, word_at};
 use usb_walk::Role;
 
-impl Standing {
+impl OutlineState {
     /// The speed of the device, of the qualifier or of the set.
     pub(crate) fn speed(&self, running: Option<SetSpeed>, role: Role, d: &[u8]) -> SetSpeed
         ensures { result ≡ speed_of running self.now role d.now }

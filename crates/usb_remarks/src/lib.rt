@@ -21,6 +21,7 @@ mod interface_numbers;
 mod later_interfaces;
 pub mod laws;
 mod outline;
+mod outline_state;
 mod placed_remark;
 mod remark;
 mod remarks;
@@ -28,7 +29,6 @@ mod set_speed;
 mod set_start;
 mod speed;
 mod speed_evidence;
-mod standing;
 mod survey;
 
 pub use descriptor::Descriptor;

@@ -3,15 +3,15 @@ ghost use Rattle.std.specs.Prelude.{◌≡◌, ◌≤◌, ◌<◌, ◌+◌, ◌-
 ghost use Rattle.usb_remarks.specs.Findings.{found_at};
 ghost use Rattle.usb_remarks.specs.Outline.{describe, described, outline};
 ghost use Rattle.usb_remarks.specs.SetStart.{entered};
-ghost use Rattle.usb_remarks.specs.Standings.{AreCounted, passed};
+ghost use Rattle.usb_remarks.specs.OutlineStates.{AreCounted, passed};
 ghost use Rattle.usb_walk.specs.Positions.{position_at};
 ghost use Rattle.usb_remarks.specs.inside.Coming.{Awaits};
 
 use crate::associations::has_associations;
 use crate::descriptor::Descriptor;
 use crate::later_interfaces::LaterInterfaces;
+use crate::outline_state::OutlineState;
 use crate::speed::SetSpeed;
-use crate::standing::Standing;
 use std::marker::Model;
 use usb_fields::byte_at;
 use usb_file_data::Found;
@@ -30,7 +30,7 @@ use usb_walk::Role;
 #[derive(Drop)]
 pub struct Outline<'b> {
     running: Option<SetSpeed>,
-    standing: Standing,
+    state: OutlineState,
     found: &'b [Found],
     ahead: &'b [u8],
     later: LaterInterfaces,
@@ -39,26 +39,26 @@ pub struct Outline<'b> {
 impl<'b> Model for Outline<'b> {
     ghost use Rattle.std.specs.Prelude.{◌+◌, ◌<◌, ◌^◌, List, length};
     ghost use Rattle.usb_remarks.specs.Outline.{Described, outline_from};
-    ghost use Rattle.usb_remarks.specs.Standings.{AreCounted};
+    ghost use Rattle.usb_remarks.specs.OutlineStates.{AreCounted};
     ghost use Rattle.usb_remarks.specs.inside.Coming.{Awaits};
 
     ghost Value = { List Described };
 
-    ghost view = { λ o. outline_from o.running o.standing o.found.now o.ahead.now };
+    ghost view = { λ o. outline_from o.running o.state o.found.now o.ahead.now };
 
-    ghost invariant = { λ o. AreCounted o.standing × (o.standing.position.at + length o.ahead.now < 2 ^ 63) × Awaits o.later o.standing.position.left o.ahead.now };
+    ghost invariant = { λ o. AreCounted o.state × (o.state.position.at + length o.ahead.now < 2 ^ 63) × Awaits o.later o.state.position.left o.ahead.now };
 }
 
 impl<'b> Outline<'b> {
     /// The outline of these bytes of a device that ran at this speed, if that is known, where these are its findings in the
     /// order of the bytes, as `found_in_order` gives them.
-    #[tactic(auto, using(crate::proofs::Standings::start_at))]
+    #[tactic(auto, using(crate::proofs::OutlineStates::start_at))]
     pub fn of(bytes: &'b [u8], running: Option<SetSpeed>, found: &'b [Found]) -> Outline<'b>
         ensures { result ≡ outline running found.now bytes.now }
     {
         Outline {
             running,
-            standing: Standing::start(),
+            state: OutlineState::start(),
             found,
             ahead: bytes,
             later: LaterInterfaces::none(),
@@ -77,12 +77,12 @@ impl<'b> Iterator for Outline<'b> {
     ghost remaining = { item_count (λ o. o) };
 
     fn next(&mut self) -> Option<Descriptor<'b>> {
-        let Some((role, count)) = self.standing.position.next_role(self.ahead) else {
+        let Some((role, count)) = self.state.position.next_role(self.ahead) else {
             self.ahead = &[];
             return None;
         };
         self.later.pass(role, self.ahead, count);
-        let (here, left) = self.standing.step_over(
+        let (here, left) = self.state.step_over(
             role,
             self.running,
             self.found,
@@ -96,7 +96,7 @@ impl<'b> Iterator for Outline<'b> {
     }
 }
 
-impl Standing {
+impl OutlineState {
     /// Passes the descriptor of this role and length with which the bytes begin. Answers it, and the findings that are left.
     fn step_over<'b>(
         &mut self,
@@ -111,9 +111,9 @@ impl Standing {
         requires room { self.old.position.at + length ahead.now < 2 ^ 63 }
         requires most { count ≤ length ahead.now }
         requires later { Awaits later.now ((position_at role ahead.now self.old.position).left - count) (drop count ahead.now) }
-        ensures here { described result.0 ≡ describe running (record { standing = entered role running ahead.now self.old; role = role; bytes = take count ahead.now; after = drop count ahead.now; found = found.now }) }
+        ensures here { described result.0 ≡ describe running (record { state = entered role running ahead.now self.old; role = role; bytes = take count ahead.now; after = drop count ahead.now; found = found.now }) }
         ensures left { result.1.now ≡ drop (length (found_at (entered role running ahead.now self.old) found.now)) found.now }
-        ensures standing { self.new ≡ passed role (take count ahead.now) (entered role running ahead.now self.old) }
+        ensures state { self.new ≡ passed role (take count ahead.now) (entered role running ahead.now self.old) }
     {
         self.enter(role, running, ahead);
         let (bytes, behind) = ahead.split_at(count);
@@ -134,7 +134,7 @@ impl Standing {
         later: &LaterInterfaces,
     ) -> (Descriptor<'b>, &'b [Found])
         requires { Awaits later.now (self.now.position.left - length bytes.now) behind.now }
-        ensures here { described result.0 ≡ describe running (record { standing = self.now; role = role; bytes = bytes.now; after = behind.now; found = found.now }) }
+        ensures here { described result.0 ≡ describe running (record { state = self.now; role = role; bytes = bytes.now; after = behind.now; found = found.now }) }
         ensures left { result.1.now ≡ drop (length (found_at self.now found.now)) found.now }
     {
         let (findings, left) = self.split_found(found);

@@ -14,6 +14,7 @@ mod settings;
 mod strings;
 
 use crate::descriptor::Descriptor;
+use crate::outline_state::device_codes;
 use crate::remark::{
     Remark, association_class_remark, attributes_remark, class_remark, multiple_remark, remark_if,
     size_remark,
@@ -30,7 +31,6 @@ use crate::remarks::headers::header_remark;
 use crate::remarks::intervals::interval_remark;
 use crate::remarks::settings::{default_remark, empty_remark, pipe_remark, setting_remark};
 use crate::remarks::strings::{languages_remark, text_remark};
-use crate::standing::device_codes;
 use usb_fields::{byte_at, word_at};
 use usb_set::TransferType;
 use usb_walk::Role;

@@ -4,16 +4,16 @@ ghost use Rattle.usb_remarks.specs.SetSpeeds.{other_speed};
 ghost use Rattle.usb_remarks.specs.SetStart.{after_own_sets, background_after, background_alone, background_by, background_of, entered, has_qualifier, looked, own_ahead, own_sets, own_side, sets_ahead, side_of_qualifier, speed_after_qualifier, surveyed};
 
 use crate::device_facts::DeviceFacts;
+use crate::outline_state::OutlineState;
 use crate::set_speed::{Background, other_speed, side_speed, speed_by};
 use crate::speed::SetSpeed;
 use crate::speed_evidence::Evidence;
-use crate::standing::Standing;
 use crate::survey::survey;
 use usb_fields::{after, byte_at, descriptor_type, prefix, word_at};
 use usb_file_data::after_sets;
 use usb_walk::Role;
 
-impl Standing {
+impl OutlineState {
     /// Comes to a descriptor of this role, with which the bytes begin.
     pub(crate) fn enter(&mut self, role: Role, running: Option<SetSpeed>, ahead: &[u8])
         ensures { self.new ≡ entered role running ahead.now self.old }

@@ -2,7 +2,7 @@
 ghost use Rattle.std.specs.Prelude.{◌≡◌, false, slice_index};
 ghost use Rattle.usb_remarks.specs.SetSpeeds.{evidence_of, has_multiple, is_above_low, is_full, is_high, is_hub_interface, is_slow, is_within};
 ghost use Rattle.usb_walk.specs.Trees.{descriptors};
-ghost use Rattle.usb_remarks.specs.inside.Walking.{heard};
+ghost use Rattle.usb_remarks.specs.inside.Walking.{collected};
 
 use usb_fields::{byte_at, descriptor_type, word_at};
 use usb_set::TransferType;
@@ -56,7 +56,7 @@ impl Evidence {
     /// Adds what a descriptor says.
     #[inline(always)]
     pub(crate) fn add(&mut self, d: &[u8])
-        ensures { self.new ≡ heard d.now self.old }
+        ensures { self.new ≡ collected d.now self.old }
     {
         match byte_at(d, 1) {
             descriptor_type::ENDPOINT => self.add_endpoint(d),
@@ -69,7 +69,7 @@ impl Evidence {
     /// The same of a descriptor of an endpoint's type.
     fn add_endpoint(&mut self, d: &[u8])
         requires { slice_index d.now 1 ≡ 5 }
-        ensures { self.new ≡ heard d.now self.old }
+        ensures { self.new ≡ collected d.now self.old }
     {
         if is_endpoint(d) {
             let transfer = TransferType::of(byte_at(d, 3));

@@ -215,7 +215,7 @@ pub first_stays_first : (current xs : List ℕ) → 0 < length current → first
 first_stays_first [] xs some = absurd (omega arith)
 first_stays_first (x ∷ current) xs some = refl
 
--- so many bytes as its bLength says
+-- this many bytes as its bLength says
 pub whole_now : (current xs : List ℕ) → 0 < length current → length (current ++ xs) ≡ first_byte current → is_whole (current ++ xs) ≡ true
 whole_now [] xs some e = absurd (omega arith)
 whole_now (x ∷ current) xs some e = eq-eqb (length (current ++ xs) + 1) x (omega arith)
@@ -258,7 +258,7 @@ begun_start old None total0 place0 item c total place is none fine e is_total bo
       | inr n ↦ subst P (sym (cond-false (eqb place total) (whole c place) (later c total place []) n)) (refl, omega (arith, eqb-false place total n), bound)
     ]
 
--- what is neither read to its end nor faulty is in work
+-- what is neither read to its end nor faulty is current
 pub not_done : (r : Reading) → GoesOn r → is_done r ≡ false → InWork r
 not_done (first b) on e = tt
 not_done (later c total place b) on e = tt

@@ -17,7 +17,7 @@ written_behind old words used fits =
     let all : length (take used old ++ words) ≡ used + length words = rw (length-append (take used old) words, length-take-le used old (omega (arith, fits))) refl in
     ap (λ n. take n (take used old ++ words ++ drop (used + length words) old)) (sym all) ∙ take-append_seam (take used old ++ words) (drop (used + length words) old)
 
--- so many of the spaces that were written behind the text
+-- this many of the spaces that were written behind the text
 pub spaces_behind : (old : List ℕ) (used count : ℕ) → used + 48 ≤ length old → count ≤ 48
     → take (used + count) (take used old ++ replicate {A = ℕ} 48 32 ++ drop (used + 48) old) ≡ take used old ++ replicate count 32
 spaces_behind old used count fits some =

@@ -187,7 +187,7 @@ puts_finished {a} {b} {c} {p} {q} count put rest is =
     let all : put.gained + q.ended ≡ count = (let parts = put.parts in omega (arith, parts, is)) in
     subst (λ (n : ℕ). WritesLines p.utf8 n a c) all (lines_more p.utf8 put.gained q.ended a b c put.written (same_lines p.utf8 q.utf8 q.ended b c put.same rest))
 
--- a writer that failed then, of so many lines or more
+-- a writer that failed then, of this many lines or more
 pub puts_broken : {a b c : Held} {p q : Written} {n : ℕ} (count : ℕ) → PutsLines a b p q n → WritesLess q.utf8 q.ended b c → p.ended + n ≤ count → WritesLess p.utf8 count a c
 puts_broken {a} {b} {c} {p} {q} count put less most =
     let parts = put.parts in
@@ -203,7 +203,7 @@ puts_less count put few = record {
   written = put.written.written;
 }
 
--- ---- a text of so many lines with a given prefix
+-- ---- a text of this many lines with a given prefix
 
 feed_fits : (utf8 : Bool) → is_of_lines utf8 10 ≡ true
 feed_fits true = refl

@@ -73,7 +73,7 @@ pub record WritesFewer (utf8 : Bool) (count : ℕ) (old new : Held) : Type 0 whe
   pub fewer : gained < count
   pub written : WritesLines utf8 gained old new
 
--- So many lines were put after those that there were. The writer gained some of all these, and the others are left.
+-- This many lines were put after those that there were. The writer gained some of all these, and the others are left.
 pub record PutsLines (old new : Held) (before after : Written) (count : ℕ) : Type 0 where
   pub gained : ℕ
   pub parts : before.ended + count ≡ gained + after.ended

@@ -148,7 +148,7 @@ impl Text {
         if count > SPACES.len() {
             return self.put_many_spaces(count);
         }
-        // So many that their number is known costs less than as many as are wanted.
+        // This many that their number is known costs less than as many as are wanted.
         make_room(&mut self.bytes, self.used, SPACES.len())?;
         overwrite(&mut self.bytes, self.used, &SPACES);
         self.used += count;

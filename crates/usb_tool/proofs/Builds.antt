@@ -32,6 +32,6 @@ pub bytes_listed : {B E : Type 0} (items : B → List ℕ) (r : Result B E) (com
 bytes_listed items (Err e) comments text h = tt
 bytes_listed items (Ok b) comments text h = record { file = h.file; listing = h.lists.lines; layout = h.bytes }
 
--- what is told of them
-pub built_told : (o : Building) (text b : List ℕ) → ListsBytes o.comments text b → TellsBuilt o text (written_as o.hex b) 0
-built_told o text b listed = record { bytes = b; listed = listed; written = refl; ended = refl }
+-- what is reported of them
+pub built_reported : (o : Building) (text b : List ℕ) → ListsBytes o.comments text b → TellsBuilt o text (written_as o.hex b) 0
+built_reported o text b listed = record { bytes = b; listed = listed; written = refl; ended = refl }

@@ -21,7 +21,7 @@ use Rattle.usb_file_data.specs.Inputs.{InputFaulty, InputRefused, IsInput}
 use Rattle.usb_file_data.specs.declared.fault.InputFault.{InputFault}
 use Rattle.usb_file_data.specs.declared.fault.InputFault.TheVariants as inputs
 use Rattle.usb_file_data.specs.declared.file.Input.{Input}
-use Rattle.usb_tool.proofs.Refusals.{IsTold, as_told, cut_short, is_told, shown_fault}
+use Rattle.usb_tool.proofs.Refusals.{IsReported, as_reported, cut_short, is_reported, shown_fault}
 use Rattle.usb_tool.proofs.Telling.{cut_by, less_after}
 
 module _ (utf8 : Bool) (shown : List Shown) (heading : List ℕ) where
@@ -108,18 +108,18 @@ module _ (m : Manner) (heading b : List ℕ) where
       cut_short AppendsLess (Explains m heading) (ExplainsFault m heading) b own.text 3 x z fault
       (inr (record { fault = e; shows = shows; explains = own.explains; ended = refl })) own.cut
 
-  by_told : (e : InputFault) (x z : Held) → InputFaulty b e × WritesExplained Appends m (Err e) heading b x z → RefusesToExplain m heading b x z (as_told e)
-  by_told (inputs.Set fault) x z p = p
-  by_told (inputs.Trailing at) x z p = p
-  by_told (inputs.File fault) x z p = p
+  by_reported : (e : InputFault) (x z : Held) → InputFaulty b e × WritesExplained Appends m (Err e) heading b x z → RefusesToExplain m heading b x z (as_reported e)
+  by_reported (inputs.Set fault) x z p = p
+  by_reported (inputs.Trailing at) x z p = p
+  by_reported (inputs.File fault) x z p = p
 
-  -- or it was written, and the fault is told
-  pub fault_told : (read : Reading) (e : InputFault) (x z : Held) → read ≡ Err e → IfErr read (InputRefused b) → fault_of_input e ≢ faults.Memory
+  -- or it was written, and the fault is reported
+  pub fault_reported : (read : Reading) (e : InputFault) (x z : Held) → read ≡ Err e → IfErr read (InputRefused b) → fault_of_input e ≢ faults.Memory
       → WritesExplained Appends m read heading b x z → RefusesToExplain m heading b x z (fault_of_input e)
-  fault_told read e x z is refused known w = by (is_told b e (subst (λ (r : Reading). IfErr r (InputRefused b)) is refused))
+  fault_reported read e x z is refused known w = by (is_reported b e (subst (λ (r : Reading). IfErr r (InputRefused b)) is refused))
     where
-      by : IsTold b e (fault_of_input e) → RefusesToExplain m heading b x z (fault_of_input e)
+      by : IsReported b e (fault_of_input e) → RefusesToExplain m heading b x z (fault_of_input e)
       by (inl memory) = absurd (known memory)
       by (inr h) =
           subst (λ (f : ToolFault). RefusesToExplain m heading b x z f) (sym h.1)
-          (by_told e x z (h.0, subst (λ (r : Reading). WritesExplained Appends m r heading b x z) is w))
+          (by_reported e x z (h.0, subst (λ (r : Reading). WritesExplained Appends m r heading b x z) is w))

@@ -22,15 +22,15 @@ no_text b line column found (inr faulty) = faulty
 
 module _ (loose hex : Bool) (m : Manner) (b : List ℕ) (held holds : Held) where
   -- hexadecimal text is explained as its bytes
-  pub told_of_text : (bytes : List ℕ) (r : Result ℕ ToolFault) → HexText b bytes
+  pub reported_of_text : (bytes : List ℕ) (r : Result ℕ ToolFault) → HexText b bytes
       → IfOk r (Writes Appends (ReportsAs loose (decoded_manner m) (hexadecimal_words (length bytes))) bytes held holds)
       → IfOk r (Writes Appends (ReportsText loose hex m) b held holds)
-  told_of_text bytes (Ok status) text written = record {
+  reported_of_text bytes (Ok status) text written = record {
     text = written.text;
-    told = record { manner = decoded_manner m; bytes = bytes; heading = hexadecimal_words (length bytes); is = inl (text, refl, refl); done = written.told };
+    report = record { manner = decoded_manner m; bytes = bytes; heading = hexadecimal_words (length bytes); is = inl (text, refl, refl); done = written.report };
     written = written.written;
   }
-  told_of_text bytes (Err fault) text written = tt
+  reported_of_text bytes (Err fault) text written = tt
 
   pub refused_of_text : (bytes : List ℕ) (r : Result ℕ ToolFault) → HexText b bytes
       → IfErr r (RefusesAs loose (decoded_manner m) (hexadecimal_words (length bytes)) bytes held holds) → IfErr r (RefusesText loose hex m b held holds)
@@ -39,14 +39,14 @@ module _ (loose hex : Bool) (m : Manner) (b : List ℕ) (held holds : Held) wher
       inl (record { manner = decoded_manner m; bytes = bytes; heading = hexadecimal_words (length bytes); is = inl (text, refl, refl); done = refused })
 
   -- and other bytes as they are
-  pub told_as_is : (fault : HexFault) (r : Result ℕ ToolFault) → hex ≡ false → HexFaulty b fault
+  pub reported_as_is : (fault : HexFault) (r : Result ℕ ToolFault) → hex ≡ false → HexFaulty b fault
       → IfOk r (Writes Appends (ReportsAs loose m (stop_line b fault)) b held holds) → IfOk r (Writes Appends (ReportsText loose hex m) b held holds)
-  told_as_is fault (Ok status) free faulty written = record {
+  reported_as_is fault (Ok status) free faulty written = record {
     text = written.text;
-    told = record { manner = m; bytes = b; heading = stop_line b fault; is = inr (free, (fault, faulty, refl), refl, refl); done = written.told };
+    report = record { manner = m; bytes = b; heading = stop_line b fault; is = inr (free, (fault, faulty, refl), refl, refl); done = written.report };
     written = written.written;
   }
-  told_as_is fault (Err e) free faulty written = tt
+  reported_as_is fault (Err e) free faulty written = tt
 
   pub refused_as_is : (fault : HexFault) (r : Result ℕ ToolFault) → hex ≡ false → HexFaulty b fault
       → IfErr r (RefusesAs loose m (stop_line b fault) b held holds) → IfErr r (RefusesText loose hex m b held holds)

@@ -9,24 +9,24 @@ use Rattle.usb_file_data.specs.declared.fault.FileWhy.TheVariants as files
 use Rattle.usb_file_data.specs.declared.fault.InputFault.{InputFault}
 use Rattle.usb_file_data.specs.declared.fault.InputFault.TheVariants as inputs
 use Rattle.usb_text.specs.Output.{Held}
-use Rattle.usb_tool.specs.Endings.{Extent, Fails, Refusal, Refuses, Telling, Told, Left, ReadsAll}
+use Rattle.usb_tool.specs.Endings.{Extent, Fails, Refusal, Refuses, Telling, Reported, Left, ReadsAll}
 use Rattle.usb_tool.specs.Faults.{fault_of_file, fault_of_input, file_fault_by_why}
 use Rattle.usb_tool.specs.Inputs.{Faulty}
 use Rattle.usb_tool.specs.inside.Taking.{IsNone}
 use Rattle.usb_tool.specs.inside.Telling.{EndsWith, IsCut}
 use Rattle.usb_tool.specs.declared.fault.ToolFault.{ToolFault}
-use Rattle.usb_tool.proofs.Refusals.{IsTold, as_told, cut_short, is_told}
+use Rattle.usb_tool.proofs.Refusals.{IsReported, as_reported, cut_short, is_reported}
 
-none_shown : (shows : Faulty) (b : List ℕ) (e : InputFault) → shows b e → IsNone shows b (as_told e)
+none_shown : (shows : Faulty) (b : List ℕ) (e : InputFault) → shows b e → IsNone shows b (as_reported e)
 none_shown shows b (inputs.Set fault) h = h
 none_shown shows b (inputs.Trailing at) h = h
 none_shown shows b (inputs.File fault) h = h
 
 -- bytes that are no set, no file and no dump
 pub no_input : (b : List ℕ) (e : InputFault) → InputRefused b e → IsNone InputFaulty b (fault_of_input e)
-no_input b e refused = by (is_told b e refused)
+no_input b e refused = by (is_reported b e refused)
   where
-    by : IsTold b e (fault_of_input e) → IsNone InputFaulty b (fault_of_input e)
+    by : IsReported b e (fault_of_input e) → IsNone InputFaulty b (fault_of_input e)
     by (inl memory) = subst (IsNone InputFaulty b) (sym memory) tt
     by (inr h) = subst (IsNone InputFaulty b) (sym h.1) (none_shown InputFaulty b e h.0)
 
@@ -42,13 +42,13 @@ no_file shows b e shown = by e.why refl
 module _ (extent : Extent) (tells : Telling) (limit : ℕ) (from to : Left) (bytes : List ℕ) (read : ReadsAll limit from to bytes) (text : List ℕ) (ended : ℕ)
     (tell : tells bytes text ended) (held holds : Held) where
   -- a command that has written what it tells of its input
-  pub told : (r : Result ℕ ToolFault) → IfOk r (EndsWith text ended held holds) → IfOk r (Told limit tells from to held holds)
-  told (Ok status) (written, same) = record {
+  pub report : (r : Result ℕ ToolFault) → IfOk r (EndsWith text ended held holds) → IfOk r (Reported limit tells from to held holds)
+  report (Ok status) (written, same) = record {
     bytes = bytes;
     read = read;
-    written = record { text = text; told = subst (tells bytes text) (sym same) tell; written = written };
+    written = record { text = text; report = subst (tells bytes text) (sym same) tell; written = written };
   }
-  told (Err fault) ends = tt
+  report (Err fault) ends = tt
 
   -- one that has not written all of it
   pub cut : (refuses : Refusal) (r : Result ℕ ToolFault) → IfErr r (IsCut extent text held holds) → IfErr r (Fails limit (Refuses extent tells refuses) from to held holds)

@@ -18,7 +18,7 @@ all_digits (d ∷ ds) e =
     let parts = both _ _ e in
     (ltb-true _ _ parts.0, all_digits ds parts.1)
 
--- the text is digits of a number of so many bits
+-- the text is digits of a number of this many bits
 abbrev passes : ℕ → List ℕ → Bool
 passes bits ds = nat_lt 0 (length ds) && (list_all (λ c. nat_lt (digit_value c) 10) ds && nat_lt (digits_value 10 ds) (2 ^ bits))
 

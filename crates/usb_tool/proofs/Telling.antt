@@ -66,19 +66,19 @@ pub no_dump_either : (r : Result DescriptorFile FileFault) (b : List ℕ) (with_
 no_dump_either (Ok f) b with_strings is h = tt
 no_dump_either (Err e) b with_strings is h = λ other. subst (λ s. IsNotTaken s b e) (sym is) (refused_both b e.at e.why h other)
 
--- what is told of a file that no device can be made of
-pub refusal_told : (c : Conditions) (f : DescriptorFile) (b : List ℕ) (fault : DescriptionFault) → IsTaken c.flags.with_strings f b
+-- what is reported of a file that no device can be made of
+pub refusal_reported : (c : Conditions) (f : DescriptorFile) (b : List ℕ) (fault : DescriptionFault) → IsTaken c.flags.with_strings f b
     → refusal_of f c.speed ≡ Some fault → Tells c b [] (refused_line fault) (ends.Refused fault)
-refusal_told c f b fault taken why =
-    record { file = f; taken = taken; told = inl (record { fault = fault; why = why; told = refl; ended = refl }, refl) }
+refusal_reported c f b fault taken why =
+    record { file = f; taken = taken; report = inl (record { fault = fault; why = why; report = refl; ended = refl }, refl) }
 
--- what is told of a run
-pub run_told : (c : Conditions) (f : DescriptorFile) (b : List ℕ) (run : Run) (log : List ℕ) → IsTaken c.flags.with_strings f b → Accepted f c.speed
+-- what is reported of a run
+pub run_reported : (c : Conditions) (f : DescriptorFile) (b : List ℕ) (run : Run) (log : List ℕ) → IsTaken c.flags.with_strings f b → Accepted f c.speed
     → IsRun c f run log → Tells c b log (run_text run.outcome run) (end_of run.outcome)
-run_told c f b run log taken accepted enumerated = record {
+run_reported c f b run log taken accepted enumerated = record {
   file = f;
   taken = taken;
-  told = inr (record { run = run; accepted = accepted; enumerated = enumerated; told = refl; ended = refl });
+  report = inr (record { run = run; accepted = accepted; enumerated = enumerated; report = refl; ended = refl });
 }
 
 -- a run over a bus of bytes or not, and with a log or not

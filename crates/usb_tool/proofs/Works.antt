@@ -25,10 +25,10 @@ pub more_lines_found : (found : List Finding) (more : List ℕ) → found ≢ []
 more_lines_found [] more some = absurd (some refl)
 more_lines_found (f ∷ found) more some = refl
 
--- what is told of an input
-pub work_told : (t : Task) (b bytes : List ℕ) (input : Input) → Gives t.source b bytes → form_of t.taken input bytes
+-- what is reported of an input
+pub work_reported : (t : Task) (b bytes : List ℕ) (input : Input) → Gives t.source b bytes → form_of t.taken input bytes
     → TellsWork t b (work_text t.work input bytes) (work_status t.work input bytes)
-work_told t b bytes input given taken = record { bytes = bytes; given = given; input = input; taken = taken; made = refl; ended = refl }
+work_reported t b bytes input given taken = record { bytes = bytes; given = given; input = input; taken = taken; made = refl; ended = refl }
 
 given_none : (s : Source) (extent : Extent) (tells : Telling) (refuses : Refusal) (b : List ℕ) (held : Held) (fault : ToolFault) → GivesNone s b fault
     → refuses b held held fault → Refuses extent tells refuses b held held fault
@@ -77,7 +77,7 @@ not_listed from to held r e is none = when_err r e _ is (by none)
 module _ (extent : Extent) (tells : Telling) (b text : List ℕ) (ended : ℕ) (tell : tells b text ended) (held holds : Held) where
   -- all of it was written
   pub all_written : (r : Result ℕ ToolFault) → IfOk r (EndsWith text ended held holds) → IfOk r (Writes Appends tells b held holds)
-  all_written (Ok status) (written, same) = record { text = text; told = subst (tells b text) (sym same) tell; written = written }
+  all_written (Ok status) (written, same) = record { text = text; report = subst (tells b text) (sym same) tell; written = written }
   all_written (Err fault) ends = tt
 
   -- or not

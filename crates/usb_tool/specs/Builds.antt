@@ -10,7 +10,7 @@ use Rattle.usb_listing.specs.Comments.{uncommented, CommentedFaulty}
 use Rattle.usb_listing.specs.Listing.{file_lines}
 use Rattle.usb_listing.specs.Listings.{ListFaulty}
 use Rattle.usb_text.specs.Output.{Held}
-use Rattle.usb_tool.specs.Endings.{AppendsNone, Fails, Left, Refusal, Refuses, Told}
+use Rattle.usb_tool.specs.Endings.{AppendsNone, Fails, Left, Refusal, Refuses, Reported}
 use Rattle.usb_command_line.specs.declared.building.Building.{Building}
 use Rattle.usb_tool.specs.declared.fault.ToolFault.{ToolFault}
 use Rattle.usb_tool.specs.declared.fault.ToolFault.TheVariants as faults
@@ -70,7 +70,7 @@ RefusesListing comments text held holds fault = ⊥
 
 -- all was read, and the bytes of the file that it lists were written
 abbrev pub Built : Building → Left → Left → Held → Held → ℕ → Type 0
-Built o = Told LISTING_LIMIT (TellsBuilt o)
+Built o = Reported LISTING_LIMIT (TellsBuilt o)
 
 -- how `build` fails: a prefix of that was written where a write failed, and else nothing
 abbrev pub BuildFails : Building → Left → Left → Held → Held → ToolFault → Type 0

@@ -4,7 +4,7 @@ use Rattle.std.specs.Int.{from_bool}
 use Rattle.std.specs.Io.KnownBytes.{Appends, IsAtEnd, Keeps}
 use Rattle.usb_capture.specs.declared.device_file.DeviceFile.{DeviceFile}
 use Rattle.usb_capture.specs.declared.device_file.DeviceFile.TheVariants.{File, Dump}
-use Rattle.usb_capture_lines.specs.RecordingRuns.{HasNoFile, MakesFile, ReadsOn, RecordingStops, RecordingTold}
+use Rattle.usb_capture_lines.specs.RecordingRuns.{HasNoFile, MakesFile, ReadsOn, RecordingStops, RecordingReported}
 use Rattle.usb_capture_lines.specs.declared.recording.DeviceFault.{DeviceFault}
 use Rattle.usb_capture_lines.specs.declared.recording.RecordingFault.{RecordingFault}
 use Rattle.usb_capture_lines.specs.declared.selection.DeviceAddress.{DeviceAddress}
@@ -35,16 +35,16 @@ pub record RefusesFile (device : DeviceAddress) (from to : Left) (held holds : H
   pub none : ReadsOn [] (λ bytes. HasNoFile device to bytes why) from to
   pub kept : Keeps held holds
 
--- why no more is told of a recording
+-- why no more is reported of a recording
 pub record StopsRecording (s : Selection) (from to : Left) (held holds : Held) (fault : ToolFault) : Type 0 where
   pub why : RecordingFault
   pub is : fault ≡ fault_of_recording why
   pub stopped : RecordingStops s from to held holds why
 
--- all was read and told, with status 1 where something was found
+-- all was read and reported, with status 1 where something was found
 pub record TellsRecording (s : Selection) (from to : Left) (held holds : Held) (status : ℕ) : Type 0 where
   pub found : Bool
-  pub told : RecordingTold s from to held holds found
+  pub report : RecordingReported s from to held holds found
   pub ended : status ≡ from_bool found
 
 -- what `capture` does

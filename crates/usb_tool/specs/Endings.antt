@@ -82,7 +82,7 @@ AppendsNone held holds text = Keeps held holds
 -- so much was written of a text that is reported of the bytes with this status
 pub record Writes (extent : Extent) (tells : Telling) (b : List ℕ) (held holds : Held) (status : ℕ) : Type 0 where
   pub text : List ℕ
-  pub told : tells b text status
+  pub report : tells b text status
   pub written : extent held holds text
 
 -- with some status
@@ -97,6 +97,6 @@ Refuses extent tells refuses b held holds faults.Memory = Keeps held holds ⊎ W
 Refuses extent tells refuses b held holds fault = refuses b held holds fault
 
 -- all was read, and all that is reported of it was written
-abbrev pub Told : ℕ → Telling → Left → Left → Held → Held → ℕ → Type 0
-Told limit tells from to held holds status =
+abbrev pub Reported : ℕ → Telling → Left → Left → Held → Held → ℕ → Type 0
+Reported limit tells from to held holds status =
     Succeeds limit (λ b held holds. Writes Appends tells b held holds status) from to held holds

@@ -99,7 +99,7 @@ run_text (Err trouble) run = trouble_line trouble run
 pub record TellsRefusal (c : Conditions) (f : DescriptorFile) (text : List ℕ) (end : EnumerationEnd) : Type 0 where
   pub fault : DescriptionFault
   pub why : refusal_of f c.speed ≡ Some fault
-  pub told : text ≡ refused_line fault
+  pub report : text ≡ refused_line fault
   pub ended : end ≡ Refused fault
 
 -- whether the bus carries bytes: bits change on it, or packets are shown
@@ -133,7 +133,7 @@ pub record TellsRun (c : Conditions) (f : DescriptorFile) (log text : List ℕ) 
   pub run : Run
   pub accepted : Accepted f c.speed
   pub enumerated : IsRun c f run log
-  pub told : text ≡ run_text run.outcome run
+  pub report : text ≡ run_text run.outcome run
   pub ended : end ≡ end_of run.outcome
 
 -- the bytes are those of the file, or, where strings are asked for, of a dump of which the file is made
@@ -145,7 +145,7 @@ IsTaken true f b = IsCompleted f b
 pub record Tells (c : Conditions) (b log text : List ℕ) (end : EnumerationEnd) : Type 0 where
   pub file : DescriptorFile
   pub taken : IsTaken c.flags.with_strings file b
-  pub told : (TellsRefusal c file text end × (log ≡ [])) ⊎ TellsRun c file log text end
+  pub report : (TellsRefusal c file text end × (log ≡ [])) ⊎ TellsRun c file log text end
 
 -- what comes of the bytes was written
 pub record WritesResult (c : Conditions) (b : List ℕ) (held holds : Held) (end : EnumerationEnd) : Type 0 where

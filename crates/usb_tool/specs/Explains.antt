@@ -142,7 +142,7 @@ RefusesText loose hex m b held holds fault =
     DoesWithText hex m b (λ manner heading bytes. RefusesAs loose manner heading bytes held holds fault)
     ⊎ (RefusesHex hex b fault × Keeps held holds)
 
--- bytes are told as a recording where the options don't say what they are, and they begin as one does
+-- bytes are reported as a recording where the options don't say what they are, and they begin as one does
 abbrev pub is_recording : Bool → Bool → List ℕ → Bool
 is_recording loose hex b = not loose && (not hex && begins_recording b)
 
@@ -160,7 +160,7 @@ abbrev pub RefusesBytes : Bool → Bool → Bool → Manner → Refusal
 RefusesBytes true loose hex m b held holds fault = (to : Left) × CaptureFails every_line (Some b) to held holds fault
 RefusesBytes false loose hex m b held holds fault = RefusesText loose hex m b held holds fault
 
--- all was read, at most what a file can have, and what it is taken for was told
+-- all was read, at most what a file can have, and what it is taken for was reported
 abbrev pub Explained : Bool → Bool → Manner → Left → Left → Held → Held → ℕ → Type 0
 Explained loose hex m from to held holds status =
     Succeeds FILE_LIMIT (λ b held holds. DoesWithBytes (is_recording loose hex b) loose hex m b held holds status) from to held holds

@@ -39,26 +39,26 @@ outcome_status (outcomes.Refused fault) = settings_status fault
 
 -- a line was written, with its line feed or a prefix of that
 abbrev pub ReportsLine : List ℕ → Held → Held → Type 0
-ReportsLine line errors told = AppendsFront errors told (line ++ 10 ∷ [])
+ReportsLine line errors report = AppendsFront errors report (line ++ 10 ∷ [])
 
 -- a line was written for a person, and for a program nothing
 abbrev pub ReportsMeaning : Audience → List ℕ → Held → Held → Type 0
-ReportsMeaning audiences.Program meaning errors told = Keeps errors told
-ReportsMeaning audiences.Person meaning errors told = ReportsLine meaning errors told
+ReportsMeaning audiences.Program meaning errors report = Keeps errors report
+ReportsMeaning audiences.Person meaning errors report = ReportsLine meaning errors report
 
 -- a line was written, and for a person another one below it that says what it means
 abbrev pub ReportsLines : Audience → List ℕ → List ℕ → Held → Held → Type 0
-ReportsLines audience line meaning errors told = (between : Held) × ReportsLine line errors between × ReportsMeaning audience meaning between told
+ReportsLines audience line meaning errors report = (between : Held) × ReportsLine line errors between × ReportsMeaning audience meaning between report
 
--- after an enumeration a person is told what its end means, if that isn't success
+-- after an enumeration a person reads what its end means, if that isn't success
 abbrev pub ReportsEnd : Audience → Bool → EnumerationEnd → Held → Held → Type 0
-ReportsEnd audience logged ends.Success errors told = Keeps errors told
-ReportsEnd audience logged (ends.Refused fault) errors told = ReportsMeaning audience (refusal_meaning fault) errors told
-ReportsEnd audience logged (ends.Trouble trouble) errors told = ReportsMeaning audience (trouble_meaning logged trouble) errors told
+ReportsEnd audience logged ends.Success errors report = Keeps errors report
+ReportsEnd audience logged (ends.Refused fault) errors report = ReportsMeaning audience (refusal_meaning fault) errors report
+ReportsEnd audience logged (ends.Trouble trouble) errors report = ReportsMeaning audience (trouble_meaning logged trouble) errors report
 
 -- a fault has its line, and a command that did its work has none
 abbrev pub Reports : Audience → Outcome → Held → Held → Type 0
-Reports audience (outcomes.Done number) errors told = Keeps errors told
-Reports audience (outcomes.Enumerated end logged) errors told = ReportsEnd audience logged end errors told
-Reports audience (outcomes.Failed fault hint) errors told = ReportsLines audience (fault_line fault) (meaning_line hint fault) errors told
-Reports audience (outcomes.Refused fault) errors told = ReportsLines audience (settings_line fault) (settings_meaning fault) errors told
+Reports audience (outcomes.Done number) errors report = Keeps errors report
+Reports audience (outcomes.Enumerated end logged) errors report = ReportsEnd audience logged end errors report
+Reports audience (outcomes.Failed fault hint) errors report = ReportsLines audience (fault_line fault) (meaning_line hint fault) errors report
+Reports audience (outcomes.Refused fault) errors report = ReportsLines audience (settings_line fault) (settings_meaning fault) errors report

@@ -49,9 +49,9 @@ line_status _ = 2
 -- a request for help or the version is answered on standard output, and each other line that is no command on standard
 -- error: there a prefix of a text is written, and on the other stream nothing
 abbrev pub Answers : ErrorKind → List ℕ → Held → Held → Held → Held → Type 0
-Answers kinds.DisplayHelp text held holds errors told = AppendsFront held holds text × Keeps errors told
-Answers kinds.DisplayVersion text held holds errors told = AppendsFront held holds text × Keeps errors told
-Answers _ text held holds errors told = Keeps held holds × AppendsFront errors told text
+Answers kinds.DisplayHelp text held holds errors report = AppendsFront held holds text × Keeps errors report
+Answers kinds.DisplayVersion text held holds errors report = AppendsFront held holds text × Keeps errors report
+Answers _ text held holds errors report = Keeps held holds × AppendsFront errors report text
 
 -- what a command does with its input and its output, and what it comes to
 abbrev pub Course : Type 1
@@ -60,7 +60,7 @@ Course = Left → Left → Held → Held → Outcome → Type 0
 -- it did its work, or it failed
 abbrev pub Ends : Hint → Work → Failure → Course
 Ends hint does fails from to held holds (outcomes.Done number) = does from to held holds number
-Ends hint does fails from to held holds (outcomes.Failed fault told) = fails from to held holds fault × (told ≡ hint)
+Ends hint does fails from to held holds (outcomes.Failed fault report) = fails from to held holds fault × (report ≡ hint)
 Ends hint does fails from to held holds outcome = ⊥
 
 -- options come to settings, and the command ended that they ask for
@@ -116,7 +116,7 @@ EndsCapture o =
 -- how an enumeration ends under these conditions
 abbrev pub EndsUnder : Conditions → Course
 EndsUnder c from to held holds (outcomes.Enumerated end logged) = EnumeratedTo c from to held holds end × (logged ≡ c.flags.log)
-EndsUnder c from to held holds (outcomes.Failed fault told) = EnumerateFails c from to held holds fault × (told ≡ enumerate_hint c.flags.with_strings)
+EndsUnder c from to held holds (outcomes.Failed fault report) = EnumerateFails c from to held holds fault × (report ≡ enumerate_hint c.flags.with_strings)
 EndsUnder c from to held holds outcome = ⊥
 
 abbrev pub EndsEnumeration : Options → Enumerating → Course
@@ -136,25 +136,25 @@ EndsLine (lines.Explain options) = EndsExplanation options
 EndsLine (lines.Capture options) = EndsCapture options
 
 -- the words are a line, what it asks for was done, and standard error has what is to be said of it
-pub record LineIsTaken (audience : Audience) (words : List (String Global)) (from to : Left) (held holds errors told : Held) (status : ℕ) : Type 0 where
+pub record LineIsTaken (audience : Audience) (words : List (String Global)) (from to : Left) (held holds errors report : Held) (status : ℕ) : Type 0 where
   pub line : Line
   pub outcome : Outcome
   pub asked : Asks line (subcommand_of usbdesc_app (word_texts words))
   pub ended : EndsLine line from to held holds outcome
-  pub reported : Reports audience outcome errors told
+  pub reported : Reports audience outcome errors report
   pub exits : status ≡ outcome_status outcome
 
 -- the words are no command, for one of the reasons that clap has, or memory is wanting; nothing is read, and a text is
 -- written, which clap leaves open
-pub record LineIsRefused (words : List (String Global)) (from to : Left) (held holds errors told : Held) (status : ℕ) : Type 0 where
+pub record LineIsRefused (words : List (String Global)) (from to : Left) (held holds errors report : Held) (status : ℕ) : Type 0 where
   pub kind : ErrorKind
   pub why : (kind ≡ kinds.OutOfMemory) ⊎ IsAmong kind (fault_of usbdesc_app (word_texts words))
   pub input : Keeps from to
   pub text : List ℕ
-  pub answered : Answers kind text held holds errors told
+  pub answered : Answers kind text held holds errors report
   pub ended : status ≡ line_status kind
 
 -- what a run has done, by who reads standard error, and its exit status
 abbrev pub Runs : Audience → List (String Global) → Left → Left → Held → Held → Held → Held → ℕ → Type 0
-Runs audience words from to held holds errors told status =
-    LineIsTaken audience words from to held holds errors told status ⊎ LineIsRefused words from to held holds errors told status
+Runs audience words from to held holds errors report status =
+    LineIsTaken audience words from to held holds errors report status ⊎ LineIsRefused words from to held holds errors report status

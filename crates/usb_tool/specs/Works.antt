@@ -11,7 +11,7 @@ use Rattle.usb_listing.specs.Listing.{input_lines}
 use Rattle.usb_remarks.specs.declared.speed.SetSpeed.{SetSpeed}
 use Rattle.usb_remarks.specs.PlacedRemarks.{remarks_text}
 use Rattle.usb_text.specs.Output.{AppendsLess, Held}
-use Rattle.usb_tool.specs.Endings.{AppendsNone, Extent, Fails, Left, Refusal, Refuses, Told}
+use Rattle.usb_tool.specs.Endings.{AppendsNone, Extent, Fails, Left, Refusal, Refuses, Reported}
 use Rattle.usb_tool.specs.Explains.{RefusesHex}
 use Rattle.usb_tool.specs.Inputs.{Faulty, FileShows, Form, IsFile, IsSetOrFile, OfInput, SetOrFileShows}
 use Rattle.usb_tool.specs.declared.fault.ToolFault.{ToolFault}
@@ -102,7 +102,7 @@ RefusesWork t b held holds fault = (GivesNone t.source b fault ⊎ ShowsFault t 
 
 -- all was read, at most what a file can have, and what the task makes of it was written
 abbrev pub Worked : Task → Left → Left → Held → Held → ℕ → Type 0
-Worked t = Told FILE_LIMIT (TellsWork t)
+Worked t = Reported FILE_LIMIT (TellsWork t)
 
 -- how a task fails: a prefix of the text was written where a write failed, and else nothing, but out of memory a part of a listing
 abbrev pub WorkFails : Task → Left → Left → Held → Held → ToolFault → Type 0

@@ -34,7 +34,7 @@ use usb_capture_lines::{DeviceAddress, Selection, read_device, tell_recording};
 /// # Errors
 ///
 /// `Read` where the reader failed, `TooLarge` after 2^64 - 1 pieces, and `Capture` with a fault of the recording: what is to be
-/// told of what came before is written then. `Lack` with what lacks for a file; nothing is written then. `Write` where the
+/// reported of what came before is written then. `Lack` with what lacks for a file; nothing is written then. `Write` where the
 /// writer or its flush failed, and `Memory`.
 pub fn run_capture<R: Read, W: Write>(
     alloc: Global,

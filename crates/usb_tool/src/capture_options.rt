@@ -171,7 +171,7 @@ fn fraction_of(text: &str) -> Option<u64>
     Some(scaled(number(text)?, text.len()))
 }
 
-/// The nanoseconds of a number that has so many digits after the point.
+/// The nanoseconds of a number that has this many digits after the point.
 fn scaled(number: u32, digits: usize) -> u64
     ensures value { result ≡ number * 10 ^ (9 - digits) }
     ensures few { result ≤ 4294967295000000000 }

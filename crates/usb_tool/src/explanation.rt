@@ -31,7 +31,7 @@ pub struct Explanation {
 /// Reads the input to its end, and writes what its descriptors mean, in words. The input is one configuration set, a
 /// descriptor file or a dump, as a [`Task`](crate::Task) takes any, or a fragment; or the hexadecimal text of one, which the
 /// first line then says. Of a text that is none the first line says what stopped it. The number in `Ok` is 0, whatever is found.
-/// What begins as a recording does is told as [`run_capture`](crate::run_capture) tells it without options, with its number, where it
+/// What begins as a recording does is reported as [`run_capture`](crate::run_capture) tells it without options, with its number, where it
 /// isn't taken for a fragment or for text.
 ///
 /// ```rust
@@ -84,7 +84,7 @@ fn explain_all<W: Write>(
 }
 
 /// Writes the explanation of the bytes, or of those of which they are the hexadecimal text.
-#[tactic(auto, using(crate::proofs::Hexadecimal::no_text, crate::proofs::Hexadecimal::told_of_text, crate::proofs::Hexadecimal::refused_of_text, crate::proofs::Hexadecimal::told_as_is, crate::proofs::Hexadecimal::refused_as_is, crate::proofs::Hexadecimal::text_refused, crate::proofs::Hexadecimal::text_unread))]
+#[tactic(auto, using(crate::proofs::Hexadecimal::no_text, crate::proofs::Hexadecimal::reported_of_text, crate::proofs::Hexadecimal::refused_of_text, crate::proofs::Hexadecimal::reported_as_is, crate::proofs::Hexadecimal::refused_as_is, crate::proofs::Hexadecimal::text_refused, crate::proofs::Hexadecimal::text_unread))]
 fn explain_text<W: Write>(
     alloc: Global,
     bytes: &[u8],

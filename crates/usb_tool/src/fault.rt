@@ -196,7 +196,7 @@ impl From<OutFault> for ToolFault {
     }
 }
 
-/// That of a recording that was told no further.
+/// That of a recording that was reported no further.
 impl From<RecordingFault> for ToolFault {
     ghost from_gives = { λ e fault. fault ≡ fault_of_recording e };
 

@@ -16,7 +16,7 @@
 //! changes bits. It answers the [`EnumerationEnd`], whose meaning is `specs/EnumerationEnds.antt`.
 //!
 //! [`run`] is the whole program over any standard streams: [`read_line`] reads its command line, what it asks for comes to an
-//! [`Outcome`], and the [`Audience`] of standard error is told of that (`specs/Outcomes.antt`).
+//! [`Outcome`], and the [`Audience`] of standard error is reported of that (`specs/Outcomes.antt`).
 //! [`ToolFault`] says why a command failed, and [`verdict`] gives the exit status. What a run does is `specs/Runs.antt`. Where
 //! its words could not be taken, [`refuse_words`] gives the line for standard error and the status.
 //!

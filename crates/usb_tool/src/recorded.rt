@@ -12,7 +12,7 @@ use std::io::Write;
 use usb_capture::begins_recording;
 use usb_capture_lines::Selection;
 
-/// Whether bytes are told as a recording: the options don't say what they are, and they begin as one does.
+/// Whether bytes are reported as a recording: the options don't say what they are, and they begin as one does.
 pub(crate) fn is_recording(bytes: &[u8], hex: bool, loose: bool) -> bool
     ensures { result ≡ is_recording loose hex bytes.now }
 {

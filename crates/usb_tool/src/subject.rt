@@ -93,12 +93,12 @@ impl<'b> Subject<'b> {
                 Ok(0)
             }
             Err(fault) => {
-                let told = ToolFault::from(*fault);
-                if told == ToolFault::Memory {
-                    return Err(told);
+                let report = ToolFault::from(*fault);
+                if report == ToolFault::Memory {
+                    return Err(report);
                 }
                 self.explain_read(alloc, read, w)?;
-                Err(told)
+                Err(report)
             }
         }
     }

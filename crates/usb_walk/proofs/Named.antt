@@ -19,7 +19,7 @@ joined : (b : Bool) (a : ℕ) (xs ys : List ℕ) → cond b (a ∷ (xs ++ ys)) (
 joined true a xs ys = refl
 joined false a xs ys = refl
 
--- those of so many numbers and of so many behind them
+-- those of this many numbers and of this many behind them
 split : (m : ℕ → Bool) (a n k : ℕ) → filter m (range_with_len a (n + k)) ≡ filter m (range_with_len a n) ++ filter m (range_with_len (a + n) k)
 split m a zero k =
     let one : 0 + k ≡ k = omega arith in
@@ -89,7 +89,7 @@ low_bit n = by (n % 2) (omega arith)
 next_bit : (n i : ℕ) → bit_at n (1 + i) ≡ bit_at (n / 2) i
 next_bit n i = ap (λ k. k % 2) (sym (shr-shr n 1 i))
 
--- the marks of so many numbers are the digits of one
+-- the marks of this many numbers are the digits of one
 ones_of : (k a n : ℕ) (m : ℕ → Bool) → n < 2 ^ k → ((i : ℕ) → i < k → m (a + i) ≡ (bit_at n i == 1)) → length (filter m (range_with_len a k)) ≡ count_ones n
 ones_of zero a n m below same =
     let none : n ≡ 0 = omega (arith, below) in

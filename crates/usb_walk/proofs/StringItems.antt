@@ -35,7 +35,7 @@ abbrev pub number_after : Role → ℕ → ℕ
 number_after roles.Text number = number + 1
 number_after role number = number
 
--- the strings among descriptors, behind those that named these indices, the list of languages and so many strings
+-- the strings among descriptors, behind those that named these indices, the list of languages and this many strings
 abbrev pub strings_from : List ℕ → List ℕ → ℕ → List TreeDescriptor → List IndexedString
 strings_from words list number [] = []
 strings_from words list number (t ∷ ts) =

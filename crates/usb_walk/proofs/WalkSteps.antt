@@ -69,7 +69,7 @@ pub behind_is : (b : List ℕ) (was : WalkedDescriptor) (n : Numbered) → (as_n
 unfolding as_numbers
 behind_is b was n = refl
 
--- what is said of a struct, and of the descriptors behind it, of which there are at most so many
+-- what is said of a struct, and of the descriptors behind it, of which there are at most this many
 abbrev pub Behind : Type 1
 Behind = ℕ → WalkedDescriptor → List Numbered → Type 0
 

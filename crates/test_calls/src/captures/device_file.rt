@@ -38,7 +38,7 @@ const OTHER: [u8; 36] = [
     9, 2, 18, 0, 1, 1, 0, 0x80, 0x33, 9, 4, 0, 0, 0, 0xff, 0, 0, 0,
 ];
 
-/// What is made of device 5 after so many lines.
+/// What is made of device 5 after this many lines.
 fn file_after(alloc: Global, lines: usize) -> Result<Result<DeviceFile, FileLack>, CaptureFault> {
     let (frames, _) = read_cut(alloc, LINES, 99)?;
     let mut readings = DeviceReadings::new(alloc);

@@ -57,7 +57,7 @@ fn was(
         && transfer.ended == ended
 }
 
-/// Whether it ended so, with these data of so many bytes.
+/// Whether it ended so, with these data of this many bytes.
 fn gave(
     transfer: &ControlTransfer,
     ending: Ending,

@@ -42,8 +42,8 @@ fn step_number(step: Step) -> (u8, u8) {
     }
 }
 
-fn heard_number(heard: Heard<'_>) -> (u8, usize) {
-    match heard {
+fn received_number(received: Heard<'_>) -> (u8, usize) {
+    match received {
         Heard::Again => (1, 0),
         Heard::Bytes(bytes) => {
             let bytes: &[u8] = bytes;
@@ -87,12 +87,12 @@ fn a_transfer(rt: HostRuntime) {
         stage: Stage::Setup([0x80, 6, 0, 1, 0, 0, 8, 0]),
     };
     assert_eq!(rt; next, Some(first));
-    let heard: Heard<'_> = transfer.take(Answer::Ack);
-    assert_eq!(rt; heard_number(heard), (1, 0));
+    let received: Heard<'_> = transfer.take(Answer::Ack);
+    assert_eq!(rt; received_number(received), (1, 0));
     let packet = [18, 1, 0, 2, 0, 0, 0, 8];
-    let heard = transfer.take(Answer::Data(Toggle::Data1, &packet));
-    assert_eq!(rt; heard_number(heard), (2, 8));
-    assert_eq!(rt; heard_number(transfer.take(Answer::Stall)), (3, 0));
+    let received = transfer.take(Answer::Data(Toggle::Data1, &packet));
+    assert_eq!(rt; received_number(received), (2, 8));
+    assert_eq!(rt; received_number(transfer.take(Answer::Stall)), (3, 0));
     assert_eq!(rt; transfer.next(), None);
 }
 
@@ -104,8 +104,8 @@ fn a_write(rt: HostRuntime) {
     }
     let mut write: Write = Write::new(5u8, 8u8, 16u16, setup);
     let data: [u8; 1] = [1];
-    let heard: Heard<'_> = write.take(Answer::Ack);
-    assert_eq!(rt; heard_number(heard), (1, 0));
+    let received: Heard<'_> = write.take(Answer::Ack);
+    assert_eq!(rt; received_number(received), (1, 0));
     let packet = Transaction {
         address: 5,
         stage: Stage::Out(Toggle::Data1, &data),
@@ -121,8 +121,8 @@ fn a_write(rt: HostRuntime) {
         (write.strikes(), write.nak_count(), write.is_untried()),
         (0, 0, false)
     );
-    let heard = write.take(Answer::Data(Toggle::Data1, &[]));
-    assert_eq!(rt; heard_number(heard), (3, 0));
+    let received = write.take(Answer::Data(Toggle::Data1, &[]));
+    assert_eq!(rt; received_number(received), (3, 0));
 }
 
 /// A device that answers nothing.

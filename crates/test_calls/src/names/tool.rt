@@ -163,19 +163,19 @@ fn commands(rt: HostRuntime) -> Outcome<()> {
     assert_eq!(rt; (verdict(&status), built.as_slice()), (0, bytes.as_slice()));
 
     let mut input: &[u8] = &bytes;
-    let mut told: Vec<u8> = Vec::new(rt.alloc());
+    let mut report: Vec<u8> = Vec::new(rt.alloc());
     let limits = Limits::new(1, 16, 3)?;
     let fates: &[Fate] = &[Fate::LostDown];
     let status: Result<u8, ToolFault> = run_enumerate(
         rt.alloc(),
         &mut input,
-        &mut told,
+        &mut report,
         limits,
         Speed::Full,
         fates,
     );
     assert_eq!(rt; verdict(&status), 0);
-    assert!(rt; told.starts_with(b"success attempts 1 transactions 32 address 1 value 1\n"));
+    assert!(rt; report.starts_with(b"success attempts 1 transactions 32 address 1 value 1\n"));
     Ok(())
 }
 
@@ -282,8 +282,8 @@ fn a_recording(rt: HostRuntime) -> Outcome<()> {
     // No frame, and no device.
     let mut text = Vec::new(alloc);
     let mut input: &[u8] = &[];
-    let told: Result<u8, ToolFault> = run_capture(alloc, &mut input, &mut text, command);
-    assert_eq!(rt; told?, 0);
+    let report: Result<u8, ToolFault> = run_capture(alloc, &mut input, &mut text, command);
+    assert_eq!(rt; report?, 0);
     assert_eq!(rt; text.as_slice(), b"0 frames\n".as_slice());
     let device = DeviceAddress { bus: 1, device: 5 };
     let file = CaptureCommand::File(device);

@@ -16,13 +16,13 @@ use Rattle.usb_host.specs.Plan.{Plan}
 use Rattle.usb_host.specs.declared.transfer.TransferStage.TheVariants.{DataOut}
 use Rattle.usb_host.specs.Transfer.{TransferView, stage_after_setup, taken}
 use Rattle.usb_device.specs.Step.{DeviceView}
-use Rattle.usb_bus.specs.Bus.{HostEnd, hears}
+use Rattle.usb_bus.specs.Bus.{HostEnd, receives_reply}
 use Rattle.usb_bus.specs.Attempt.{no_data, Phase, Running, Succeeded, Broken, advance}
 use Rattle.usb_host.specs.Place.{Place, First, Reported, Stopped}
 use Rattle.usb_host.specs.Keeping.{Kept, Bytes, Set}
 use Rattle.usb_host.specs.Order.{asks, forgiven_by, leads, next, stopped}
 use Rattle.usb_host.specs.Gathered.{reached}
-use Rattle.usb_host.specs.Steps.{HostPhase, Reading, Ended, Grows, LacksMemory, TakesHeard}
+use Rattle.usb_host.specs.Steps.{HostPhase, Reading, Ended, Grows, LacksMemory, TakesReceived}
 use Rattle.usb_host.specs.inside.Sound.{FitsPlace}
 
 -- Readers of sets.
@@ -85,10 +85,10 @@ module _ (set_of : List ℕ → Option Configuration) (limits : LimitView) (term
   StaysImage =
       (replies : List Reply) (h : HostEnd) (d : DeviceView) (place : Place) (t : TransferView) (k : Kept) (answer : Answer) (new : HostPhase)
       (before after : List Trouble) → IsImage replies (Running h) (Reading place t k) →
-      TakesHeard limits terms place k (taken t answer) new before after →
-      ((result : Result Progress SetFault) × (LacksMemory (taken t answer).heard k result ⊎ Grows terms.choice.strings (taken t answer).heard place)
+      TakesReceived limits terms place k (taken t answer) new before after →
+      ((result : Result Progress SetFault) × (LacksMemory (taken t answer).received k result ⊎ Grows terms.choice.strings (taken t answer).received place)
       × (new ≡ Ended (stopped place Memory)))
-      ⊎ (let e = hears false h answer in
+      ⊎ (let e = receives_reply false h answer in
       let x = advance plan_of limits.naks no_data replies e e.transfer.stage d in
       IsImage x.replies x.phase new
       × (before ≡ passed_over set_of terms First replies → after ≡ passed_over set_of terms First x.replies))

@@ -119,7 +119,7 @@ point plan naks sends answer cut fates k zero x = x
 point plan naks sends answer cut fates k (suc n) x =
     point plan naks sends answer cut fates (suc k) n (attempt_step plan naks sends answer cut (fate_at fates k) x.replies x.phase x.device)
 
--- a transaction is due at each of the n points from x on, which is that before transaction k
+-- a transaction comes next at each of the n points from x on, which is that before transaction k
 abbrev pub AreDue : (List Reply → Plan) → ℕ → (List Reply → List ℕ) → (State → SetupPacket → Outcome) → ℕ → List Fate → ℕ → ℕ → Attempt → Type 0
 AreDue plan naks sends answer cut fates k n x =
     (i : ℕ) → i < n → (sent : Sent) × (let y = point plan naks sends answer cut fates k i x in due_in (sends y.replies) y.phase ≡ Some sent)

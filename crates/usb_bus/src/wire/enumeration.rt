@@ -74,7 +74,7 @@ pub(crate) fn step_bytes<O: Observer>(
 /// A damage that no check finds arrives as what it became. Two changed bits make a NAK of an ACK.
 ///
 /// ```rust
-/// // A bit of the data of the first SETUP: its CRC finds that, so the host hears nothing, and asks again.
+/// // A bit of the data of the first SETUP: its CRC finds that, so the host receives nothing, and asks again.
 /// let changes = [BitChange {
 ///     transaction: 1,
 ///     packet: 2,

@@ -3,7 +3,7 @@ ghost use Rattle.std.specs.Prelude.{◌≡◌, ◌==◌, ◌&&◌, ◌<◌, IfSo
 ghost use Rattle.usb_fields.specs.Packets.{SetupToken, reply_of, sent_of, token_of};
 ghost use Rattle.usb_wire.specs.Packets.{IsLegal, view_of};
 ghost use Rattle.usb_device.specs.Replies.{HasRoom};
-ghost use Rattle.usb_bus.specs.Wire.{Receives, ack_packet, data_kind, data_packet, heard_reply, heard_sent, heard_token, is_ack, reply_packet, token_packet};
+ghost use Rattle.usb_bus.specs.Wire.{Receives, ack_packet, data_kind, data_packet, received_reply, received_sent, received_token, is_ack, reply_packet, token_packet};
 ghost use Rattle.usb_bus.specs.Damaged.{HasLegalData, IsTakenOf, arriving, bits_of, fitting, reply_number};
 
 use crate::wire::change::{BitChange, change_bits};
@@ -134,7 +134,7 @@ pub(crate) fn reply_packet<'a>(answer: Answer<'a>) -> Option<Packet<'a>>
     }
 }
 
-/// A host's ACK of an answer, where it is due.
+/// A host's ACK of an answer, where it comes next.
 pub(crate) fn ack_packet(came: Answer<'_>) -> Option<Packet<'static>>
     ensures packet { option_map view_of result ≡ ack_packet (reply_of came.entry) }
     ensures legal { IfSome result (λ p. IsLegal (view_of p)) }
@@ -154,25 +154,27 @@ fn data_kind(toggle: Toggle) -> DataKind
     }
 }
 
-/// What a device hears of a token to its endpoint zero, and of what came after it.
-pub(crate) fn heard<'b>(
+/// What a device receives of a token to its endpoint zero, and of what came after it.
+pub(crate) fn received<'b>(
     token: Option<Packet<'_>>,
     after: Option<Packet<'b>>,
 ) -> Option<Transaction<'b>>
-    ensures { option_map sent_of result ≡ fitting (heard_sent (option_map view_of token.entry) (option_map view_of after.entry)) }
+    ensures { option_map sent_of result ≡ fitting (received_sent (option_map view_of token.entry) (option_map view_of after.entry)) }
 {
     match token {
-        Some(Packet::Token(kind, to)) if to.endpoint == 0 => heard_after(kind, to.address, after),
+        Some(Packet::Token(kind, to)) if to.endpoint == 0 => received_after(
+            kind, to.address, after,
+        ),
         _ => None,
     }
 }
 
-fn heard_after<'b>(
+fn received_after<'b>(
     kind: TokenKind,
     address: u8,
     after: Option<Packet<'b>>,
 ) -> Option<Transaction<'b>>
-    ensures { option_map sent_of result ≡ fitting (heard_token kind address (option_map view_of after.entry)) }
+    ensures { option_map sent_of result ≡ fitting (received_token kind address (option_map view_of after.entry)) }
 {
     let stage = match (kind, after) {
         (TokenKind::In, _) => Stage::In,
@@ -183,7 +185,7 @@ fn heard_after<'b>(
             Stage::Out(Toggle::Data1, bytes)
         }
         (TokenKind::Setup, Some(Packet::Data(DataKind::Data0, bytes))) => {
-            return heard_setup(address, bytes);
+            return received_setup(address, bytes);
         }
         _ => return None,
     };
@@ -191,7 +193,7 @@ fn heard_after<'b>(
 }
 
 /// A SETUP with these bytes, which are 8.
-fn heard_setup<'b>(address: u8, bytes: &'b [u8]) -> Option<Transaction<'b>>
+fn received_setup<'b>(address: u8, bytes: &'b [u8]) -> Option<Transaction<'b>>
     ensures { option_map sent_of result ≡ fitting (Some (record { address = address; token = SetupToken bytes.now })) }
 {
     match <&[u8; 8]>::try_from(bytes) {
@@ -203,9 +205,9 @@ fn heard_setup<'b>(address: u8, bytes: &'b [u8]) -> Option<Transaction<'b>>
     }
 }
 
-/// What a host hears of an answer: what is none is silence.
-pub(crate) fn heard_answer<'b>(reply: Option<Packet<'b>>) -> Answer<'b>
-    ensures { reply_of result ≡ heard_reply (option_map view_of reply.entry) }
+/// What a host receives of an answer: what is none is silence.
+pub(crate) fn received_answer<'b>(reply: Option<Packet<'b>>) -> Answer<'b>
+    ensures { reply_of result ≡ received_reply (option_map view_of reply.entry) }
 {
     match reply {
         Some(Packet::Handshake(Handshake::Ack)) => Answer::Ack,
@@ -217,7 +219,7 @@ pub(crate) fn heard_answer<'b>(reply: Option<Packet<'b>>) -> Answer<'b>
     }
 }
 
-/// Whether a device hears a host's ACK.
+/// Whether a device receives a host's ACK.
 pub(crate) fn is_ack(ack: Option<Packet<'_>>) -> bool
     ensures { result ≡ is_ack (option_map view_of ack.entry) }
 {

@@ -7,7 +7,6 @@ use Rattle.std.specs.Box.Ownership.{box_owns}
 use Rattle.std.specs.contracts.impls.GlobalAllocator.TheImpl.{ghosts}
 use Rattle.std.specs.declared.alloc.Global.{Global}
 use Rattle.std.specs.declared.boxed.Box.{Box}
-use Rattle.usb_c.specs.declared.loose.Loose.{Loose}
 
 -- the pointer is null, or that of a block which holds this value
 abbrev pub owned : (R : RattleType) → Global → Ptr → Option R.Denot → Fml
@@ -18,7 +17,3 @@ owned R a p (Some x) = box_owns (ghosts.dealloc_token a) R p x
 abbrev pub held_by : {T : Type 0} → Option (Box T Global) → Option T
 held_by None = None
 held_by (Some b) = Some b.value
-
-abbrev pub loosely_held : {T : Type 0} → Option (Loose T Global) → Option T
-loosely_held None = None
-loosely_held (Some b) = Some b.value

@@ -75,7 +75,7 @@ fn data_tag(word: &[u8]) -> Option<u8>
     Some(if letter == b'=' { 0 } else { letter })
 }
 
-/// So many bytes in words of four, and zeros.
+/// This many bytes in words of four, and zeros.
 #[tactic(auto, unfolding(crate::specs::UsbmonText::bytes_in))]
 fn bytes_in(count: u8, text: &[u8]) -> Option<[u8; MOST]>
     requires { count ≤ 32 }
@@ -88,7 +88,7 @@ fn bytes_in(count: u8, text: &[u8]) -> Option<[u8; MOST]>
     Some(bytes)
 }
 
-/// The byte after so many.
+/// The byte after this many.
 #[tactic(auto, unfolding(crate::specs::UsbmonText::byte_in))]
 fn byte_in(number: u8, text: &[u8]) -> Option<u8>
     ensures { result ≡ byte_in number text.now }

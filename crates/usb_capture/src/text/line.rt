@@ -12,6 +12,9 @@ use crate::usbmon;
 use std::alloc::{AllocError, Global};
 use usb_fields::{Sequence, prefix};
 
+/// The most bytes of the frame that says what a line says.
+const MOST_BYTES: usize = 96;
+
 /// What a line says.
 #[derive(Clone, Copy, Debug)]
 pub(crate) struct Line {
@@ -74,7 +77,7 @@ impl Line {
     fn to_bytes(&self, alloc: Global) -> Result<Vec<u8>, AllocError>
         ensures { IfOk result (λ bytes. bytes.items ≡ bytes_of_line self.now) }
     {
-        let mut bytes = Vec::new(alloc);
+        let mut bytes = Vec::with_capacity(alloc, MOST_BYTES)?;
         self.put_beginning(&mut bytes)?;
         self.put_end(&mut bytes)?;
         bytes.extend_from_slice(prefix(&self.data.bytes, usize::from(self.data.count)))?;

@@ -35,7 +35,7 @@ pub(crate) fn after_parts(byte: u8, count: u8, text: &[u8]) -> &[u8]
     rest
 }
 
-/// The part after so many.
+/// The part after this many.
 #[tactic(auto, unfolding(crate::specs::Words::part))]
 pub(crate) fn part(byte: u8, number: u8, text: &[u8]) -> &[u8]
     ensures { result.now ≡ part byte number text.now }

@@ -1,4 +1,4 @@
-//! The data stage of a transfer: the bytes that are sent, and the packet that is due.
+//! The data stage of a transfer: the bytes that are sent, and the next packet.
 ghost use Rattle.std.specs.Prelude.{◌≡◌, ◌≤◌, ◌/◌, ℕ, List, suc, length, take, drop};
 ghost use Rattle.usb_fields.specs.Packets.{packets};
 ghost use Rattle.usb_fields.specs.declared.packet.Toggle.TheVariants.{Data1};
@@ -14,7 +14,7 @@ use usb_fields::{Toggle, after, prefix};
 impl EndpointZero {
     ghost use Rattle.usb_device.specs.View.{acknowledged, device_of, packet_due, IsOf};
 
-    /// Begins to send so many bytes of a source.
+    /// Begins to send this many bytes of a source.
     pub(super) fn begin_data(&mut self, source: Source, count: usize)
         ensures stage { stage_at self.new.stage ≡ Stage.Sending }
         ensures source { source_at self.new.source ≡ source }
@@ -28,7 +28,7 @@ impl EndpointZero {
         self.toggle = toggle_number(Toggle::Data1);
     }
 
-    /// The packet that was due was acknowledged: another is due then, or the status stage.
+    /// The packet that came next was acknowledged: another one comes then, or the status stage.
     #[inline(always)]
     pub(super) fn go_on(&mut self, image: Image<'_>)
         requires sending { stage_at self.old.stage ≡ Stage.Sending }
@@ -56,7 +56,7 @@ impl EndpointZero {
         }
     }
 
-    /// The bytes of the packet that is due, or none.
+    /// The bytes of the next packet, or none.
     #[inline(always)]
     pub fn packet<'a>(&'a self, image: Image<'a>, room: &'a [u8]) -> &'a [u8]
         ensures short { length result.now ≤ packet_in image.entry.bytes.now }

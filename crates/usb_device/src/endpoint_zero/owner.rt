@@ -61,7 +61,7 @@ impl EndpointZero {
         Ok(())
     }
 
-    /// Accepts that request, or the data of a write: as [`Device::accept`](crate::Device::accept), with a room of so many
+    /// Accepts that request, or the data of a write: as [`Device::accept`](crate::Device::accept), with a room of this many
     /// bytes.
     ///
     /// # Errors
@@ -164,7 +164,7 @@ impl EndpointZero {
         bytes: &[u8],
     ) -> bool
         requires other { has_status_out (stage_at self.old.stage) ≡ false }
-        requires heard { self.old.pending ≡ false }
+        requires received { self.old.pending ≡ false }
         ensures reply { IsOf image.entry.bytes.now room.old self.old → (if result then AckReply else StallReply) ≡ (received_by image.entry.bytes.now room.old self.old toggle bytes.now).reply }
         ensures device { IsOf image.entry.bytes.now room.old self.old → device_of image.entry.bytes.now room.new self.new ≡ (received_by image.entry.bytes.now room.old self.old toggle bytes.now).device }
         ensures of { IsOf image.entry.bytes.now room.old self.old → IsOf image.entry.bytes.now room.new self.new }
@@ -186,7 +186,7 @@ impl EndpointZero {
     #[tactic(auto, using(crate::proofs::WriteLemmas::writes))]
     fn gathers(&mut self, image: Image<'_>, room: &mut [u8], toggle: Toggle, bytes: &[u8]) -> bool
         requires at { stage_at self.old.stage ≡ Stage.Receiving }
-        requires heard { self.old.pending ≡ false }
+        requires received { self.old.pending ≡ false }
         ensures reply { IsOf image.entry.bytes.now room.old self.old → (if result then AckReply else StallReply) ≡ (received_by image.entry.bytes.now room.old self.old toggle bytes.now).reply }
         ensures device { IsOf image.entry.bytes.now room.old self.old → device_of image.entry.bytes.now room.new self.new ≡ (received_by image.entry.bytes.now room.old self.old toggle bytes.now).device }
         ensures of { IsOf image.entry.bytes.now room.old self.old → IsOf image.entry.bytes.now room.new self.new }

@@ -49,7 +49,7 @@ next_part f rest =
 -- What the laws of usb_fields and usb_set say of the parts of a file.
 
 -- The bytes of a part are those of one part, and bytes without a fault are those of some part. Of bytes where
--- a set is due exactly one holds: a set begins them, they show one fault, or they are open.
+-- a set comes next exactly one holds: a set begins them, they show one fault, or they are open.
 pub record PartLaws : Type 0 where
   pub one_device : (d e : DeviceDescriptor) → device_bytes d ≡ device_bytes e → d ≡ e
   pub device_written : (b : List ℕ) → AreBytes b → device_fault b ≡ None → (d : DeviceDescriptor) × (device_bytes d ≡ b)

@@ -12,7 +12,7 @@ abbrev pub is_other : Owner → ℕ → Bool
 is_other (owners.One m) n = not (m == n)
 is_other owners.Several n = true
 
--- the interface number of the setting in work, the addresses that it has, and of each address and each number
+-- the interface number of the current setting, the addresses that it has, and of each address and each number
 -- whether another number of the set has the address
 pub record Claims : Type 0 where
   pub number : ℕ
@@ -31,7 +31,7 @@ begun n t = record t { number = n; here = unmarked }
 unfoldable pub owned_at : ℕ → (ℕ → ℕ → Bool) → ℕ → ℕ → ℕ → Bool
 owned_at n t a b m = (not (n == m) && (a == b)) || t b m
 
--- the setting in work has the address
+-- the current setting has the address
 abbrev pub claimed : ℕ → Claims → Claims
 claimed a t = record t { here = marked t.here a; elsewhere = owned_at t.number t.elsewhere a }
 

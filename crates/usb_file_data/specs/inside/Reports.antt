@@ -5,7 +5,8 @@ use Rattle.usb_file_data.specs.declared.finding.Finding.{Finding}
 use Rattle.usb_file_data.specs.Causes.{Broken}
 use Rattle.usb_file_data.specs.Findings.{found}
 
--- what was reported so far, in the order of the walk, and the number of the descriptor that it is at
+-- what was reported so far, in the order of the walk, and the number of the descriptor that it is at, where causes are
+-- asked for, and else 0
 pub record Reported : Type 0 where
   pub has_causes : Bool
   pub found : List Found
@@ -22,6 +23,11 @@ abbrev pub without_causes : Bool → List Broken → List Finding
 without_causes true broken = []
 without_causes false broken = map (λ b. b.finding) broken
 
+-- the number of the descriptor that many later, where causes are asked for
+abbrev pub counted : Bool → ℕ → ℕ → ℕ
+counted true n number = number + n
+counted false n number = number
+
 -- nothing yet, at the first descriptor
 abbrev pub none_reported : Bool → Reported
 none_reported has_causes = record { has_causes = has_causes; found = []; findings = []; descriptor = 0 }
@@ -35,9 +41,9 @@ reported r broken = record {
   descriptor = r.descriptor;
 }
 
--- so many descriptors later
+-- past this many descriptors
 abbrev pub passed : ℕ → Reported → Reported
-passed n r = record r { descriptor = r.descriptor + n }
+passed n r = record r { descriptor = counted r.has_causes n r.descriptor }
 
 -- past descriptors, each of which breaks these rules
 unfoldable pub walked : Reported → List (List Broken) → Reported

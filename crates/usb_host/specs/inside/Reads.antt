@@ -1,4 +1,4 @@
--- A read in work, as the code holds it.
+-- A current read, as the code holds it.
 use Rattle.std.specs.Prelude.{◌≡◌, ◌≤◌, false, if◌then◌else◌, List, length, Option, Some, None, Result, ℕ, ◌<◌, Bool}
 use Rattle.usb_set.specs.declared.fault.SetFault.{SetFault}
 use Rattle.usb_set.specs.declared.decoder.Progress.{Progress}
@@ -8,7 +8,7 @@ use Rattle.usb_host.specs.declared.why.Why.TheVariants.{Stalled, Memory}
 use Rattle.usb_host.specs.declared.transfer.TransferStage.{TransferStage}
 use Rattle.usb_host.specs.declared.transfer.TransferStage.TheVariants as stages
 use Rattle.usb_host.specs.Limits.{LimitView}
-use Rattle.usb_host.specs.Transfer.{TransferView, Hearing, Goes, Brings, Completes, Fails, Taken}
+use Rattle.usb_host.specs.Transfer.{TransferView, HeardView, Goes, Brings, Completes, Fails, Taken}
 use Rattle.usb_host.specs.Place.{Place}
 use Rattle.usb_host.specs.Keeping.{Kept}
 use Rattle.usb_host.specs.Keeping as kept
@@ -16,7 +16,7 @@ use Rattle.usb_host.specs.declared.current_read.Ending.{Ending}
 use Rattle.usb_host.specs.declared.current_read.Ending.TheVariants as endings
 use Rattle.usb_host.specs.declared.current_read.CurrentRead.{CurrentRead}
 use Rattle.usb_host.specs.Order.{stopped, refused_leads}
-use Rattle.usb_host.specs.Steps.{HostPhase, ResetDue, Reading, Ended, KeepsHeard, LacksMemory, completed_leads, enter, HostView}
+use Rattle.usb_host.specs.Steps.{HostPhase, ResetDue, Reading, Ended, KeepsReceived, LacksMemory, completed_leads, enter, HostView}
 use Rattle.usb_host.specs.inside.Sound.{IsGood, FitsPlace, KeepsBytes}
 use Rattle.usb_host.specs.inside.Places.{is_end, Leads, place_of, kept_of}
 use Rattle.usb_host.specs.declared.host.Host.TheInside.{Inside}
@@ -25,7 +25,7 @@ use Rattle.usb_host.specs.declared.host.Host.TheInside.{Inside}
 abbrev pub place_in : CurrentRead → Place
 place_in r = place_of r.due r.draft
 
--- what is kept of the read in work
+-- what is kept of the current read
 abbrev pub kept_in : CurrentRead → Kept
 kept_in r = kept_of r.due r.held
 
@@ -40,7 +40,7 @@ abbrev pub IsCounted : TransferView → Kept → Type 0
 IsCounted t (kept.Bytes bytes) = (length bytes ≤ t.kept) × (t.request.length ≤ 255)
 IsCounted t (kept.Set d over) = Unit {0}
 
--- what holds of a read in work
+-- what holds of a current read
 pub record IsReading (place : Place) (t : TransferView) (k : Kept) : Type 0 where
   pub good : IsGood place
   pub is_read : is_end place ≡ false
@@ -49,19 +49,19 @@ pub record IsReading (place : Place) (t : TransferView) (k : Kept) : Type 0 wher
   pub going : IsGoing t.stage
   pub counted : IsCounted t k
 
--- how a read ends, by what was heard and what a decoder answered
-abbrev pub EndsBy : Kept → Hearing → Result Progress SetFault → Option Ending → Type 0
+-- how a read ends, by what was received and what a decoder answered
+abbrev pub EndsBy : Kept → HeardView → Result Progress SetFault → Option Ending → Type 0
 EndsBy old Goes result None = Unit {0}
 EndsBy old (Brings bytes) result None = LacksMemory (Brings bytes) old result → ⊥
 EndsBy old (Brings bytes) result (Some (endings.Failed why)) = (why ≡ Memory) × LacksMemory (Brings bytes) old result
 EndsBy old Completes result (Some endings.Completed) = Unit {0}
 EndsBy old (Fails why) result (Some (endings.Failed w)) = w ≡ why
-EndsBy old heard result ending = ⊥
+EndsBy old received result ending = ⊥
 
--- an answer is heard: what is kept changes, and the read goes on or ends
-abbrev pub Hears : Kept → Taken → TransferView → Kept → Option Ending → Type 0
-Hears old by transfer new ending =
-    (transfer ≡ by.transfer) × ((result : Result Progress SetFault) × KeepsHeard old by.heard result new × EndsBy old by.heard result ending)
+-- an answer is received: what is kept changes, and the read goes on or ends
+abbrev pub TakesProgress : Kept → Taken → TransferView → Kept → Option Ending → Type 0
+TakesProgress old by transfer new ending =
+    (transfer ≡ by.transfer) × ((result : Result Progress SetFault) × KeepsReceived old by.received result new × EndsBy old by.received result ending)
 
 -- where a read leads to that has ended, with the troubles that are passed over, or memory was wanting
 abbrev pub LeadsOn : Terms → Place → TransferView → Kept → Ending → Place → List Trouble → List Trouble → Type 0
@@ -84,7 +84,7 @@ standing place t k = if is_end place then Ended place else Reading place t k
 abbrev pub stands : CurrentRead → HostPhase
 stands r = standing (place_in r) r.transfer (kept_in r)
 
--- what holds of a host's phase: of a read in work this
+-- what holds of a host's phase: of a current read this
 abbrev pub IsStanding : HostPhase → Type 0
 IsStanding ResetDue = Unit {0}
 IsStanding (Reading place t k) = IsReading place t k
@@ -92,7 +92,7 @@ IsStanding (Ended place) = Unit {0}
 
 -- A host, as the code holds it.
 
--- a reset that is due, or where the read stands
+-- a reset that comes next, or where the read stands
 abbrev pub phase_in : Bool → Place → TransferView → Kept → HostPhase
 phase_in reset_due place t k = if reset_due then ResetDue else standing place t k
 
@@ -108,7 +108,7 @@ view_of h =
       forgiven = h.reading.forgiven;
     }
 
--- a reset is due only while attempts are left, and a read in work is sound
+-- a reset is requested only while attempts are left, and a current read is sound
 abbrev pub IsPhase : ℕ → ℕ → HostPhase → Type 0
 IsPhase attempts resets ResetDue = resets < attempts
 IsPhase attempts resets (Reading place t k) = IsReading place t k

@@ -22,7 +22,7 @@ use Rattle.usb_host.specs.Limits.{LimitView}
 use Rattle.usb_host.specs.Transfer.{TransferView, taken, left}
 use Rattle.usb_host.specs.Cost.{most, left_to_ask, BringsBytes}
 
--- What every host keeps that has heard bytes.
+-- What every host keeps that has received bytes.
 
 -- what every place keeps, whatever was replied: packets have 8 bytes at least, and what is read was declared
 abbrev pub IsGood : Place → Type 0
@@ -51,7 +51,7 @@ abbrev pub KeepsBytes : Kept → Type 0
 KeepsBytes (kept.Bytes bytes) = AreBytes bytes
 KeepsBytes (kept.Set d over) = Unit {0}
 
--- what holds of every host that has heard bytes
+-- what holds of every host that has received bytes
 abbrev pub IsSteady : HostPhase → Type 0
 IsSteady ResetDue = Unit {0}
 IsSteady (Reading place t k) = IsGood place × FitsPlace place k × KeepsBytes k
@@ -119,7 +119,7 @@ Holds texts (Stopped trouble) b = Unit {0}
 
 -- What may still be asked for falls with each answer.
 
--- A new host asks for at most `most` transactions, a reset adds none, and each answer that a read in work takes lowers
+-- A new host asks for at most `most` transactions, a reset adds none, and each answer that a current read takes lowers
 -- what is left, whatever it is. The premise on `left` is what one transfer promises.
 pub record AsksLess : Type 0 where
   pub at_most : (limits : LimitView) (speed : Speed) (choice : Choice) → left_to_ask (chosen_host limits speed choice) ≡ most limits

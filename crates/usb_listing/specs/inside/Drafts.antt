@@ -134,6 +134,6 @@ pub record TakesLine (form : Form) (old : Option Draft) (rest : List ℕ) (new :
   pub takes : Takes (line_read form line) old new
 
 -- out of memory at a line whose word may stand there, or the fault of the text after the lines so far
-abbrev pub Told : Option DescriptorFile → List ℕ → ListWhy → Type 0
-Told s rest whys.Memory = IsPlaced s rest
-Told s rest why = RestFaulty s rest why
+abbrev pub Reported : Option DescriptorFile → List ℕ → ListWhy → Type 0
+Reported s rest whys.Memory = IsPlaced s rest
+Reported s rest why = RestFaulty s rest why

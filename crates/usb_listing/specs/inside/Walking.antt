@@ -30,7 +30,7 @@ pub record Cut (c : ℕ) (text line more : List ℕ) : Type 0 where
   pub parts : text ≡ line ++ c ∷ more
   pub none : HasNo c line
 
--- whether no string is due any more, of `total` where the languages are there
+-- whether no string comes next any more, of `total` where the languages are there
 abbrev pub has_all_strings : DescriptorFile → Option Strings → ℕ → Bool
 has_all_strings f None total = length (named_indices f) == 0
 has_all_strings f (Some s) total = length s.texts == total
@@ -118,7 +118,7 @@ walk w (x ∷ text) = walk (walk_byte w x) text
 abbrev pub fault_behind : ℕ → ListWhy → ListFault
 fault_behind lines why = record { line = lines + 1; why = why }
 
--- the end of the text, where no line is in work
+-- the end of the text, where there is no current line
 abbrev pub file_end : Option DescriptorFile → ℕ → Result DescriptorFile ListFault
 file_end None lines = Err (fault_behind lines whys.Missing)
 file_end (Some f) lines = if is_whole (Some f) then Ok f else Err (fault_behind lines whys.Missing)

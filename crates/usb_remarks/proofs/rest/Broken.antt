@@ -29,12 +29,12 @@ use Rattle.usb_file_data.specs.declared.fault.InputFault.TheVariants as faults
 use Rattle.usb_file_data.specs.FileFaults.{FileFaulty, NextPart, a_set, a_qualifier, the_languages, a_string, the_end, PartFaulty, SetFaulty, fixed_fault, is_no_string, string_fault}
 use Rattle.usb_file_data.specs.Inputs.{DeviceRefused, HasFault, InputRefused}
 use Rattle.usb_walk.specs.declared.role.Role.TheVariants as roles
-use Rattle.usb_remarks.specs.declared.standing.Standing.{Standing}
+use Rattle.usb_remarks.specs.declared.outline_state.OutlineState.{OutlineState}
 use Rattle.usb_remarks.specs.FaultPlaces.{place_of_fault}
 use Rattle.usb_remarks.specs.OutlineLaws.{BrokenCoversUpToFault}
 use Rattle.usb_walk.specs.Positions.{noted}
 use Rattle.usb_remarks.specs.SetStart.{entered}
-use Rattle.usb_remarks.specs.Standings.{start}
+use Rattle.usb_remarks.specs.OutlineStates.{start}
 use Rattle.usb_remarks.proofs.Telling.{none_at}
 use Rattle.usb_remarks.specs.Uncovered.{uncovered_in_file, uncovered_in_set, most_uncovered}
 use Rattle.usb_remarks.specs.declared.speed.SetSpeed.{SetSpeed}
@@ -43,7 +43,7 @@ use Rattle.usb_remarks.proofs.rest.Steps.{behind_one, goes_on, left_one, length_
 use Rattle.usb_remarks.proofs.rest.Seen.{seen}
 use Rattle.usb_remarks.proofs.rest.Settings.{Out, out}
 use Rattle.usb_remarks.proofs.rest.Sets.{outer_at, set_goes, sets_go, with_count}
-use Rattle.usb_remarks.proofs.rest.Inputs.{device_after, device_role, languages_step, nothing_less, out_goes, outside, qualifier_role, start_outside, text_step, told_none, units_length}
+use Rattle.usb_remarks.proofs.rest.Inputs.{device_after, device_role, languages_step, nothing_less, out_goes, outside, qualifier_role, start_outside, text_step, reported_nothing, units_length}
 use Rattle.usb_remarks.proofs.rest.Near.{EndsFew, OutFew, faulty_few, few, few_left, few_taken, nil_behind, open_few, reached_place}
 
 -- a byte; where there is none it reads as 0
@@ -54,9 +54,9 @@ byte_fits (x ∷ b) (suc at) h = byte_fits b at h.1
 
 -- ---- the front of a file
 
--- from each standing outside of sets of which this is seen, few bytes are left of these
+-- from each state outside of sets of which this is seen, few bytes are left of these
 abbrev FewFrom : ℕ → Option SetSpeed → Out → List ℕ → Type 0
-FewFrom k running o ahead = (s : Standing) → out (seen s) ≡ o → EndsFew k running s ahead
+FewFrom k running o ahead = (s : OutlineState) → out (seen s) ≡ o → EndsFew k running s ahead
 
 device_few : (k : ℕ) (running : Option SetSpeed) (d : DeviceDescriptor) (behind : List ℕ) → FewFrom k running (outside true false 0 0) behind → EndsFew k running start (device_bytes d ++ behind)
 device_few k running d behind onward fs nil =
@@ -70,7 +70,7 @@ sets_few : (k : ℕ) (running : Option SetSpeed) (kind : SetKind) (sets : List C
     → list_any has_no_layout sets ≡ false → list_any (is_other_kind kind) sets ≡ false → ((n : ℕ) → FewFrom k running (with_count kind n o) behind)
     → FewFrom k running (with_count kind i o) (sets_bytes sets ++ behind)
 sets_few k running kind sets i o behind left allowed right onward s e fs nil =
-    sets_go (few k) running kind sets sets i o behind [] left allowed right (λ n v is t gs same told. onward n t (ap (λ v. out v) same ∙ is) gs (told_none t.descriptors gs told))
+    sets_go (few k) running kind sets sets i o behind [] left allowed right (λ n v is t gs same report. onward n t (ap (λ v. out v) same ∙ is) gs (reported_nothing t.descriptors gs report))
     (seen s) e s fs refl (inr nil)
 
 qualifier_few : (k : ℕ) (running : Option SetSpeed) (q : Qualifier) (m : ℕ) (behind : List ℕ) → FewFrom k running (outside true false m 0) behind
@@ -106,7 +106,7 @@ texts_few k running m n (u ∷ texts) behind onward s e =
     subst (λ l. EndsFew k running s l) (sym (append_assoc (units_bytes u) (each_string_bytes texts) behind))
     (λ fs nil. out_goes (few k) running o o roles.Text (units_bytes u) more [] [] (length_is (2 + 2 * length u) 3 (flat_map little_endian u) more (units_length u))
     (λ t is. text_step running u more true m n t is)
-    (λ v is t gs same told. texts_few k running m n texts behind onward t (ap (λ v. out v) same ∙ is) gs (told_none t.descriptors gs told)) (seen s) e s fs refl (inr nil))
+    (λ v is t gs same report. texts_few k running m n texts behind onward t (ap (λ v. out v) same ∙ is) gs (reported_nothing t.descriptors gs report)) (seen s) e s fs refl (inr nil))
 
 -- there is a language, if there are strings
 abbrev AreSpoken : Option Strings → Type 0
@@ -122,7 +122,7 @@ strings_few k running m n (Some strings) behind spoken onward s e =
     subst (λ l. EndsFew k running s l) (sym (append_assoc (units_bytes u) (each_string_bytes strings.texts) behind))
     (λ fs nil. out_goes (few k) running (outside true false m n) (outside true true m n) roles.Languages (units_bytes u) more [] []
     (length_is (2 + 2 * length u) 3 (flat_map little_endian u) more (units_length u)) (λ t is. languages_step running u more m n t spoken is)
-    (λ v is t gs same told. texts_few k running m n strings.texts behind onward t (ap (λ v. out v) same ∙ is) gs (told_none t.descriptors gs told)) (seen s) e s fs refl (inr nil))
+    (λ v is t gs same report. texts_few k running m n strings.texts behind onward t (ap (λ v. out v) same ∙ is) gs (reported_nothing t.descriptors gs report)) (seen s) e s fs refl (inr nil))
 
 spoken_in : (f : DescriptorFile) (other : Option Other) (strings : Option Strings) → IsInOrder f other strings → AreSpoken strings
 spoken_in f None None order = tt
@@ -164,7 +164,7 @@ below : (n long : ℕ) → long < 256 → nat_lt n long ≡ true → n ≤ 254
 below n long lt e = grind (arith, nat_tests)
 
 -- that of a descriptor of fixed length
-fixed_few : (running : Option SetSpeed) (long : ℕ) (wrong : Bool) (why tells : FileWhy) (b : List ℕ) (place : ℕ) (s : Standing) → long < 256
+fixed_few : (running : Option SetSpeed) (long : ℕ) (wrong : Bool) (why tells : FileWhy) (b : List ℕ) (place : ℕ) (s : OutlineState) → long < 256
     → fixed_fault long wrong why b ≡ Some (place, tells) → EndsFew (uncovered_in_file tells) running s (take place b)
 fixed_few running long wrong why tells b place s lt e =
     few_left (uncovered_in_file tells) running s (take place b)
@@ -179,7 +179,7 @@ cut_short : (n len : ℕ) → len < 256 → (nat_lt n 2 || nat_lt n len) ≡ tru
 cut_short n len lt e = grind (arith, nat_tests)
 
 -- that of a string
-string_few : (running : Option SetSpeed) (least : ℕ) (why : FileWhy) (b : List ℕ) (place : ℕ) (s : Standing) → AreBytes b
+string_few : (running : Option SetSpeed) (least : ℕ) (why : FileWhy) (b : List ℕ) (place : ℕ) (s : OutlineState) → AreBytes b
     → string_fault least b ≡ Some (place, why) → EndsFew (uncovered_in_file why) running s (take place b)
 string_few running least why b place s h e =
     let len = slice_index b 0 in
@@ -242,7 +242,7 @@ layout_few : (k : ℕ) (running : Option SetSpeed) (c : Configuration) (b : List
 layout_few k running c b layout =
     subst (λ l. EndsFew k running start l) (append-nil (set_bytes c (length b)) ∙ sym layout.bytes)
     (λ fs nil. set_goes (few k) running c [] (length b) (seen start) [] [] layout.raws_are_raw (ap (λ (l : List ℕ). length l) (sym layout.bytes)) start_outside
-    (λ v e s gs same told. few_left k running s [] (omega arith) gs (told_none s.descriptors gs told)) start fs refl (inr nil))
+    (λ v e s gs same report. few_left k running s [] (omega arith) gs (reported_nothing s.descriptors gs report)) start fs refl (inr nil))
 
 wants_few : (k : ℕ) (running : Option SetSpeed) (b : List ℕ) (at : ℕ) (rest : List ℕ) → StartsAt b at rest → EndsFew k running start (take at b)
 wants_few k running b at rest (inl first) = few_left k running start (take at b) (few_taken k at b (omega (arith, first.0)))

@@ -13,7 +13,7 @@ use Rattle.usb_set.specs.declared.tree.Setting.{Setting}
 use Rattle.usb_set.specs.Descriptors.{descriptor_bytes, endpoint_descriptor}
 use Rattle.usb_set.specs.inside.Trees.{endpoint_bytes, extra_bytes, is_endpoint_typed}
 use Rattle.usb_walk.specs.declared.role.Role.TheVariants as roles
-use Rattle.usb_remarks.specs.declared.standing.Standing.{Standing}
+use Rattle.usb_remarks.specs.declared.outline_state.OutlineState.{OutlineState}
 use Rattle.usb_walk.specs.Places.{place_in}
 use Rattle.usb_remarks.specs.Findings.{IsAtPlace, can_break, finding_at}
 use Rattle.usb_walk.specs.Surroundings.{depth_of}
@@ -32,7 +32,7 @@ use Rattle.usb_remarks.proofs.rest.Extras.{count_append, extras_go, less, same_t
 both_true : (a b : Bool) → a ≡ true → b ≡ true → (a && b) ≡ true
 both_true a b h k = rw (h, k) refl
 
-endpoint_role : (s : Standing) (e : Endpoint) → 0 < s.position.settings → inner_role s.position (descriptor_bytes (endpoint_descriptor e)) ≡ Some roles.Endpoint
+endpoint_role : (s : OutlineState) (e : Endpoint) → 0 < s.position.settings → inner_role s.position (descriptor_bytes (endpoint_descriptor e)) ≡ Some roles.Endpoint
 unfolding inner_role
 endpoint_role s e h =
     let n = length (descriptor_bytes (endpoint_descriptor e)) in
@@ -52,7 +52,7 @@ of_four P a b c d f g h i one two three four =
     of_both P (when a f ++ when b g ++ when c h) (when d i)
     (of_both P (when a f ++ when b g) (when c h) (of_both P (when a f) (when b g) (of_when P a f one) (of_when P b g two)) (of_when P c h three)) (of_when P d i four)
 
-endpoint_step : (running : Option SetSpeed) (before : List Setting) (t : Setting) (e : Endpoint) (behind : List ℕ) (s : Standing)
+endpoint_step : (running : Option SetSpeed) (before : List Setting) (t : Setting) (e : Endpoint) (behind : List ℕ) (s : OutlineState)
     → (0 < s.position.settings) × (length (descriptor_bytes (endpoint_descriptor e)) ≤ s.position.left)
     → Step running s roles.Endpoint (descriptor_bytes (endpoint_descriptor e)) behind (at_endpoint (part_in s.position) s.position.set before s.position.setting t s.position.endpoints e)
     (at_setting s.position.setting (s.position.endpoints + 1) (owned e.address (less (length (descriptor_bytes (endpoint_descriptor e))) (seen s)))) 3

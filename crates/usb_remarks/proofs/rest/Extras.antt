@@ -20,7 +20,7 @@ use Rattle.usb_set.proofs.ExtraLemmas.{untyped}
 use Rattle.usb_walk.specs.Trees.{descriptor_length, extra_depth, extra_descriptors, extra_in_tree, extra_owner, extra_role, tree_descriptor}
 use Rattle.usb_walk.specs.declared.role.Role.{Role}
 use Rattle.usb_walk.specs.declared.role.Role.TheVariants as roles
-use Rattle.usb_remarks.specs.declared.standing.Standing.{Standing}
+use Rattle.usb_remarks.specs.declared.outline_state.OutlineState.{OutlineState}
 use Rattle.usb_walk.specs.Places.{place_in}
 use Rattle.usb_remarks.specs.Findings.{IsAtPlace, can_break, finding_at}
 use Rattle.usb_walk.specs.Surroundings.{depth_of}
@@ -38,7 +38,7 @@ use Rattle.usb_remarks.proofs.rest.Seen.{Goes, Seen, Step, goes_as, of_when, one
 -- where this holds of what is seen
 pub seen_goes : (E : Aim) (running : Option SetSpeed) (v : Seen) (P : Seen → Type 0) (role : Role) (d behind : List ℕ) (mine : Seen → List Broken) (w : Seen → Seen) (later : List (List Broken))
     (depth : Seen → ℕ) (owner : Seen → Option DescriptorOwner)
-    → descriptor_length (d ++ behind) ≡ Some (length d) → ((s : Standing) → P (seen s) → Step running s role d behind (mine (seen s)) (w (seen s)) (depth (seen s)) (owner (seen s)))
+    → descriptor_length (d ++ behind) ≡ Some (length d) → ((s : OutlineState) → P (seen s) → Step running s role d behind (mine (seen s)) (w (seen s)) (depth (seen s)) (owner (seen s)))
     → P v → Goes (adding E (tree_descriptor role (depth v) (owner v) d ∷ [])) running (w v) later behind → Goes E running v (mine v ∷ later) (d ++ behind)
 seen_goes E running v P role d behind mine w later depth owner e step holds onward =
     one_goes E running v (w v) role d behind (mine v) later (depth v) (owner v) e
@@ -51,11 +51,11 @@ association_breaks false = refl
 
 -- ---- what is left
 
--- so many bytes of the set are taken
+-- this many bytes of the set are taken
 abbrev pub less : ℕ → Seen → Seen
 less n v = record v { left = v.left - n }
 
--- the same with so many associations
+-- the same with this many associations
 abbrev pub taken : ℕ → ℕ → Seen → Seen
 taken n c v = record v { left = v.left - n; associations = v.associations + c }
 
@@ -72,17 +72,17 @@ after_extra x v = taken (length (extra_bytes x)) (length (association_in x)) v
 not_eleven : (kind : ℕ) → is_typed kind ≡ false → kind ≡ 11 → ⊥
 not_eleven kind e is = let no : true ≡ false = ap is_typed (sym is) ∙ e in cc
 
-raw_role : (s : Standing) (r : Raw) → is_typed r.kind ≡ false → inner_role s.position (descriptor_bytes (raw_descriptor r)) ≡ Some roles.Raw
+raw_role : (s : OutlineState) (r : Raw) → is_typed r.kind ≡ false → inner_role s.position (descriptor_bytes (raw_descriptor r)) ≡ Some roles.Raw
 unfolding inner_role
 raw_role s r e =
     let is = untyped r.kind e in
     rw (ne_eqb r.kind 2 is.two, ne_eqb r.kind 7 is.seven, ne_eqb r.kind 4 is.four, ne_eqb r.kind 5 is.five, ne_eqb r.kind 11 (not_eleven r.kind e)) refl
 
-association_role : (s : Standing) (a : Association) → inner_role s.position (descriptor_bytes (association_descriptor a)) ≡ Some roles.Association
+association_role : (s : OutlineState) (a : Association) → inner_role s.position (descriptor_bytes (association_descriptor a)) ≡ Some roles.Association
 unfolding inner_role
 association_role s a = ap (λ b. Some (typed_role b roles.Association)) (le-leb 8 (length (descriptor_bytes (association_descriptor a))) (omega arith))
 
-extra_step : (running : Option SetSpeed) (settings : List Setting) (x : Extra) (behind : List ℕ) (s : Standing) → is_typed_raw x ≡ false → length (extra_bytes x) ≤ s.position.left
+extra_step : (running : Option SetSpeed) (settings : List Setting) (x : Extra) (behind : List ℕ) (s : OutlineState) → is_typed_raw x ≡ false → length (extra_bytes x) ≤ s.position.left
     → Step running s (extra_role x) (extra_bytes x) behind (at_extra (part_in s.position) s.position.set settings s.position.associations x)
     (after_extra x (seen s)) (extra_depth s.position.below x) (Some (extra_owner (whose (seen s)) x))
 unfolding noted depth_of owner_of finding_at place_in

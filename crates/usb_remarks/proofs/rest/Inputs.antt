@@ -33,7 +33,7 @@ use Rattle.usb_walk.specs.Trees.{descriptor_length, other_descriptors, set_descr
 use Rattle.usb_remarks.specs.declared.speed.SetSpeed.{SetSpeed}
 use Rattle.usb_walk.specs.declared.role.Role.{Role}
 use Rattle.usb_walk.specs.declared.role.Role.TheVariants as roles
-use Rattle.usb_remarks.specs.declared.standing.Standing.{Standing}
+use Rattle.usb_remarks.specs.declared.outline_state.OutlineState.{OutlineState}
 use Rattle.usb_walk.specs.Places.{place_in}
 use Rattle.usb_remarks.specs.Findings.{IsAtPlace, can_break, finding_at}
 use Rattle.usb_walk.specs.Surroundings.{depth_of}
@@ -41,15 +41,15 @@ use Rattle.usb_remarks.specs.OutlineLaws.{WholeHasNoRest, WholeShowsTree, WholeR
 use Rattle.usb_walk.specs.Owners.{of_set, owner_of}
 use Rattle.usb_remarks.specs.SetStart.{entered}
 use Rattle.usb_walk.specs.Positions.{noted}
-use Rattle.usb_remarks.specs.Standings.{passed, start}
+use Rattle.usb_remarks.specs.OutlineStates.{passed, start}
 use Rattle.usb_walk.specs.Roles.{is_alone, outer_role, role_if, role_of, string_role}
 use Rattle.usb_file_data.specs.Likeness.{names_languages}
 use Rattle.usb_remarks.proofs.Spans.{Aim, adding}
-use Rattle.usb_remarks.proofs.Standings.{start_number}
-use Rattle.usb_remarks.proofs.Telling.{AllBrokenAt, Told}
+use Rattle.usb_remarks.proofs.OutlineStates.{start_number}
+use Rattle.usb_remarks.proofs.Telling.{AllBrokenAt, Reported}
 use Rattle.usb_remarks.proofs.rest.Walks.{Ends, ShowsAll, Tells, all_tells, ends_here, nothing_left}
 use Rattle.usb_remarks.proofs.rest.Steps.{behind_one, goes_on, left_one, length_is}
-use Rattle.usb_remarks.proofs.rest.Seen.{goes_as, left_told, of_both, of_when, own_told, seen}
+use Rattle.usb_remarks.proofs.rest.Seen.{goes_as, left_reported, of_both, of_when, own_reported, seen}
 use Rattle.usb_remarks.proofs.rest.Settings.{Out, out}
 use Rattle.usb_remarks.proofs.rest.Sets.{GoesOut, both_hold, count_in, outer_at, set_goes, sets_go}
 
@@ -60,16 +60,16 @@ abbrev pub outside : Bool → Bool → ℕ → ℕ → Out
 outside known spoken mains others = record { left = 0; known = known; spoken = spoken; mains = mains; others = others }
 
 -- where nothing more is to be found, nothing is
-pub told_none : (n : ℕ) (fs : List Found) → Told n [] fs → fs ≡ []
-told_none n fs (inl e) = e
-told_none n fs (inr e) = e
+pub reported_nothing : (n : ℕ) (fs : List Found) → Reported n [] fs → fs ≡ []
+reported_nothing n fs (inl e) = e
+reported_nothing n fs (inr e) = e
 
 -- the end of the bytes
 at_end : (E : Aim) (running : Option SetSpeed) (o : Out) → E [] [] → GoesOut E running o [] []
-at_end E running o aimed v e s fs same told = ends_here E running s fs (told_none s.descriptors fs told) aimed
+at_end E running o aimed v e s fs same report = ends_here E running s fs (reported_nothing s.descriptors fs report) aimed
 
 -- a descriptor outside of sets
-pub record OutStep (running : Option SetSpeed) (s : Standing) (role : Role) (d behind : List ℕ) (mine : List Broken) (o : Out) : Type 0 where
+pub record OutStep (running : Option SetSpeed) (s : OutlineState) (role : Role) (d behind : List ℕ) (mine : List Broken) (o : Out) : Type 0 where
   pub is : role_of s.position d ≡ Some role
   pub own : AllBrokenAt (entered role running (d ++ behind) s).position role mine
   pub after : out (seen (passed role d (entered role running (d ++ behind) s))) ≡ o
@@ -77,13 +77,13 @@ pub record OutStep (running : Option SetSpeed) (s : Standing) (role : Role) (d b
   pub belongs : owner_of (entered role running (d ++ behind) s).position role d ≡ None
 
 pub out_goes : (E : Aim) (running : Option SetSpeed) (o p : Out) (role : Role) (d behind : List ℕ) (mine : List Broken) (later : List (List Broken)) → descriptor_length (d ++ behind) ≡ Some (length d)
-    → ((s : Standing) → out (seen s) ≡ o → OutStep running s role d behind mine p) → GoesOut (adding E (tree_descriptor role 0 None d ∷ [])) running p later behind
+    → ((s : OutlineState) → out (seen s) ≡ o → OutStep running s role d behind mine p) → GoesOut (adding E (tree_descriptor role 0 None d ∷ [])) running p later behind
     → GoesOut E running o (mine ∷ later) (d ++ behind)
-out_goes E running o p role d behind mine later e step onward v is s fs same told =
+out_goes E running o p role d behind mine later e step onward v is s fs same report =
     let one = step s (ap (λ v. out v) same ∙ is) in
     let next = behind_one running s role d behind in
-    goes_on E running s fs d behind role 0 None e one.is one.deep one.belongs (own_told running s fs role (d ++ behind) mine later one.own told)
-    (onward (seen next) one.after next (left_one running s fs role d behind) refl (left_told running s fs role d behind mine later told))
+    goes_on E running s fs d behind role 0 None e one.is one.deep one.belongs (own_reported running s fs role (d ++ behind) mine later one.own report)
+    (onward (seen next) one.after next (left_one running s fs role d behind) refl (left_reported running s fs role d behind mine later report))
 
 -- ---- the device
 
@@ -109,9 +109,9 @@ device_owner running d ahead = refl
 
 device_goes : (E : Aim) (running : Option SetSpeed) (fs : List Found) (d : DeviceDescriptor) (sets : List Configuration) (is_dump : Bool) (behind : List ℕ) (later : List (List Broken))
     → GoesOut (adding E (tree_descriptor roles.Device 0 None (device_bytes d) ∷ [])) running (outside true false 0 0) later behind
-    → Told start.descriptors (device_findings is_dump d sets ∷ later) fs → Ends E running start fs (device_bytes d ++ behind)
+    → Reported start.descriptors (device_findings is_dump d sets ∷ later) fs → Ends E running start fs (device_bytes d ++ behind)
 unfolding finding_at place_in can_break
-device_goes E running fs d sets is_dump behind later onward told =
+device_goes E running fs d sets is_dump behind later onward report =
     let b = device_bytes d in
     let mine = device_findings is_dump d sets in
     let next = behind_one running start roles.Device b behind in
@@ -120,23 +120,23 @@ device_goes E running fs d sets is_dump behind later onward told =
     of_both P (without_sets parts.Main sets) (at_device is_dump d) (of_when P (length sets == 0) (broken_by causes.NoConfiguration parts.Main 0 0 0) (refl, refl))
     (of_when P (if is_dump then wrong_dumped_device d else wrong_device d) (broken_by (device_cause is_dump d) parts.Device 0 0 0) (refl, refl)) in
     goes_on E running start fs b behind roles.Device 0 None (length_is 18 1 (fields_bytes device_fields d) behind refl) (device_role d)
-    (device_depth running (b ++ behind)) (device_owner running b (b ++ behind)) (own_told running start fs roles.Device (b ++ behind) mine later own told)
-    (onward (seen next) (device_after b (b ++ behind) running) next (left_one running start fs roles.Device b behind) refl (left_told running start fs roles.Device b behind mine later told))
+    (device_depth running (b ++ behind)) (device_owner running b (b ++ behind)) (own_reported running start fs roles.Device (b ++ behind) mine later own report)
+    (onward (seen next) (device_after b (b ++ behind) running) next (left_one running start fs roles.Device b behind) refl (left_reported running start fs roles.Device b behind mine later report))
 
 -- ---- the other speed
 
-pub qualifier_role : (s : Standing) (q : Qualifier) → s.position.has_device ≡ true → outer_role s.position (qualifier_bytes q) ≡ Some roles.Qualifier
+pub qualifier_role : (s : OutlineState) (q : Qualifier) → s.position.has_device ≡ true → outer_role s.position (qualifier_bytes q) ≡ Some roles.Qualifier
 unfolding outer_role
 qualifier_role s q e = both_hold (s.position.has_device) true roles.Qualifier e refl
 
 -- outside of sets nothing is left of one
-pub nothing_less : (o : Out) (s : Standing) (n : ℕ) → o.left ≡ 0 → out (seen s) ≡ o → record (out (seen s)) { left = s.position.left - n } ≡ o
+pub nothing_less : (o : Out) (s : OutlineState) (n : ℕ) → o.left ≡ 0 → out (seen s) ≡ o → record (out (seen s)) { left = s.position.left - n } ≡ o
 nothing_less o s n none e =
     let left : s.position.left ≡ 0 = ap (λ (o : Out). o.left) e ∙ none in
     let same : s.position.left - n ≡ s.position.left = omega (arith, left) in
     ap (λ k. record (out (seen s)) { left = k }) same ∙ e
 
-qualifier_step : (running : Option SetSpeed) (other : Other) (spoken : Bool) (m n : ℕ) (behind : List ℕ) (s : Standing) → out (seen s) ≡ outside true spoken m n
+qualifier_step : (running : Option SetSpeed) (other : Other) (spoken : Bool) (m n : ℕ) (behind : List ℕ) (s : OutlineState) → out (seen s) ≡ outside true spoken m n
     → OutStep running s roles.Qualifier (qualifier_bytes other.qualifier) behind (without_sets parts.Other other.sets ++ at_qualifier other.qualifier) (outside true spoken m n)
 unfolding noted depth_of owner_of finding_at place_in can_break
 qualifier_step running other spoken m n behind s e =
@@ -176,7 +176,7 @@ even n k e = eq-eqb (n % 2) 0 (omega (arith, e))
 holds : (a : Bool) (role : Role) → a ≡ true → role_if a role ≡ Some role
 holds a role h = rw h refl
 
-languages_role : (s : Standing) (u : List ℕ) → s.position.has_device ≡ true → s.position.has_languages ≡ false → 0 < length u
+languages_role : (s : OutlineState) (u : List ℕ) → s.position.has_device ≡ true → s.position.has_languages ≡ false → 0 < length u
     → outer_role s.position (units_bytes u) ≡ Some roles.Languages
 unfolding outer_role
 languages_role s u known e some =
@@ -185,13 +185,13 @@ languages_role s u known e some =
     ∙ both_hold _ _ roles.Languages (even (length (units_bytes u)) (length u) (length-units_bytes u))
     (le-leb 4 (length (units_bytes u)) (omega (arith, length-units_bytes u, some)))
 
-text_role : (s : Standing) (u : List ℕ) → s.position.has_languages ≡ true → outer_role s.position (units_bytes u) ≡ Some roles.Text
+text_role : (s : OutlineState) (u : List ℕ) → s.position.has_languages ≡ true → outer_role s.position (units_bytes u) ≡ Some roles.Text
 unfolding outer_role
 text_role s u e =
     ap (λ b. string_role (b || is_alone s.position (units_bytes u)) (length (units_bytes u))) e
     ∙ holds _ roles.Text (even (length (units_bytes u)) (length u) (length-units_bytes u))
 
-pub languages_step : (running : Option SetSpeed) (u behind : List ℕ) (m n : ℕ) (s : Standing) → 0 < length u → out (seen s) ≡ outside true false m n
+pub languages_step : (running : Option SetSpeed) (u behind : List ℕ) (m n : ℕ) (s : OutlineState) → 0 < length u → out (seen s) ≡ outside true false m n
     → OutStep running s roles.Languages (units_bytes u) behind [] (outside true true m n)
 unfolding noted depth_of owner_of
 languages_step running u behind m n s some e = record {
@@ -202,7 +202,7 @@ languages_step running u behind m n s some e = record {
   belongs = refl;
 }
 
-pub text_step : (running : Option SetSpeed) (u behind : List ℕ) (known : Bool) (m n : ℕ) (s : Standing) → out (seen s) ≡ outside known true m n
+pub text_step : (running : Option SetSpeed) (u behind : List ℕ) (known : Bool) (m n : ℕ) (s : OutlineState) → out (seen s) ≡ outside known true m n
     → OutStep running s roles.Text (units_bytes u) behind [] (outside known true m n)
 unfolding noted depth_of owner_of
 text_step running u behind known m n s e = record {
@@ -239,7 +239,7 @@ strings_go E running m n count (Some strings) right aimed =
 -- ---- inputs
 
 -- at the first byte all of them are to come
-all_to_come : (all broken : List (List Broken)) (fs : List Found) → fs ≡ found_from 0 all → all ≡ broken → Told start.descriptors broken fs
+all_to_come : (all broken : List (List Broken)) (fs : List Found) → fs ≡ found_from 0 all → all ≡ broken → Reported start.descriptors broken fs
 all_to_come all broken fs e same = inl (e ∙ ap (λ l. found_from 0 l) same ∙ ap (λ n. found_from n broken) (sym start_number))
 
 no_sets : (kind : SetKind) → count_in kind (out (seen start)) ≡ 0
@@ -323,11 +323,11 @@ input_leaves running (inputs.Dump file) b is = dump_leaves running file b is
 pub whole_has_no_rest : WholeHasNoRest
 whole_has_no_rest running input b is = nothing_left running input b (input_leaves running input b is)
 
-all_is_told : (running : Option SetSpeed) (input : Input) (b : List ℕ) → IsInput input b → Tells running input b
-all_is_told running input b is = all_tells running input b (input_leaves running input b is)
+all_is_reported : (running : Option SetSpeed) (input : Input) (b : List ℕ) → IsInput input b → Tells running input b
+all_is_reported running input b is = all_tells running input b (input_leaves running input b is)
 
 pub whole_tells : WholeReportsFindings
-whole_tells running input b is = (all_is_told running input b is).tells
+whole_tells running input b is = (all_is_reported running input b is).tells
 
 pub whole_shows : WholeShowsTree
-whole_shows running input b is = (all_is_told running input b is).shows
+whole_shows running input b is = (all_is_reported running input b is).shows

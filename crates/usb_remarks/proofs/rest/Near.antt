@@ -22,13 +22,13 @@ use Rattle.usb_remarks.specs.declared.speed.SetSpeed.{SetSpeed}
 use Rattle.usb_walk.specs.declared.role.Role.{Role}
 use Rattle.usb_walk.specs.declared.role.Role.TheVariants.{Device, Qualifier, Association, Interface, Endpoint, Raw, Languages, Text}
 use Rattle.usb_walk.specs.declared.role.Role.TheVariants as roles
-use Rattle.usb_remarks.specs.declared.standing.Standing.{Standing}
+use Rattle.usb_remarks.specs.declared.outline_state.OutlineState.{OutlineState}
 use Rattle.usb_remarks.specs.OutlineLaws.{Cut, HasItsOwnFindings}
 use Rattle.usb_remarks.specs.Outline.{Entry, findings_of, first_entries}
 use Rattle.usb_remarks.specs.Findings.{found_at}
 use Rattle.usb_remarks.specs.SetStart.{entered}
 use Rattle.usb_walk.specs.Positions.{noted}
-use Rattle.usb_remarks.specs.Standings.{passed}
+use Rattle.usb_remarks.specs.OutlineStates.{passed}
 use Rattle.usb_walk.specs.Roles.{inner_role, typed_role}
 use Rattle.usb_remarks.specs.Uncovered.{uncovered_in_set}
 use Rattle.usb_remarks.proofs.Spans.{Aim, walk_shows}
@@ -38,15 +38,15 @@ use Rattle.usb_remarks.proofs.rest.Seen.{Seen}
 use Rattle.usb_remarks.proofs.rest.Sets.{outer_at, set_after, set_role}
 use Rattle.usb_remarks.proofs.rest.Steps.{behind_one, goes_on, inner_at, left_one, length_is}
 
--- no more bytes are left than so many
+-- no more bytes are left than this many
 abbrev pub few : ℕ → Aim
 few k = λ rest entries. length rest ≤ k
 
--- a walk from here leaves no more bytes than so many, where nothing is found
-abbrev pub EndsFew : ℕ → Option SetSpeed → Standing → List ℕ → Type 0
+-- a walk from here leaves no more bytes than this many, where nothing is found
+abbrev pub EndsFew : ℕ → Option SetSpeed → OutlineState → List ℕ → Type 0
 EndsFew k running s ahead = (fs : List Found) → fs ≡ [] → Ends (few k) running s fs ahead
 
-pub nil_behind : (running : Option SetSpeed) (s : Standing) (fs : List Found) (role : Role) (d behind : List ℕ) → fs ≡ [] → left_one running s fs role d behind ≡ []
+pub nil_behind : (running : Option SetSpeed) (s : OutlineState) (fs : List Found) (role : Role) (d behind : List ℕ) → fs ≡ [] → left_one running s fs role d behind ≡ []
 nil_behind running s fs role d behind nil =
     let begun = entered role running (d ++ behind) s in
     ap (λ l. drop (length (found_at begun l)) l) nil ∙ drop-nil (length (found_at begun []))
@@ -71,12 +71,12 @@ own_of_none : (shown : List Entry) → flat_map findings_of shown ≡ [] → All
 own_of_none [] none = tt
 own_of_none (d ∷ ds) none =
     let here = nil_before (findings_of d) (flat_map findings_of ds) none in (
-      subst (λ l. AllAtPlace d.standing.position d.role l) (sym here) tt,
+      subst (λ l. AllAtPlace d.state.position d.role l) (sym here) tt,
       own_of_none ds (nil_after (findings_of d) (flat_map findings_of ds) none),
     )
 
 -- of few bytes few are left
-pub few_left : (k : ℕ) (running : Option SetSpeed) (s : Standing) (ahead : List ℕ) → length ahead ≤ k → EndsFew k running s ahead
+pub few_left : (k : ℕ) (running : Option SetSpeed) (s : OutlineState) (ahead : List ℕ) → length ahead ≤ k → EndsFew k running s ahead
 few_left k running s ahead le fs nil n enough =
     let es = first_entries n running s fs ahead in
     let w = walk_shows n running s fs ahead in
@@ -115,7 +115,7 @@ typed_stays : (holds : Bool) (role : Role) → Stays role → Stays (typed_role 
 typed_stays true role h = h
 typed_stays false role h = tt
 
-record Inner (s : Standing) (d : List ℕ) : Type 0 where
+record Inner (s : OutlineState) (d : List ℕ) : Type 0 where
   role : Role
   is : inner_role s.position d ≡ Some role
   stays : Stays role
@@ -127,7 +127,7 @@ chosen false true c x y z hx hy hz = (y, refl, hy)
 chosen false false true x y z hx hy hz = (z, refl, hz)
 chosen false false false x y z hx hy hz = (Raw, refl, tt)
 
-inner : (s : Standing) (len kind : ℕ) (body : List ℕ) → is_set_type kind ≡ false → Inner s (len ∷ kind ∷ body)
+inner : (s : OutlineState) (len kind : ℕ) (body : List ℕ) → is_set_type kind ≡ false → Inner s (len ∷ kind ∷ body)
 unfolding inner_role
 inner s len kind body e =
     let n = length (len ∷ kind ∷ body) in
@@ -138,7 +138,7 @@ inner s len kind body e =
     (typed_stays nine Interface tt) (typed_stays seven Endpoint tt) (typed_stays eight Association tt) in
     record { role = one.0; is = cond-false (is_set_type kind) None _ e ∙ one.1; stays = one.2 }
 
-left_behind : (role : Role) → Stays role → (running : Option SetSpeed) (d ahead : List ℕ) (s : Standing)
+left_behind : (role : Role) → Stays role → (running : Option SetSpeed) (d ahead : List ℕ) (s : OutlineState)
     → (passed role d (entered role running ahead s)).position.left ≡ s.position.left - length d
 unfolding noted
 left_behind Device h running d ahead s = absurd h
@@ -162,9 +162,9 @@ not_nested : (room : ℕ) (in_setting : Bool) (len kind : ℕ) (body : List ℕ)
 not_nested room in_setting len kind body e =
     no_other_fault (nat_lt len 2) (nat_lt room len) (is_set_type kind) whys.ItemLength whys.Over whys.Nested _ e
 
--- from each standing where so much of a set is left, no more bytes than so many are left of these
+-- from each state where so much of a set is left, no more bytes than this many are left of these
 abbrev pub GoesFew : ℕ → Option SetSpeed → ℕ → List ℕ → Type 0
-GoesFew k running room ahead = (s : Standing) → s.position.left ≡ room → EndsFew k running s ahead
+GoesFew k running room ahead = (s : OutlineState) → s.position.left ≡ room → EndsFew k running s ahead
 
 item_goes : (k : ℕ) (running : Option SetSpeed) (room : ℕ) (in_setting : Bool) (item : Descriptor) (behind : List ℕ) → item_fault room in_setting (descriptor_bytes item) ≡ None
     → GoesFew k running (room - length (descriptor_bytes item)) behind → GoesFew k running room (descriptor_bytes item ++ behind)
@@ -179,7 +179,7 @@ item_goes k running room in_setting item behind fine onward s left fs nil =
     (left_one running s fs one.role d behind) (nil_behind running s fs one.role d behind nil))
 
 items_go : (k : ℕ) (running : Option SetSpeed) (room : ℕ) (in_setting : Bool) (items : List Descriptor) (behind : List ℕ) → AreItems room in_setting items
-    → ((s : Standing) → EndsFew k running s behind) → GoesFew k running room (joined items ++ behind)
+    → ((s : OutlineState) → EndsFew k running s behind) → GoesFew k running room (joined items ++ behind)
 items_go k running room in_setting [] behind are onward s left = onward s
 items_go k running room in_setting (item ∷ items) behind are onward s left =
     let d = descriptor_bytes item in
@@ -239,7 +239,7 @@ total_before len kind [] behind least = absurd (omega arith)
 total_before len kind (low ∷ []) behind least = absurd (omega arith)
 total_before len kind (low ∷ high ∷ body) behind least = refl
 
-begun_goes : (k : ℕ) (running : Option SetSpeed) (kind : SetKind) (body behind : List ℕ) (s : Standing) → s.position.left ≡ 0
+begun_goes : (k : ℕ) (running : Option SetSpeed) (kind : SetKind) (body behind : List ℕ) (s : OutlineState) → s.position.left ≡ 0
     → (let d : List ℕ = (2 + length body) ∷ type_number kind ∷ body in
     9 ≤ length d → length d ≤ total_of d → GoesFew k running (total_of d - length d) behind → EndsFew k running s (d ++ behind))
 begun_goes k running kind body behind s outside least most onward fs nil =
@@ -252,7 +252,7 @@ begun_goes k running kind body behind s outside least most onward fs nil =
     (ap (λ (v : Seen). v.left) (set_after kind running len body behind s) ∙ ap (λ n. n - length d) (total_before len (type_number kind) body behind least))
     (left_one running s fs roles.Configuration d behind) (nil_behind running s fs roles.Configuration d behind nil))
 
-header_goes : (k : ℕ) (running : Option SetSpeed) (header behind : List ℕ) (s : Standing) → s.position.left ≡ 0 → IsHeader header
+header_goes : (k : ℕ) (running : Option SetSpeed) (header behind : List ℕ) (s : OutlineState) → s.position.left ≡ 0 → IsHeader header
     → GoesFew k running (total_of header - length header) behind → EndsFew k running s (header ++ behind)
 header_goes k running header behind s outside is onward =
     let h = header_parts header is in
@@ -262,7 +262,7 @@ header_goes k running header behind s outside is onward =
 
 -- ---- sets
 
--- so it is from each standing outside of sets
+-- so it is from each state outside of sets
 abbrev pub OutFew : ℕ → Option SetSpeed → List ℕ → Type 0
 OutFew k running ahead = GoesFew k running 0 ahead
 

@@ -1,4 +1,4 @@
--- What of a standing says which descriptors can come next and which findings they have, and how a walk goes on behind one.
+-- What of a state says which descriptors can come next and which findings they have, and how a walk goes on behind one.
 use Rattle.std.proofs.Common.{◌≡◌, ℕ, Bool, true, false, List, [], ◌∷◌, ◌++◌, append_assoc, length, map, Option, Some, sym, subst}
 use Rattle.std.specs.List.{AllByRecursion}
 use Rattle.usb_file_data.specs.declared.cause.Found.{Found}
@@ -7,7 +7,7 @@ use Rattle.usb_file_data.specs.Causes.{Broken}
 use Rattle.usb_file_data.specs.Places.{when}
 use Rattle.usb_walk.specs.Trees.{descriptor_length, TreeDescriptor, tree_descriptor}
 use Rattle.usb_walk.specs.declared.role.Role.{Role}
-use Rattle.usb_remarks.specs.declared.standing.Standing.{Standing}
+use Rattle.usb_remarks.specs.declared.outline_state.OutlineState.{OutlineState}
 use Rattle.usb_remarks.specs.Findings.{found_at}
 use Rattle.usb_remarks.specs.Outline.{first_entries}
 use Rattle.usb_walk.specs.Surroundings.{depth_of}
@@ -16,12 +16,12 @@ use Rattle.usb_walk.specs.Owners.{of_interface, of_set, owner_above, owner_of, p
 use Rattle.usb_walk.specs.declared.owner.InterfaceSetting.{InterfaceSetting}
 use Rattle.usb_walk.specs.declared.owner.DescriptorOwner.{DescriptorOwner}
 use Rattle.usb_remarks.specs.SetStart.{entered}
-use Rattle.usb_remarks.specs.Standings.{passed}
+use Rattle.usb_remarks.specs.OutlineStates.{passed}
 use Rattle.usb_walk.specs.Roles.{role_of}
 use Rattle.usb_remarks.specs.declared.speed.SetSpeed.{SetSpeed}
 use Rattle.usb_remarks.proofs.Spans.{Aim, adding}
-use Rattle.usb_remarks.proofs.Standings.{looked_number}
-use Rattle.usb_remarks.proofs.Telling.{AllAtPlace, AllBrokenAt, Told, own_at, told_behind}
+use Rattle.usb_remarks.proofs.OutlineStates.{looked_number}
+use Rattle.usb_remarks.proofs.Telling.{AllAtPlace, AllBrokenAt, Reported, own_at, reported_behind}
 use Rattle.usb_remarks.proofs.rest.Walks.{Ends}
 use Rattle.usb_remarks.proofs.rest.Steps.{behind_one, goes_on, left_one}
 
@@ -44,7 +44,7 @@ pub record Seen : Type 0 where
   pub address : ℕ
   pub below : ℕ
 
-abbrev pub seen : Standing → Seen
+abbrev pub seen : OutlineState → Seen
 seen s = record {
   left = s.position.left;
   known = s.position.has_device;
@@ -69,9 +69,9 @@ whose v = owner_above v.below (of_set v.part v.number) v.interface v.address
 abbrev pub whose_interface : Seen → DescriptorOwner
 whose_interface v = of_interface (of_set v.part v.number) v.interface.interface v.interface.alternate
 
--- from each such standing, where these are all that is found or nothing is, a walk over these bytes ends so
+-- from each such state, where these are all that is found or nothing is, a walk over these bytes ends so
 abbrev pub Goes : Aim → Option SetSpeed → Seen → List (List Broken) → List ℕ → Type 0
-Goes E running v later ahead = (s : Standing) (fs : List Found) → seen s ≡ v → Told s.descriptors later fs → Ends E running s fs ahead
+Goes E running v later ahead = (s : OutlineState) (fs : List Found) → seen s ≡ v → Reported s.descriptors later fs → Ends E running s fs ahead
 
 -- of each of these, where it holds
 pub of_when : (P : Broken → Type 0) (holds : Bool) (b : Broken) → P b → AllByRecursion P (when holds b)
@@ -82,22 +82,22 @@ pub of_both : (P : Broken → Type 0) (xs ys : List Broken) → AllByRecursion P
 of_both P [] ys h k = k
 of_both P (x ∷ xs) ys h k = (h.0, of_both P xs ys h.1 k)
 
--- where the descriptor with these findings is entered they are told, and behind it the later ones
-entered_told : (running : Option SetSpeed) (s : Standing) (fs : List Found) (role : Role) (ahead : List ℕ) (later : List (List Broken)) → Told s.descriptors later fs
-    → Told (entered role running ahead s).descriptors later fs
-entered_told running s fs role ahead later told = subst (λ n. Told n later fs) (sym (looked_number role running ahead s)) told
+-- where the descriptor with these findings is entered they are reported, and behind it the later ones
+entered_reported : (running : Option SetSpeed) (s : OutlineState) (fs : List Found) (role : Role) (ahead : List ℕ) (later : List (List Broken)) → Reported s.descriptors later fs
+    → Reported (entered role running ahead s).descriptors later fs
+entered_reported running s fs role ahead later report = subst (λ n. Reported n later fs) (sym (looked_number role running ahead s)) report
 
-pub left_told : (running : Option SetSpeed) (s : Standing) (fs : List Found) (role : Role) (d behind : List ℕ) (mine : List Broken) (later : List (List Broken)) → Told s.descriptors (mine ∷ later) fs
-    → Told (behind_one running s role d behind).descriptors later (left_one running s fs role d behind)
-left_told running s fs role d behind mine later told =
-    told_behind (entered role running (d ++ behind) s) mine later fs (entered_told running s fs role (d ++ behind) (mine ∷ later) told)
+pub left_reported : (running : Option SetSpeed) (s : OutlineState) (fs : List Found) (role : Role) (d behind : List ℕ) (mine : List Broken) (later : List (List Broken)) → Reported s.descriptors (mine ∷ later) fs
+    → Reported (behind_one running s role d behind).descriptors later (left_one running s fs role d behind)
+left_reported running s fs role d behind mine later report =
+    reported_behind (entered role running (d ++ behind) s) mine later fs (entered_reported running s fs role (d ++ behind) (mine ∷ later) report)
 
-pub own_told : (running : Option SetSpeed) (s : Standing) (fs : List Found) (role : Role) (ahead : List ℕ) (mine : List Broken) (later : List (List Broken)) → AllBrokenAt (entered role running ahead s).position role mine
-    → Told s.descriptors (mine ∷ later) fs → AllAtPlace (entered role running ahead s).position role (found_at (entered role running ahead s) fs)
-own_told running s fs role ahead mine later own told = own_at (entered role running ahead s) role mine later fs own (entered_told running s fs role ahead (mine ∷ later) told)
+pub own_reported : (running : Option SetSpeed) (s : OutlineState) (fs : List Found) (role : Role) (ahead : List ℕ) (mine : List Broken) (later : List (List Broken)) → AllBrokenAt (entered role running ahead s).position role mine
+    → Reported s.descriptors (mine ∷ later) fs → AllAtPlace (entered role running ahead s).position role (found_at (entered role running ahead s) fs)
+own_reported running s fs role ahead mine later own report = own_at (entered role running ahead s) role mine later fs own (entered_reported running s fs role ahead (mine ∷ later) report)
 
 -- a descriptor of this role: it is one, of this depth and this owner, each of these is at its place, and so it stands behind it
-pub record Step (running : Option SetSpeed) (s : Standing) (role : Role) (d behind : List ℕ) (mine : List Broken) (w : Seen) (depth : ℕ) (owner : Option DescriptorOwner) : Type 0 where
+pub record Step (running : Option SetSpeed) (s : OutlineState) (role : Role) (d behind : List ℕ) (mine : List Broken) (w : Seen) (depth : ℕ) (owner : Option DescriptorOwner) : Type 0 where
   pub is : role_of s.position d ≡ Some role
   pub own : AllBrokenAt (entered role running (d ++ behind) s).position role mine
   pub after : seen (passed role d (entered role running (d ++ behind) s)) ≡ w
@@ -105,12 +105,12 @@ pub record Step (running : Option SetSpeed) (s : Standing) (role : Role) (d behi
   pub belongs : owner_of (entered role running (d ++ behind) s).position role d ≡ owner
 
 pub one_goes : (E : Aim) (running : Option SetSpeed) (v w : Seen) (role : Role) (d behind : List ℕ) (mine : List Broken) (later : List (List Broken)) (depth : ℕ) (owner : Option DescriptorOwner)
-    → descriptor_length (d ++ behind) ≡ Some (length d) → ((s : Standing) → seen s ≡ v → Step running s role d behind mine w depth owner)
+    → descriptor_length (d ++ behind) ≡ Some (length d) → ((s : OutlineState) → seen s ≡ v → Step running s role d behind mine w depth owner)
     → Goes (adding E (tree_descriptor role depth owner d ∷ [])) running w later behind → Goes E running v (mine ∷ later) (d ++ behind)
-one_goes E running v w role d behind mine later depth owner e step onward s fs at told =
+one_goes E running v w role d behind mine later depth owner e step onward s fs at report =
     let one = step s at in
-    goes_on E running s fs d behind role depth owner e one.is one.deep one.belongs (own_told running s fs role (d ++ behind) mine later one.own told)
-    (onward (behind_one running s role d behind) (left_one running s fs role d behind) one.after (left_told running s fs role d behind mine later told))
+    goes_on E running s fs d behind role depth owner e one.is one.deep one.belongs (own_reported running s fs role (d ++ behind) mine later one.own report)
+    (onward (behind_one running s role d behind) (left_one running s fs role d behind) one.after (left_reported running s fs role d behind mine later report))
 
 -- the same findings and the same bytes
 pub goes_as : (E : Aim) (running : Option SetSpeed) (v : Seen) (later later_as : List (List Broken)) (ahead ahead_as : List ℕ) → later ≡ later_as → ahead ≡ ahead_as
@@ -121,8 +121,8 @@ goes_as E running v later later_as ahead ahead_as e f goes =
 -- a walk that ends so ends as follows from it
 pub goes_for : (E F : Aim) (running : Option SetSpeed) (v : Seen) (later : List (List Broken)) (ahead : List ℕ)
     → ((rest : List ℕ) (c : List TreeDescriptor) → E rest c → F rest c) → Goes E running v later ahead → Goes F running v later ahead
-goes_for E F running v later ahead follows goes s fs at told n enough =
-    let ended = goes s fs at told n enough in
+goes_for E F running v later ahead follows goes s fs at report n enough =
+    let ended = goes s fs at report n enough in
     record {
       walk = ended.walk;
       aimed = follows ended.walk.rest (map entry_in_tree (first_entries n running s fs ahead)) ended.aimed;

@@ -24,14 +24,14 @@ use Rattle.usb_file_data.proofs.WholeSets.{no_some}
 use Rattle.usb_remarks.specs.declared.speed.SetSpeed.{SetSpeed}
 use Rattle.usb_walk.specs.declared.role.Role.{Role}
 use Rattle.usb_walk.specs.declared.role.Role.TheVariants as roles
-use Rattle.usb_remarks.specs.declared.standing.Standing.{Standing}
+use Rattle.usb_remarks.specs.declared.outline_state.OutlineState.{OutlineState}
 use Rattle.usb_walk.specs.Places.{place_in}
 use Rattle.usb_remarks.specs.Findings.{IsAtPlace, can_break, finding_at}
 use Rattle.usb_walk.specs.Surroundings.{depth_of}
 use Rattle.usb_walk.specs.Owners.{of_set, owner_of}
 use Rattle.usb_remarks.specs.SetStart.{entered}
 use Rattle.usb_walk.specs.Positions.{noted}
-use Rattle.usb_remarks.specs.Standings.{passed}
+use Rattle.usb_remarks.specs.OutlineStates.{passed}
 use Rattle.usb_walk.specs.Roles.{outer_role, role_if, role_of}
 use Rattle.usb_walk.specs.Trees.{extra_descriptors, set_descriptors, set_descriptors_by, setting_descriptors, tree_descriptor}
 use Rattle.usb_remarks.proofs.Spans.{Aim, adding}
@@ -42,7 +42,7 @@ use Rattle.usb_remarks.proofs.rest.Endpoints.{of_four}
 use Rattle.usb_remarks.proofs.rest.Settings.{Out, out, out_at, settings_go}
 
 -- outside of sets
-pub outer_at : (s : Standing) (d : List ℕ) → s.position.left ≡ 0 → role_of s.position d ≡ outer_role s.position d
+pub outer_at : (s : OutlineState) (d : List ℕ) → s.position.left ≡ 0 → role_of s.position d ≡ outer_role s.position d
 unfolding role_of
 outer_at s d e = cond-true (s.position.left == 0) _ _ (eq-eqb s.position.left 0 e)
 
@@ -84,14 +84,14 @@ begun_out : (kind : SetKind) (k n : ℕ) (v : Seen) → out_at k (begun kind n v
 begun_out kinds.Configuration k n v = refl
 begun_out kinds.OtherSpeed k n v = refl
 
-pub set_after : (kind : SetKind) (running : Option SetSpeed) (len : ℕ) (body behind : List ℕ) (s : Standing)
+pub set_after : (kind : SetKind) (running : Option SetSpeed) (len : ℕ) (body behind : List ℕ) (s : OutlineState)
     → (let d : List ℕ = len ∷ type_number kind ∷ body in
     seen (passed roles.Configuration d (entered roles.Configuration running (d ++ behind) s)) ≡ begun kind (little_endian_at (d ++ behind) 2 - length d) (seen s))
 unfolding noted
 set_after kinds.Configuration running len body behind s = refl
 set_after kinds.OtherSpeed running len body behind s = refl
 
-here_set : (kind : SetKind) (running : Option SetSpeed) (s : Standing) (len : ℕ) (body behind : List ℕ) (cause : Cause) → can_break roles.Configuration cause ≡ true
+here_set : (kind : SetKind) (running : Option SetSpeed) (s : OutlineState) (len : ℕ) (body behind : List ℕ) (cause : Cause) → can_break roles.Configuration cause ≡ true
     → (let d : List ℕ = len ∷ type_number kind ∷ body in
     let b = broken_by cause (part_of_kind kind) (count_in kind (out (seen s))) 0 0 in
     IsAtPlace (entered roles.Configuration running (d ++ behind) s).position roles.Configuration b.finding b.cause)
@@ -100,7 +100,7 @@ here_set kinds.Configuration running s len body behind cause h = (refl, h)
 here_set kinds.OtherSpeed running s len body behind cause h = (refl, h)
 
 -- it belongs to its set
-owner_set : (kind : SetKind) (running : Option SetSpeed) (s : Standing) (len : ℕ) (body behind : List ℕ)
+owner_set : (kind : SetKind) (running : Option SetSpeed) (s : OutlineState) (len : ℕ) (body behind : List ℕ)
     → (let d : List ℕ = len ∷ type_number kind ∷ body in
     owner_of (entered roles.Configuration running (d ++ behind) s).position roles.Configuration d ≡ Some (of_set (part_of_kind kind) (count_in kind (out (seen s)))))
 unfolding owner_of
@@ -113,7 +113,7 @@ value_breaks true = refl
 value_breaks false = refl
 
 -- either type of its first descriptor begins a set
-pub set_role : (s : Standing) (kind : SetKind) (len : ℕ) (body : List ℕ) → 9 ≤ length (len ∷ type_number kind ∷ body)
+pub set_role : (s : OutlineState) (kind : SetKind) (len : ℕ) (body : List ℕ) → 9 ≤ length (len ∷ type_number kind ∷ body)
     → length (len ∷ type_number kind ∷ body) ≤ little_endian_at (len ∷ type_number kind ∷ body) 2
     → outer_role s.position (len ∷ type_number kind ∷ body) ≡ Some roles.Configuration
 unfolding outer_role
@@ -137,7 +137,7 @@ whole_sum c total whole =
     let y = flat_map setting_bytes c.settings in
     sym (length-append (d ++ x) y ∙ ap (λ n. n + length y) (length-append d x)) ∙ whole.length_is
 
-configuration_step : (running : Option SetSpeed) (before : List Configuration) (c : Configuration) (total : ℕ) (behind : List ℕ) (s : Standing) → IsWhole c total → s.position.left ≡ 0
+configuration_step : (running : Option SetSpeed) (before : List Configuration) (c : Configuration) (total : ℕ) (behind : List ℕ) (s : OutlineState) → IsWhole c total → s.position.left ≡ 0
     → Step running s roles.Configuration (descriptor_bytes (configuration_descriptor c total)) (behind_first c behind) (at_configuration (part_of_kind c.kind) before (count_in c.kind (out (seen s))) c)
     (begun c.kind (total - length (descriptor_bytes (configuration_descriptor c total))) (seen s))
     1 (Some (of_set (part_of_kind c.kind) (count_in c.kind (out (seen s)))))
@@ -176,7 +176,7 @@ configuration_goes E running before c total v behind later whole outside onward 
 
 -- ---- sets
 
--- A set whose wTotalLength is the count of its bytes. Behind its first descriptor so many bytes are left as the others have.
+-- A set whose wTotalLength is the count of its bytes. Behind its first descriptor this many bytes are left as the others have.
 pub set_goes : (E : Aim) (running : Option SetSpeed) (c : Configuration) (before : List Configuration) (total : ℕ) (v : Seen) (behind : List ℕ) (later : List (List Broken))
     → has_typed_raw c ≡ false → length (set_bytes c total) ≡ total → v.left ≡ 0
     → ((w : Seen) → out w ≡ with_count c.kind (count_in c.kind (out v) + 1) (out v) → Goes (adding E (set_descriptors_by (of_set (part_of_kind c.kind) (count_in c.kind (out v))) c total)) running w later behind)
@@ -210,7 +210,7 @@ set_goes E running c before total v behind later raws all_bytes outside onward =
     (λ r l h. subst (λ k. E r (tree_descriptor roles.Configuration 1 (Some owner) d ∷ k)) (append_assoc (extra_descriptors 2 owner c.extras) (flat_map (setting_descriptors owner) c.settings) l) h)
     (onward w (e ∙ begun_out c.kind 0 (total - length d) v ∙ ap (λ k. with_count c.kind (i + 1) (out_at k v)) (sym outside)))))))
 
--- from each standing of which this is seen
+-- from each state of which this is seen
 abbrev pub GoesOut : Aim → Option SetSpeed → Out → List (List Broken) → List ℕ → Type 0
 GoesOut E running o later ahead = (v : Seen) → out v ≡ o → Goes E running v later ahead
 

@@ -14,7 +14,7 @@ use Rattle.usb_set.specs.Descriptors.{descriptor_bytes, interface_descriptor}
 use Rattle.usb_set.specs.inside.Trees.{endpoint_bytes, extra_bytes, is_setting_typed, setting_bytes}
 use Rattle.usb_set.proofs.Trees.{setting_typed_parts}
 use Rattle.usb_walk.specs.declared.role.Role.TheVariants as roles
-use Rattle.usb_remarks.specs.declared.standing.Standing.{Standing}
+use Rattle.usb_remarks.specs.declared.outline_state.OutlineState.{OutlineState}
 use Rattle.usb_walk.specs.Places.{place_in}
 use Rattle.usb_remarks.specs.Findings.{IsAtPlace, can_break, finding_at}
 use Rattle.usb_walk.specs.Surroundings.{depth_of}
@@ -32,7 +32,7 @@ use Rattle.usb_remarks.proofs.rest.Endpoints.{endpoints_go}
 
 -- ---- an interface
 
-interface_role : (s : Standing) (t : Setting) → inner_role s.position (descriptor_bytes (interface_descriptor t)) ≡ Some roles.Interface
+interface_role : (s : OutlineState) (t : Setting) → inner_role s.position (descriptor_bytes (interface_descriptor t)) ≡ Some roles.Interface
 unfolding inner_role
 interface_role s t = ap (λ b. Some (typed_role b roles.Interface)) (le-leb 9 (length (descriptor_bytes (interface_descriptor t))) (omega arith))
 
@@ -73,7 +73,7 @@ setting_sum t ts =
     length-append ((d ++ x) ++ y) more ∙ ap (λ n. n + length more) (length-append (d ++ x) y ∙ ap (λ n. n + length y) (length-append d x)) in
     omega (arith, sum)
 
-interface_step : (running : Option SetSpeed) (all : List Setting) (t : Setting) (ts : List Setting) (behind : List ℕ) (s : Standing)
+interface_step : (running : Option SetSpeed) (all : List Setting) (t : Setting) (ts : List Setting) (behind : List ℕ) (s : OutlineState)
     → s.position.left ≡ length (flat_map setting_bytes (t ∷ ts))
     → Step running s roles.Interface (descriptor_bytes (interface_descriptor t)) (behind_interface t ts behind) (at_interface (part_in s.position) s.position.set all s.position.settings t)
     (begun_setting t (length (descriptor_bytes (interface_descriptor t))) (seen s)) 2 (Some (interface_in t (seen s)))

@@ -1,13 +1,13 @@
 -- Walks that come to the end of the bytes, and their text.
 use Rattle.std.proofs.Common.{◌≡◌, ◌≤◌, inr, ℕ, zero, suc, List, [], ◌++◌, flat_map, length, map, drop, Option, Some, None, is_some, refl, sym, ap, subst, ◌∙◌, arith, append-nil, length-drop, ◌∷◌}
 use Rattle.usb_walk.specs.declared.role.Role.{Role}
-use Rattle.usb_remarks.specs.declared.standing.Standing.{Standing}
+use Rattle.usb_remarks.specs.declared.outline_state.OutlineState.{OutlineState}
 use Rattle.usb_remarks.specs.Outline.{Entry, after_next, end_of, entries, entry_next, findings_of, first_entries, left_next, next_ahead, outline, pass_ahead}
 use Rattle.usb_remarks.specs.OutlineLaws.{AreNumbered, EachFindingOnce, HasItsOwnFindings, as_in_tree}
 use Rattle.usb_remarks.specs.Findings.{IsAtPlace, finding_at}
 use Rattle.std.specs.List.{AllByRecursion}
 use Rattle.usb_walk.specs.Roles.{next_role}
-use Rattle.usb_remarks.specs.Standings.{start}
+use Rattle.usb_remarks.specs.OutlineStates.{start}
 use Rattle.usb_remarks.specs.declared.speed.SetSpeed.{SetSpeed}
 use Rattle.usb_walk.specs.Trees.{tree_descriptors}
 use Rattle.usb_file_data.specs.declared.file.Input.{Input}
@@ -24,26 +24,26 @@ use Rattle.usb_file_data.proofs.RuleNumbers.{numbered_rule}
 use Rattle.std.proofs.lemmas.List.{length-map}
 use Rattle.usb_file_data.specs.declared.rule.Rule.{Rule}
 use Rattle.usb_file_data.proofs.Sorting.{HasRule, as_many}
-use Rattle.usb_remarks.proofs.Standings.{start_number}
+use Rattle.usb_remarks.proofs.OutlineStates.{start_number}
 use Rattle.usb_remarks.proofs.Telling.{AllAtPlace}
 use Rattle.usb_walk.specs.declared.position.Position.{Position}
 use Rattle.usb_remarks.proofs.Spans.{Aim, Ended, adding, end_and_rest, ended_more, ended_none}
 
 -- where no bytes are, no descriptor can stand
-none_of_nothing : (s : Standing) → next_role s.position [] ≡ None
+none_of_nothing : (s : OutlineState) → next_role s.position [] ≡ None
 unfolding next_role
 none_of_nothing s = refl
 
 -- a walk from here ends so, if it may take as many steps as there are bytes
-abbrev pub Ends : Aim → Option SetSpeed → Standing → List Found → List ℕ → Type 0
+abbrev pub Ends : Aim → Option SetSpeed → OutlineState → List Found → List ℕ → Type 0
 Ends E running s fs ahead = (n : ℕ) → length ahead ≤ n → Ended E s fs ahead (first_entries n running s fs ahead)
 
-pub ends_here : (E : Aim) (running : Option SetSpeed) (s : Standing) (fs : List Found) → fs ≡ [] → E [] [] → Ends E running s fs []
+pub ends_here : (E : Aim) (running : Option SetSpeed) (s : OutlineState) (fs : List Found) → fs ≡ [] → E [] [] → Ends E running s fs []
 ends_here E running s fs none aimed n enough =
     subst (λ l. Ended E s fs [] l) (sym (unfolded_none next_ahead (pass_ahead running) n (s, fs, []) (inr (none_of_nothing s)))) (ended_none E s fs none aimed)
 
 -- a descriptor takes one step, and has two bytes at least
-pub ends_behind : (E : Aim) (running : Option SetSpeed) (s : Standing) (fs : List Found) (ahead : List ℕ) (next : Role × ℕ) → next_role s.position ahead ≡ Some next
+pub ends_behind : (E : Aim) (running : Option SetSpeed) (s : OutlineState) (fs : List Found) (ahead : List ℕ) (next : Role × ℕ) → next_role s.position ahead ≡ Some next
     → HasItsOwnFindings (entry_next running s fs ahead next)
     → Ends (adding E (entry_in_tree (entry_next running s fs ahead next) ∷ [])) running (after_next running s ahead next) (left_next running s fs ahead next) (drop next.1 ahead)
     → Ends E running s fs ahead
@@ -85,7 +85,7 @@ all_have_rules : (shown : List Entry) → AllByRecursion HasItsOwnFindings shown
 all_have_rules [] own = tt
 all_have_rules (d ∷ ds) own =
     both_all (λ f. HasRule f.finding) (findings_of d) (flat_map findings_of ds)
-    (have_rules d.standing.position d.role (findings_of d) own.0) (all_have_rules ds own.1)
+    (have_rules d.state.position d.role (findings_of d) own.0) (all_have_rules ds own.1)
 
 without_causes : (found : List Found) → AllByRecursion (λ f. HasRule f.finding) found → AllByRecursion HasRule (map (λ f. f.finding) found)
 without_causes [] ruled = tt
@@ -102,12 +102,12 @@ all_tells running input b leaves =
     let ended = leaves (length b) (omega arith) in
     let w = ended.walk in
     let es = entries running found b in
-    let told : flat_map findings_of es ≡ found =
+    let report : flat_map findings_of es ≡ found =
     sym (append-nil (flat_map findings_of es)) ∙ ap (λ l. flat_map findings_of es ++ l) (sym ended.all_reported) ∙ w.tells in
-    let ruled = without_causes found (subst (λ l. AllByRecursion (λ f. HasRule f.finding) l) told (all_have_rules es ended.own)) in
+    let ruled = without_causes found (subst (λ l. AllByRecursion (λ f. HasRule f.finding) l) report (all_have_rules es ended.own)) in
     record {
       tells = record {
-        reported = found_same running es ∙ told;
+        reported = found_same running es ∙ report;
         own = ended.own;
         numbered = subst (λ k. AreNumbered k es) start_number w.numbered;
         count = sym (length-map found (λ f. f.finding)) ∙ sym (as_many (map (λ f. f.finding) found) ruled);

@@ -7,10 +7,10 @@ use Rattle.std.specs.Option.{option_or}
 use Rattle.usb_remarks.specs.Bindings.{binding, bound_at}
 use Rattle.usb_remarks.specs.InterfaceNumbers.{has_number, has_setting}
 
--- What is heard of the speed of a set, descriptor by descriptor.
+-- What is collected of the speed of a set, descriptor by descriptor.
 
 -- with what the descriptors before said, these descriptors say what all do
-pub record Hears (all : List (List ℕ)) (e : Evidence) (ds : List (List ℕ)) : Type 0 where
+pub record Collects (all : List (List ℕ)) (e : Evidence) (ds : List (List ℕ)) : Type 0 where
   pub companion : list_any is_companion all ≡ e.companion || list_any is_companion ds
   pub high : list_any proves_high all ≡ e.high || list_any proves_high ds
   pub full : list_any proves_full all ≡ e.full || list_any proves_full ds
@@ -18,8 +18,8 @@ pub record Hears (all : List (List ℕ)) (e : Evidence) (ds : List (List ℕ)) :
   pub slow : list_any hints_low_or_full all ≡ e.slow || list_any hints_low_or_full ds
 
 -- with what one descriptor more says
-abbrev pub heard : List ℕ → Evidence → Evidence
-heard d e = record {
+abbrev pub collected : List ℕ → Evidence → Evidence
+collected d e = record {
   companion = e.companion || is_companion d;
   high = e.high || proves_high d;
   full = e.full || proves_full d;
@@ -48,7 +48,7 @@ bound_with table count n ds = option_or (bound_at table n) (binding n count ds)
 -- with what was gathered of the descriptors before, these descriptors make up all
 pub record Gathers (all : List (List ℕ)) (e : Evidence) (table : List (Option ℕ)) (count : ℕ) (there : List Bool) (ds : List (List ℕ)) : Type 0 where
   pub cells : length table ≡ 256
-  pub evidence : Hears all e ds
+  pub evidence : Collects all e ds
   pub bindings : (n : ℕ) → n < 256 → binding n 0 all ≡ bound_with table count n ds
   pub number_cells : length there ≡ 256
   pub numbers : (n : ℕ) → n < 256 → has_setting n all ≡ has_number there n || has_setting n ds

@@ -17,9 +17,9 @@ loop-t-preserved c =
     let ends : Ends = record { host = after; device = c.exchange.new.device.device } in
     let asks : due_of (transfer_of c.loop-t.sender) bytes ≡ Some sent = sym c.in-Some.ensures in
     let going = still_due (transfer_of c.loop-t.sender) bytes (transfer_of c.loop-t.sender).stage sent asks in
-    let heard = c.in_ok-failure.ensures.heard in
-    let fewer : left (transfer_of c.exchange.new.host) < left (transfer_of c.loop-t.sender) = heard.3 going in
-    let got = heard.0 in
+    let received = c.in_ok-failure.ensures.received in
+    let fewer : left (transfer_of c.exchange.new.host) < left (transfer_of c.loop-t.sender) = received.3 going in
+    let got = received.0 in
     let device = ap (λ d. d.device) c.in_ok-failure.ensures.device in
     let same =
     subst (λ x. exchanged (answer x.file) x.file.device.packet (has_data bytes) before c.loop-t.device.device (Some sent) c.at-fate.result ≡ ends)
@@ -34,8 +34,8 @@ loop-t-preserved c =
           c.args.device.now.device c.loop-t.transactions before c.loop-t.device.device sent after c.exchange.new.device.device asks goes
           c.loop-t.invariant.leads);
       description = ap (λ d. d.description) c.in_ok-failure.ensures.device ∙ c.loop-t.invariant.description;
-      request = heard.2 ∙ c.loop-t.invariant.request;
-      kind = heard.4 ∙ c.loop-t.invariant.kind;
+      request = received.2 ∙ c.loop-t.invariant.request;
+      kind = received.4 ∙ c.loop-t.invariant.kind;
       failure = search rules;
       most = omega (arith, fewer, c.loop-t.invariant.most);
     }

@@ -1,5 +1,5 @@
-use Rattle.usb_c.proofs.Worded.{troubles_are_told}
+use Rattle.usb_c.proofs.Worded.{troubles_are_reported}
 use Rattle.usb_c.proofs.laws.each_trouble_has_words.Goals as goal
 
 pub returns : goal.returns
-returns c = troubles_are_told
+returns c = troubles_are_reported

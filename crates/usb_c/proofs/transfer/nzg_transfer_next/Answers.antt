@@ -9,5 +9,5 @@ use Rattle.usb_c.proofs.transfer.nzg_transfer_next.Goals as goal
 pub returns-clause-whole : goal.returns-clause-whole
 returns-clause-whole c =
     let held = transfer_in c.args.transfer.now in
-    let told : c.told.result ≡ unwrap_or (option_map transaction_of (option_and_then due held)) c.args.transaction.now = search rules in
-    λ sent. due_whole held c.args.transaction.now c.told.result sent told
+    let report : c.transaction_numbers.result ≡ unwrap_or (option_map transaction_of (option_and_then due held)) c.args.transaction.now = search rules in
+    λ sent. due_whole held c.args.transaction.now c.transaction_numbers.result sent report

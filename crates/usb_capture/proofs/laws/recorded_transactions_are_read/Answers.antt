@@ -1,5 +1,5 @@
-use Rattle.usb_capture.proofs.RecordingLaws.{heard_again}
+use Rattle.usb_capture.proofs.RecordingLaws.{received_again}
 use Rattle.usb_capture.proofs.laws.recorded_transactions_are_read.Goals as goal
 
 pub returns : goal.returns
-returns c = heard_again
+returns c = received_again

@@ -3,5 +3,5 @@ use Rattle.usb_capture_lines.proofs.RunLemmas.{broken_kept}
 use Rattle.usb_capture_lines.proofs.recording.end_at.Goals as goal
 
 pub returns-in-Ok-flush : goal.returns-in-Ok-flush
-returns-in-Ok-flush g c s first bytes held told =
-    inl (refl, broken_kept s first bytes c.args.why c.args.at held _ _ (c.in-Ok.ensures s first bytes c.args.why held told) c.flush.ensures.kept)
+returns-in-Ok-flush g c s first bytes held report =
+    inl (refl, broken_kept s first bytes c.args.why c.args.at held _ _ (c.in-Ok.ensures s first bytes c.args.why held report) c.flush.ensures.kept)

@@ -1,13 +1,13 @@
 use Rattle.std.proofs.Common.{[], subst}
 use Rattle.std.proofs.lemmas.Result.{IfOk-weaker}
 use Rattle.usb_capture_lines.specs.RecordingRuns.{ReadsByte}
-use Rattle.usb_capture_lines.proofs.RunLemmas.{after_one, err_weaker, kept_is_nothing, nothing_told, reads_nothing, stops_writing}
+use Rattle.usb_capture_lines.proofs.RunLemmas.{after_one, err_weaker, kept_is_nothing, nothing_is_reported, reads_nothing, stops_writing}
 use Rattle.usb_capture_lines.proofs.recording.tell_recording.Goals as goal
 
 pub returns-in-Ok-Some-clause-ok : goal.returns-in-Ok-Some-clause-ok
 returns-in-Ok-Some-clause-ok g c =
     let read = subst (ReadsByte _ _) c.in-Ok-Some.field-0-is c.in-Ok-Some.ensures.ok in
-    IfOk-weaker c.tell_rest.result _ _ (λ found told. (told.0, after_one c.in-Ok-Some.first _ _ _ _ read told.1)) c.tell_rest.ensures.ok
+    IfOk-weaker c.tell_rest.result _ _ (λ found report. (report.0, after_one c.in-Ok-Some.first _ _ _ _ read report.1)) c.tell_rest.ensures.ok
 
 pub returns-in-Ok-Some-clause-err : goal.returns-in-Ok-Some-clause-err
 returns-in-Ok-Some-clause-err g c =
@@ -27,4 +27,4 @@ returns-in-Ok-None-clause-err g c =
 
 pub returns-in-Err-clause-err : goal.returns-in-Err-clause-err
 returns-in-Err-clause-err g c =
-    reads_nothing [] _ _ _ (kept_is_nothing _ _ c.in-Err.ensures.err) (nothing_told c.args.selection (g.W.Write.contents c.args.w.now))
+    reads_nothing [] _ _ _ (kept_is_nothing _ _ c.in-Err.ensures.err) (nothing_is_reported c.args.selection (g.W.Write.contents c.args.w.now))

@@ -1,12 +1,12 @@
 use Rattle.std.proofs.lemmas.Result.{IfOk-weaker}
-use Rattle.usb_capture_lines.proofs.RunLemmas.{err_weaker, fails_after, stops_after, told_after}
+use Rattle.usb_capture_lines.proofs.RunLemmas.{err_weaker, fails_after, stops_after, reported_after}
 use Rattle.usb_capture_lines.proofs.recording.tell_rest.Goals as goal
 
 pub returns-in-Ok-clause-ok : goal.returns-in-Ok-clause-ok
 returns-in-Ok-clause-ok g c =
     let held = g.W.Write.contents c.args.w.now in
     let pours = c.in-Ok.ensures.ok c.args.selection held (c.new-recording.ensures held) in
-    IfOk-weaker c.end.result _ _ (λ found. told_after c.args.selection c.args.first _ _ _ held _ _ found c.in-Ok.ensures.ended pours) c.end.ensures.ok
+    IfOk-weaker c.end.result _ _ (λ found. reported_after c.args.selection c.args.first _ _ _ held _ _ found c.in-Ok.ensures.ended pours) c.end.ensures.ok
 
 pub returns-in-Ok-clause-err : goal.returns-in-Ok-clause-err
 returns-in-Ok-clause-err g c =

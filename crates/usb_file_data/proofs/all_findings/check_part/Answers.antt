@@ -15,11 +15,11 @@ loop-set-preserved c =
     let old = c.loop-set.found in
     let inv = c.loop-set.invariant in
     let below : i < length sets = omega (arith, c.loop-set-test.true) in
-    let told = c.in_ok-check_set_at.ensures.reported
+    let report = c.in_ok-check_set_at.ensures.reported
     ∙ ap (λ q. walked old (in_set q (is_marked c.loop-set.values) v)) c.of.ensures
     ∙ ap (λ f. walked old (in_set (place c.args.part i 0 0) f v)) inv.values in
     record {
-      found = each_next (set_at c.args.part sets) sets i v old _ _ below c.index-sets-set.is inv.found told;
+      found = each_next (set_at c.args.part sets) sets i v old _ _ below c.index-sets-set.is inv.found report;
       values = c.in_ok-check_set_at.ensures.marked ∙ ap (λ f. marked f v.value) inv.values ∙ sym (stands_more value_of sets i v below c.index-sets-set.is);
     }
 

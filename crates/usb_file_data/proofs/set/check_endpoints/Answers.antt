@@ -44,12 +44,12 @@ loop-endpoint-preserved c =
     ∙ ap (λ q. reported old (in_endpoint q now.here (λ b. now.elsewhere b now.number) e)) c.at_endpoint.ensures
     ∙ ap (λ f. reported old (in_endpoint p f (λ b. now.elsewhere b now.number) e)) inv.here
     ∙ ap (λ f. reported old (in_endpoint p here f e)) elsewhere in
-    let told = c.in_ok-next.ensures.reported
+    let report = c.in_ok-next.ensures.reported
     ∙ ap (λ r. walked r (in_extras c.args.place.now stands n e.extras)) (c.in_ok-pass.ensures ∙ ap (passed 1) at)
     ∙ walked_on old (in_endpoint p here (λ b. other b s.number) e) (in_extras c.args.place.now stands n e.extras) in
     let next : c.in_ok-next.next ≡ n + endpoint_associations e = c.in_ok-next.ensures.next in
     record {
-      found = counted_next endpoint_associations (endpoint_at c.args.place.now stands other s) s.endpoints k n _ e old _ _ below is inv.found told next;
+      found = counted_next endpoint_associations (endpoint_at c.args.place.now stands other s) s.endpoints k n _ e old _ _ below is inv.found report next;
       number = ap (λ t. t.number) c.in_ok-check_endpoint.ensures.claimed ∙ inv.number;
       here = ap (λ t. t.here) c.in_ok-check_endpoint.ensures.claimed ∙ ap (λ f. marked f e.address) inv.here ∙ sym (stands_more address_of s.endpoints k e below is);
       elsewhere = ap (λ t. t.elsewhere) c.in_ok-check_endpoint.ensures.claimed ∙ ap (λ m. owned_at m now.elsewhere e.address) inv.number

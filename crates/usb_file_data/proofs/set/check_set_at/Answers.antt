@@ -36,14 +36,14 @@ loop-setting-preserved c =
     let compared = compared_with may_break now in
     let extras = in_extras p stands n s.extras in
     let ends = at_each_counted endpoint_associations (endpoint_at p stands other s) 0 (n + association_count s.extras) s.endpoints in
-    let told = done.reported
+    let report = done.reported
     ∙ ap (λ q. walked old (in_setting q whole.numbers whole.alternates compared.numbers compared.alternates other n s)) c.at_setting.ensures
     ∙ ap (λ f. walked old (in_setting p f whole.alternates compared.numbers compared.alternates other n s)) all.numbers
     ∙ ap (λ f. walked old (in_setting p stands f compared.numbers compared.alternates other n s)) all.alternates
     ∙ ap (λ xs. walked old (xs ∷ extras ++ ends)) (interface_seen may_break p settings j s now below is inv.numbers inv.alternates keep)
     ∙ ap (λ f. walked old (in_setting p stands (has_alternate settings) before (has_alternate (take j settings)) f n s)) inv.elsewhere in
     record {
-      found = counted_next setting_associations (setting_at c.args.place settings) settings j n _ s old _ _ below is inv.found told done.next;
+      found = counted_next setting_associations (setting_at c.args.place settings) settings j n _ s old _ _ below is inv.found report done.next;
       numbers = λ is_odd. ap (λ t. t.numbers) (done.interfaces is_odd ∙ ap (λ q. entered q.setting s now) c.at_setting.ensures) ∙ ap (λ f. marked f s.number) (inv.numbers is_odd) ∙ sym (stands_more number_of settings j s below is);
       alternates = λ is_odd. ap (λ t. t.alternates) (done.interfaces is_odd ∙ ap (λ q. entered q.setting s now) c.at_setting.ensures) ∙ ap (pair_too s.number s.alternate) (inv.alternates is_odd) ∙ sym (alternate_more settings j s below is);
       elsewhere = done.addresses ∙ ap (owned s.number s.endpoints) inv.elsewhere ∙ sym (shared_more settings j s below is);

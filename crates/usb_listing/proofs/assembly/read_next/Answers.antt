@@ -1,7 +1,7 @@
 use Rattle.std.proofs.Common.{subst, sym}
-use Rattle.usb_listing.specs.inside.Drafts.{Told, so_far}
+use Rattle.usb_listing.specs.inside.Drafts.{Reported, so_far}
 use Rattle.usb_listing.specs.inside.Walking.{text_read}
-use Rattle.usb_listing.proofs.FeedLemmas.{no_feed_faulty, read_told}
+use Rattle.usb_listing.proofs.FeedLemmas.{no_feed_faulty, read_reported}
 use Rattle.usb_listing.proofs.FormLemmas.{none_before_none, none_before_read}
 use Rattle.usb_listing.proofs.ReadingLemmas.{begun_of}
 use Rattle.usb_listing.proofs.assembly.read_next.Goals as goal
@@ -14,8 +14,8 @@ returns-in_default-clause-read c = none_before_none c.args.form c.args.text.now 
 
 pub returns-in-Err-clause-err : goal.returns-in-Err-clause-err
 returns-in-Err-clause-err c =
-    subst (Told (so_far c.args.draft.now) (text_read c.args.form c.args.text.now)) (sym c.first_reason.ensures)
-    (read_told c.args.form (so_far c.args.draft.now) c.args.text.now c.in-Some.first.now c.in-Some.more.now c.in-Some-line_read.first.now c.in-Err.why
+    subst (Reported (so_far c.args.draft.now) (text_read c.args.form c.args.text.now)) (sym c.first_reason.ensures)
+    (read_reported c.args.form (so_far c.args.draft.now) c.args.text.now c.in-Some.first.now c.in-Some.more.now c.in-Some-line_read.first.now c.in-Err.why
     (begun_of c.args.draft.now c.requires.holds) c.in-Some.ensures.some c.in-Some-line_read.ensures c.in-Err.ensures.err c.in-Err.ensures.judged)
 
 pub returns-in-Err-clause-read : goal.returns-in-Err-clause-read

@@ -4,7 +4,7 @@ use Rattle.usb_listing.proofs.word.behind.Goals as goal
 
 pub returns-in_err-first : goal.returns-in_err-first
 returns-in_err-first g c =
-    rw c.from_residual.ensures (line_short c.args.line.now c.args.word.now (let short = c.in_err-first.ensures.cases in let told = c.told-word in omega (arith, short, told)))
+    rw c.from_residual.ensures (line_short c.args.line.now c.args.word.now (let short = c.in_err-first.ensures.cases in let report = c.told-word in omega (arith, short, report)))
 
 pub returns-then-ends_word : goal.returns-then-ends_word
 returns-then-ends_word g c =

@@ -4,7 +4,7 @@ use Rattle.usb_device.specs.Requests.{answer}
 use Rattle.usb_bus.specs.Bus.{HostEnd}
 use Rattle.usb_bus.specs.Converse.{AskedView, IsTalk, TalkView, asked_of, data_sent}
 use Rattle.usb_bus.specs.inside.Running.{view_of, failure_of, transfer_of, LeadsTo, settled}
-use Rattle.usb_bus.proofs.Conversing.{none_told, talk_on}
+use Rattle.usb_bus.proofs.Conversing.{nothing_reported, talk_on}
 use Rattle.usb_bus.proofs.conversation.Conversation.ask.Goals.{in-Ok+in_ok-push-in-Ok, in-Err}
 use Rattle.usb_bus.proofs.conversation.Conversation.ask.Goals as goal
 
@@ -17,7 +17,7 @@ returns-clause-goes_on c requests t =
     let file = i.device.description.file in
     let h : HostEnd = record { transfer = transfer_of c.transfer_over.new.sender; got = c.in_ok-ended.ended.bytes.items } in
     let before = subst (λ x. IsTalk requests fates x) (sym c.self.view_is) t in
-    let on = none_told i.talk.stopped (sym c.is_some.ensures ∙ c.if-is_some.false) in
+    let on = nothing_reported i.talk.stopped (sym c.is_some.ensures ∙ c.if-is_some.false) in
     let is_new : transfer_of c.new-sender.result ≡ begun i.address file.device.packet i.naks a.setup =
     c.new-sender.ensures.view ∙ ap (λ x. begun i.address x i.naks a.setup) c.self.invariant.0 in
     let sent : c.data_sent-sent.result.now ≡ data_sent a = c.data_sent-sent.ensures in

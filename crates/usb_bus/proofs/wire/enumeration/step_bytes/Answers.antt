@@ -11,15 +11,15 @@ exchange_bytes-requires-clause-sent g c = legal_due c.args.host.now (sent_of c.i
 
 pub returns-in-Send-clause-within : goal.returns-in-Send-clause-within
 returns-in-Send-clause-within g c =
-    let (answered, r, carries, heard, device) = c.exchange_bytes.ensures in
-    take_within c.args.host.now c.exchange_bytes.new.host r.reply c.requires.within heard.0
+    let (answered, r, carries, received, device) = c.exchange_bytes.ensures in
+    take_within c.args.host.now c.exchange_bytes.new.host r.reply c.requires.within received.0
 
 pub returns-in-Send-clause-seen : goal.returns-in-Send-clause-seen
 returns-in-Send-clause-seen g c =
     let f = c.args.device.now.description.file in
     let d = c.args.device.now.device in
     let sent = sent_of c.in-Send.t in
-    let (answered, r, carries, heard, device) = c.exchange_bytes.ensures in
+    let (answered, r, carries, received, device) = c.exchange_bytes.ensures in
     let at = c.at-fate.ensures ∙ ap (fate_at c.args.wire.fates.now) c.from-before.ensures in
     inr (
       record {
@@ -29,9 +29,9 @@ returns-in-Send-clause-seen g c =
         brings = r;
         carries = subst (λ n. IsExchanged (answer f) f.device.packet d sent (fate_at c.args.wire.fates.now c.args.transactions) (bits_of c.args.wire.changes.now (n + 1)) answered r) c.from-before.ensures
             (subst (λ fate. IsExchanged (answer f) f.device.packet d sent fate (bits_of c.args.wire.changes.now (c.from-before.result + 1)) answered r) at carries);
-        host = heard.0;
+        host = received.0;
         device = ap (λ v. v.device) device;
       },
       omega arith,
-      heard.2,
+      received.2,
     )

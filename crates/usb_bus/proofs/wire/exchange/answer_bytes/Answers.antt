@@ -19,12 +19,12 @@ returns-then-is_acked g c =
     let served : c.serve-answer.follows.lender-at-none ≡ record v { device = (served_by f v.device (sent_of c.args.t.now) c.is_ready.result).device } = search rules in
     let acked : c.acked.new.self ≡ record c.serve-answer.follows.lender-at-none { device = acked_by c.serve-answer.follows.lender-at-none.description.file c.serve-answer.follows.lender-at-none.device } = search rules in (
       reply_of c.serve-answer.result,
-      record { reply = reply_of c.heard_answer-came.result; device = acked_by f (served_by f v.device (sent_of c.args.t.now) c.is_ready.result).device },
+      record { reply = reply_of c.received_answer-came.result; device = acked_by f (served_by f v.device (sent_of c.args.t.now) c.is_ready.result).device },
       answered_so (answer f) f.device.packet v.device (sent_of c.args.t.now) c.args.number c.args.fate (bits_of c.args.damages.changes.now c.args.damages.transaction)
-          c.is_ready.result c.is_lost_up.result c.is_lost_ack.result true (reply_of c.serve-answer.result) (reply_of c.heard_answer-came.result)
-          _ _ _ _ c.is_ready.ensures c.serve-answer.ensures.answer c.is_lost_up.ensures c.reply_packet-packet.ensures.packet c.receive-reply.ensures c.heard_answer-came.ensures
+          c.is_ready.result c.is_lost_up.result c.is_lost_ack.result true (reply_of c.serve-answer.result) (reply_of c.received_answer-came.result)
+          _ _ _ _ c.is_ready.ensures c.serve-answer.ensures.answer c.is_lost_up.ensures c.reply_packet-packet.ensures.packet c.receive-reply.ensures c.received_answer-came.ensures
           c.is_lost_ack.ensures c.ack_packet.ensures.packet c.receive-ack.ensures (sym c.if-is_acked.true ∙ c.is_ack-is_acked.ensures),
-      c.hear-outcome.ensures,
+      c.take_answer-outcome.ensures,
       acked ∙ ap {A = View} (λ w. record w { device = acked_by w.description.file w.device }) served,
     )
 
@@ -34,11 +34,11 @@ returns-else-is_acked g c =
     let f = v.description.file in
     let served : c.serve-answer.follows.lender-at-none ≡ record v { device = (served_by f v.device (sent_of c.args.t.now) c.is_ready.result).device } = search rules in (
       reply_of c.serve-answer.result,
-      record { reply = reply_of c.heard_answer-came.result; device = (served_by f v.device (sent_of c.args.t.now) c.is_ready.result).device },
+      record { reply = reply_of c.received_answer-came.result; device = (served_by f v.device (sent_of c.args.t.now) c.is_ready.result).device },
       answered_so (answer f) f.device.packet v.device (sent_of c.args.t.now) c.args.number c.args.fate (bits_of c.args.damages.changes.now c.args.damages.transaction)
-          c.is_ready.result c.is_lost_up.result c.is_lost_ack.result false (reply_of c.serve-answer.result) (reply_of c.heard_answer-came.result)
-          _ _ _ _ c.is_ready.ensures c.serve-answer.ensures.answer c.is_lost_up.ensures c.reply_packet-packet.ensures.packet c.receive-reply.ensures c.heard_answer-came.ensures
+          c.is_ready.result c.is_lost_up.result c.is_lost_ack.result false (reply_of c.serve-answer.result) (reply_of c.received_answer-came.result)
+          _ _ _ _ c.is_ready.ensures c.serve-answer.ensures.answer c.is_lost_up.ensures c.reply_packet-packet.ensures.packet c.receive-reply.ensures c.received_answer-came.ensures
           c.is_lost_ack.ensures c.ack_packet.ensures.packet c.receive-ack.ensures (sym c.if-is_acked.false ∙ c.is_ack-is_acked.ensures),
-      c.hear-outcome.ensures,
+      c.take_answer-outcome.ensures,
       served,
     )

@@ -16,7 +16,7 @@ returns-in-None g c =
       record { reply = NoReply; device = v.device },
       exchanged_so (answer f) f.device.packet v.device sent c.args.fate bits c.is_lost_down-is_lost.result NoReply (record { reply = NoReply; device = v.device })
           _ _ _ _ _ number c.is_lost_down-is_lost.ensures c.token_packet.ensures.packet c.receive-token.ensures c.data_packet.ensures.packet c.receive-after.ensures
-          (ap (option_map sent_of) (sym c.in-None.is) ∙ c.heard.ensures) refl (unanswered (answer f) f.device.packet v.device number c.args.fate bits),
-      c.hear.ensures,
+          (ap (option_map sent_of) (sym c.in-None.is) ∙ c.received.ensures) refl (unanswered (answer f) f.device.packet v.device number c.args.fate bits),
+      c.take_answer.ensures,
       refl,
     )

@@ -6,6 +6,6 @@ pub returns : goal.returns
 returns c = record {
   ok = λ earlier knows. (
     c.in_ok-found.ensures ∙ found_by c.args.transfer.now earlier c.args.self.now knows,
-    known_more c.args.transfer.now earlier c.args.self.now c.hear.new.self c.in_ok-hear.ensures knows,
+    known_more c.args.transfer.now earlier c.args.self.now c.take_answer.new.self c.in_ok-take_answer.ensures knows,
   );
 }

@@ -1,5 +1,6 @@
-use Rattle.std.proofs.Common.{inr, sym, ◌∙◌, arith}
+use Rattle.std.proofs.Common.{inr, sym, ◌∙◌, ap, arith}
 use Rattle.std.proofs.lemmas.Result.{err_from_is_err_and}
+use Rattle.usb_capture.specs.Files.{frame_list}
 use Rattle.usb_capture.proofs.Parts.{ended, refused, still_open}
 use Rattle.usb_capture.proofs.reader.CaptureReader.end_part.Goals as goal
 
@@ -15,7 +16,7 @@ pub returns-clause-ok : goal.returns-clause-ok
 returns-clause-ok c all frames kept =
     ended c.args.self.now c.clear.new.self c.in_ok-content.content _ (omega (arith, c.if-self-whole.false, c.whole.ensures))
     (sym c.in_ok-content.was ∙ c.content.ensures)
-    c.in_ok-frame.ensures
+    (c.in_ok-frame.ensures ∙ ap (frame_list c.in_ok-content.content) c.deref.ensures.value)
     (c.clear.ensures.state ∙ c.in_ok-go_on.ensures.state)
     c.clear.ensures.held c.clear.ensures.last c.clear.ensures.count
     (omega (arith, c.clear.ensures.place, c.go_on.ensures.count, c.go_on.ensures.place))

@@ -21,7 +21,7 @@ returns-then-bytes-left-clause-device c =
     let due : length bytes ≡ min (packet_in image) ((request_of e).length - e.offset) = search rules in
     let kept = ap (λ (x : EndpointZero). take x.offset after) (sym c.keep.ensures.rest) ∙ c.keep.ensures.bytes in
     subst (λ (x : EndpointZero). device_of image after (record x { stage = c.number-self.result }) ≡ (received_by image room e c.args.toggle bytes).device) (sym c.keep.ensures.rest)
-    (gathers_last image room after e c.number-self.result c.keep.new.self.toggle c.args.toggle bytes c.requires.at h c.requires.heard right due all c.number-self.ensures kept)
+    (gathers_last image room after e c.number-self.result c.keep.new.self.toggle c.args.toggle bytes c.requires.at h c.requires.received right due all c.number-self.ensures kept)
 
 pub returns-then-bytes-left-clause-of : goal.returns-then-bytes-left-clause-of
 returns-then-bytes-left-clause-of c =

@@ -4,7 +4,7 @@ use Rattle.usb_host.specs.inside.Reads.{phase_in, view_of, kept_in, place_in, st
 use Rattle.usb_host.proofs.EndLemmas.{begun_fewer}
 use Rattle.usb_host.proofs.host.Host.reset_done.Goals as goal
 
--- src/host.rt: a reset that was due
+-- src/host.rt: a reset that came next
 pub returns-clause-fewer : goal.returns-clause-fewer
 returns-clause-fewer c =
     subst

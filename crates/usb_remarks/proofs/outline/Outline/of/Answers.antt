@@ -1,6 +1,6 @@
 use Rattle.std.proofs.Common.{arith}
 use Rattle.usb_remarks.proofs.Coming.{awaits_start}
-use Rattle.usb_remarks.proofs.Standings.{start_at}
+use Rattle.usb_remarks.proofs.OutlineStates.{start_at}
 use Rattle.usb_remarks.proofs.outline.Outline.of.Goals as goal
 
 pub invariant_of-result : goal.invariant_of-result
