@@ -1,5 +1,5 @@
 -- The step of a run that is a transaction: what is known of the transfer that is open, before it and after it.
-use Rattle.std.proofs.Common.{◌≡◌, ◌⊎◌, inl, inr, ◌==◌, ◌||◌, ◌<◌, ◌≤◌, ◌+◌, ◌/◌, nat_lt, ℕ, suc, Bool, true, false, not, if◌then◌else◌, List, [], ◌∷◌, ◌++◌, length, take, drop, refl, sym, ◌∙◌, ap, subst, arith, length-append}
+use Rattle.std.proofs.Common.{◌≡◌, ◌⊎◌, inl, inr, ◌==◌, ◌||◌, ◌<◌, ◌≤◌, ◌+◌, ◌/◌, nat_lt, ℕ, suc, Bool, true, false, if◌then◌else◌, List, [], ◌∷◌, ◌++◌, length, take, drop, refl, sym, ◌∙◌, ap, subst, arith, length-append}
 use Rattle.std.specs.Prelude.{Option, Some, slice_index}
 use Rattle.std.proofs.lemmas.Bool.Decides.{nat_tests}
 use Rattle.std.proofs.lemmas.List.{append-nil}
@@ -32,7 +32,7 @@ use Rattle.usb_capture.specs.Events.{setup_at}
 use Rattle.usb_capture.specs.Findings.{reads_status}
 use Rattle.usb_capture.specs.PacketFindings.{has_wrong_toggle, is_early}
 use Rattle.usb_recorded_runs.proofs.HostLemmas.{IsAsked, MayCome, SizeIsKnown}
-use Rattle.usb_recorded_runs.proofs.PipeLemmas.{OpenAt, Sound, again}
+use Rattle.usb_recorded_runs.proofs.PipeLemmas.{OpenAt, Sound}
 use Rattle.usb_host.specs.Read.{get_descriptor}
 use Rattle.usb_capture.specs.Readings.{reads_descriptor}
 use Rattle.usb_recorded_runs.proofs.PlaceLemmas.{FirstTells}
