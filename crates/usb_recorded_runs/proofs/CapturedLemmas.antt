@@ -15,7 +15,7 @@ use Rattle.usb_recorded_runs.specs.Exchanges.{Exchange, exchanges, received, pac
 use Rattle.usb_recorded_runs.specs.Laws.{IsRun}
 use Rattle.usb_recorded_runs.proofs.CaptureLemmas.{capture_read}
 use Rattle.usb_recorded_runs.proofs.RecordedLemmas.{IsRegular, read_again}
-use Rattle.usb_recorded_runs.proofs.RunLemmas.{all_append, regular_run}
+use Rattle.usb_recorded_runs.proofs.RunLemmas.{all_append, regular_plain}
 
 pub all_legal : (xs : List Exchange) → AllByRecursion IsRegular xs → AllByRecursion IsLegal (packets_in xs)
 all_legal [] regular = tt
@@ -28,6 +28,6 @@ pub captured_again : (f : DescriptorFile) (fates : List Fate) (new : Pair) (earl
     → (read ≡ frames clock 1 (packets_in xs)) × (transactions_in recorded ≡ received (times clock) 1 xs))
 captured_again f fates new earlier n last clock read reader recorded run is_read are =
     let xs = exchanges f fates earlier n in
-    let regular = regular_run f fates new earlier n last run in
+    let regular = regular_plain f fates new earlier n last run.0 run.1 in
     let same = capture_read clock (packets_in xs) read reader (all_legal xs regular) is_read in
     (same, read_again clock xs recorded regular (subst (λ frames. AreOfFrames 1 frames recorded) same are))

@@ -18,8 +18,7 @@ use Rattle.usb_device.specs.Step.{DeviceStage, DeviceView, Sending, Served, Stat
 use Rattle.usb_bus.specs.declared.fate.Fate.{Fate}
 use Rattle.usb_bus.specs.declared.fate.Fate.TheVariants as fates
 use Rattle.usb_bus.specs.Bus.{brought}
-use Rattle.usb_bus.specs.DamagedRuns.{DamagedRunsAt}
-use Rattle.usb_bus.specs.Enumerate.{Pair, answered}
+use Rattle.usb_bus.specs.Enumerate.{Pair, RunsAt, answered}
 use Rattle.usb_bus.specs.Exchanges.{is_lost_down}
 use Rattle.usb_bus.specs.Log.{count_before}
 use Rattle.usb_bus.specs.Run.{fate_at}
@@ -137,14 +136,13 @@ module _ (f : DescriptorFile) where
   answered_short d sent fates.LostAck = served_short (answer f) f.device.packet d sent true
   answered_short d sent fates.LostDown = tt
 
-  pub short_run : (list : List Fate) (new : Pair) (earlier : List Pair) (n : ℕ) (last : Pair) → DamagedRunsAt (answer f) f.device.packet list [] new earlier n last
+  pub short_run : (list : List Fate) (new : Pair) (earlier : List Pair) (n : ℕ) (last : Pair) → RunsAt (answer f) f.device.packet list new earlier n last
       → AllByRecursion (IsShortIn f.device.packet) (exchanges f list earlier n)
   short_run list new [] n last run = tt
-  short_run list new (x ∷ earlier) n last (m, inl (reset, same), run) =
+  short_run list new (x ∷ earlier) n last (inl (reset, run)) =
       subst (λ w. AllByRecursion (IsShortIn f.device.packet) (exchanges f list earlier (count_before w n) ++ exchange_in f list n x.device w)) (sym reset.due)
-      (subst (λ k. AllByRecursion (IsShortIn f.device.packet) (exchanges f list earlier k ++ [])) (sym same)
-      (all_append (IsShortIn f.device.packet) (exchanges f list earlier m) [] (short_run list new earlier m x run) tt))
-  short_run list new (x ∷ earlier) n last (m, inr (made, same), run) =
+      (all_append (IsShortIn f.device.packet) (exchanges f list earlier n) [] (short_run list new earlier n x run) tt)
+  short_run list new (x ∷ earlier) n last (inr (m, same, made, run)) =
       let before : n - 1 ≡ m = omega (arith, same) in
       subst (λ w. AllByRecursion (IsShortIn f.device.packet) (exchanges f list earlier (count_before w n) ++ exchange_in f list n x.device w)) (sym made.due)
       (all_append (IsShortIn f.device.packet) (exchanges f list earlier (n - 1)) _
@@ -182,6 +180,10 @@ token_right size known InToken NoReply own token reply = refl
 abbrev pub IsNotLong : ℕ → Transaction → Type 0
 IsNotLong size t = (sizes : List ℕ) → (size_at t.to.address sizes ≡ 0) ⊎ (size_at t.to.address sizes ≡ size) → is_long sizes t ≡ false
 
+pub one_not_long : (size number : ℕ) (time : Option ℕ) (x : Exchange) → IsShortIn size x → IsNotLong size (transaction_of number time x)
+one_not_long size number time x short sizes own =
+    token_right size (size_at x.sent.address sizes) x.sent.token (brought x.fate x.answered) own short.token (came_short size x.fate x.answered short.reply)
+
 none_long_first : (size : ℕ) (lost : Bool) (t : Transaction) (ts : List Transaction) → IsNotLong size t → AllByRecursion (IsNotLong size) ts
     → AllByRecursion (IsNotLong size) (unless_lost lost t ++ ts)
 none_long_first size true t ts short later = later
@@ -192,6 +194,5 @@ pub none_long : (size : ℕ) (times : ℕ → Option ℕ) (number : ℕ) (xs : L
 none_long size times number [] short = tt
 none_long size times number (x ∷ xs) short =
     none_long_first size (is_lost_down x.fate) (transaction_of number (times number) x) (received times (number + length (packets_of x)) xs)
-    (λ sizes own.
-    token_right size (size_at x.sent.address sizes) x.sent.token (brought x.fate x.answered) own short.0.token (came_short size x.fate x.answered short.0.reply))
+    (one_not_long size number (times number) x short.0)
     (none_long size times (number + length (packets_of x)) xs short.1)

@@ -4,3 +4,15 @@ pub mod RunLemmas
 pub mod CapturedLemmas
 pub mod FindingLemmas
 pub mod LengthLemmas
+pub mod HostLemmas
+pub mod PipeLemmas
+pub mod CarriedLemmas
+pub mod FrontLemmas
+pub mod DeviceLemmas
+pub mod ReceivedLemmas
+pub mod StepLemmas
+pub mod KnownRuns
+pub mod SizeLemmas
+pub mod AnswerLemmas
+pub mod TransferLemmas
+pub mod PlaceLemmas

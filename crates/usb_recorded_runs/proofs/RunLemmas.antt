@@ -24,13 +24,13 @@ use Rattle.usb_bus.specs.declared.fate.Fate.TheVariants as fates
 use Rattle.usb_bus.specs.Bus.{brought, readiness}
 use Rattle.usb_bus.specs.Damaged.{IsExchanged, IsTakenOf, bits_of, fits, fitting, is_ready}
 use Rattle.usb_bus.specs.DamagedRuns.{DamagedRunsAt}
-use Rattle.usb_bus.specs.Enumerate.{Pair, answered, answered_to}
+use Rattle.usb_bus.specs.Enumerate.{Pair, RunsAt, answered, answered_to}
 use Rattle.usb_bus.specs.Exchanges.{is_lost_ack, is_lost_down, is_lost_up}
 use Rattle.usb_bus.specs.Log.{count_before}
 use Rattle.usb_bus.specs.Run.{fate_at}
 use Rattle.usb_bus.specs.Wire.{Receives, ack_packet, data_packet, received_sent, reply_packet, served_received, token_packet}
 use Rattle.usb_bus.proofs.WireArrivals.{none_is_not_some}
-use Rattle.usb_recorded_runs.specs.Exchanges.{Exchange, arriving, exchange_in, exchanges, packets_of}
+use Rattle.usb_recorded_runs.specs.Exchanges.{Exchange, arriving, exchange_in, exchanges, packets_in, packets_of}
 use Rattle.usb_recorded_runs.proofs.RecordedLemmas.{Fits, IsRegular}
 
 -- ---- what a device answers
@@ -148,7 +148,7 @@ token_fits t stages.StatusIn sent e = same_fits _ sent e refl
 token_fits t stages.Completed sent e = absurd (let w : ⊥ = cc in w)
 token_fits t (stages.Failed why) sent e = absurd (let w : ⊥ = cc in w)
 
-due_fits : (phase : HostPhase) (sent : Sent) → wanted phase ≡ WantsSent sent → fits sent.token ≡ true
+pub due_fits : (phase : HostPhase) (sent : Sent) → wanted phase ≡ WantsSent sent → fits sent.token ≡ true
 due_fits ResetDue sent e = absurd (let w : ⊥ = cc in w)
 due_fits (Reading place t k) sent e = token_fits t t.stage sent e
 due_fits (Ended place) sent e = absurd (let w : ⊥ = cc in w)
@@ -159,7 +159,7 @@ received_whole : (p : PacketView) (received : Option PacketView) → IsLegal p �
 received_whole p None legal is = absurd (none_is_not_some (damage_of (packet_bytes p)) (packet_taken p legal) is)
 received_whole p (Some q) legal is = ap (λ r. Some r) (same_packet q p is.0 legal is.1)
 
-taken_whole : (p received : Option PacketView) → IsTakenOf false [] p received → received ≡ p
+pub taken_whole : (p received : Option PacketView) → IsTakenOf false [] p received → received ≡ p
 taken_whole None received is = is
 taken_whole (Some p) received is = received_whole p received is.0 is.1
 
@@ -178,7 +178,7 @@ all_append P [] ys p q = q
 all_append P (x ∷ xs) ys p q = (p.0, all_append P xs ys p.1 q)
 
 -- a device that receives all that is sent
-whole_received : (address : ℕ) (token : Token) → fits token ≡ true
+pub whole_received : (address : ℕ) (token : Token) → fits token ≡ true
     → (let s : Sent = record { address = address; token = token } in fitting (received_sent (Some (token_packet s)) (data_packet token)) ≡ Some s)
 whole_received address (SetupToken bytes) e =
     let s : Sent = record { address = address; token = SetupToken bytes } in ap (λ c. if c then Some s else None) e
@@ -233,7 +233,7 @@ module _ (f : DescriptorFile) where
       none InToken = tt
       none (OutToken toggle bytes) = tt
 
-  -- ---- a run
+  -- ---- a run over a bus of bytes
 
   pub regular_run : (list : List Fate) (new : Pair) (earlier : List Pair) (n : ℕ) (last : Pair) → DamagedRunsAt (answer f) f.device.packet list [] new earlier n last
       → AllByRecursion IsRegular (exchanges f list earlier n)
@@ -248,3 +248,69 @@ module _ (f : DescriptorFile) where
       subst (λ w. AllByRecursion IsRegular (exchanges f list earlier (count_before w n) ++ exchange_in f list n x.device w)) (sym made.due)
       (subst (λ k. AllByRecursion IsRegular (exchanges f list earlier k ++ made_of x.device made.sent (fate_at list k) ∷ [])) (sym before)
       (all_append IsRegular (exchanges f list earlier m) _ (regular_run list new earlier m x run) (one, tt)))
+
+  -- ---- the same of a run under fates, where the packets that arrive are legal
+
+  regular_sent : (d : DeviceView) (sent : Sent) (fate : Fate) → fits sent.token ≡ true → AllByRecursion IsLegal (packets_of (made_of d sent fate)) → IsRegular (made_of d sent fate)
+  regular_sent d sent fate fit legal = of fate legal
+    where
+      kept_one : (fate : Fate) → is_lost_down fate ≡ false → readiness fate ≡ Some (is_ready fate) → AllByRecursion IsLegal (packets_of (made_of d sent fate)) → IsRegular (made_of d sent fate)
+      kept_one fate kept ready legal =
+          let same : answered f d sent fate ≡ (served_by f d sent (is_ready fate)).reply = ap (answered_to f d sent) ready in
+          record {
+            asks = fit;
+            answers = subst (Fits sent.token) (sym same) (served_fits (answer f) f.device.packet d sent (is_ready fate));
+            replies = λ kept none. served_replies (answer f) f.device.packet d sent (is_ready fate) (sym same ∙ none);
+            silent = λ lost. absurd (let e : true ≡ false = sym lost ∙ kept in let w : ⊥ = cc in w);
+            legal = legal;
+          }
+
+      of : (fate : Fate) → AllByRecursion IsLegal (packets_of (made_of d sent fate)) → IsRegular (made_of d sent fate)
+      of fates.Pass legal = kept_one fates.Pass refl refl legal
+      of fates.Busy legal = kept_one fates.Busy refl refl legal
+      of fates.LostUp legal = kept_one fates.LostUp refl refl legal
+      of fates.LostAck legal = kept_one fates.LostAck refl refl legal
+      of fates.LostDown legal = record {
+        asks = fit;
+        answers = none_fits sent.token;
+        replies = λ kept. absurd (let e : true ≡ false = kept in let w : ⊥ = cc in w);
+        silent = λ lost. refl;
+        legal = legal;
+      }
+
+  all_left : (xs ys : List PacketView) → AllByRecursion IsLegal (xs ++ ys) → AllByRecursion IsLegal xs
+  all_left [] ys each = tt
+  all_left (x ∷ xs) ys each = (each.0, all_left xs ys each.1)
+
+  all_right : (xs ys : List PacketView) → AllByRecursion IsLegal (xs ++ ys) → AllByRecursion IsLegal ys
+  all_right [] ys each = each
+  all_right (x ∷ xs) ys each = all_right xs ys each.1
+
+  legal_front : (xs ys : List Exchange) → AllByRecursion IsLegal (packets_in (xs ++ ys)) → AllByRecursion IsLegal (packets_in xs)
+  legal_front [] ys each = tt
+  legal_front (x ∷ xs) ys each =
+      all_append IsLegal (packets_of x) (packets_in xs) (all_left (packets_of x) (packets_in (xs ++ ys)) each) (legal_front xs ys (all_right (packets_of x) (packets_in (xs ++ ys)) each))
+
+  legal_last : (xs : List Exchange) (x : Exchange) → AllByRecursion IsLegal (packets_in (xs ++ x ∷ [])) → AllByRecursion IsLegal (packets_of x)
+  legal_last [] x each = all_left (packets_of x) [] each
+  legal_last (y ∷ xs) x each = legal_last xs x (all_right (packets_of y) (packets_in (xs ++ x ∷ [])) each)
+
+  pub regular_plain : (list : List Fate) (new : Pair) (earlier : List Pair) (n : ℕ) (last : Pair) → RunsAt (answer f) f.device.packet list new earlier n last
+      → AllByRecursion IsLegal (packets_in (exchanges f list earlier n)) → AllByRecursion IsRegular (exchanges f list earlier n)
+  regular_plain list new [] n last run legal = tt
+  regular_plain list new (x ∷ earlier) n last (inl (reset, run)) legal =
+      let before = legal_front (exchanges f list earlier n) []
+      (subst (λ w. AllByRecursion IsLegal (packets_in (exchanges f list earlier (count_before w n) ++ exchange_in f list n x.device w))) reset.due legal) in
+      subst (λ w. AllByRecursion IsRegular (exchanges f list earlier (count_before w n) ++ exchange_in f list n x.device w)) (sym reset.due)
+      (all_append IsRegular (exchanges f list earlier n) [] (regular_plain list new earlier n x run before) tt)
+  regular_plain list new (x ∷ earlier) n last (inr (m, same, made, run)) legal =
+      let back : n - 1 ≡ m = omega (arith, same) in
+      let xs = exchanges f list earlier m in
+      let one = made_of x.device made.sent (fate_at list m) in
+      let all : AllByRecursion IsLegal (packets_in (xs ++ one ∷ [])) =
+      subst (λ k. AllByRecursion IsLegal (packets_in (exchanges f list earlier k ++ made_of x.device made.sent (fate_at list k) ∷ []))) back
+      (subst (λ w. AllByRecursion IsLegal (packets_in (exchanges f list earlier (count_before w n) ++ exchange_in f list n x.device w))) made.due legal) in
+      let now = regular_sent x.device made.sent (fate_at list m) (due_fits x.host.phase made.sent made.due) (legal_last xs one all) in
+      subst (λ w. AllByRecursion IsRegular (exchanges f list earlier (count_before w n) ++ exchange_in f list n x.device w)) (sym made.due)
+      (subst (λ k. AllByRecursion IsRegular (exchanges f list earlier k ++ made_of x.device made.sent (fate_at list k) ∷ [])) (sym back)
+      (all_append IsRegular xs (one ∷ []) (regular_plain list new earlier m x run (legal_front xs (one ∷ []) all)) (now, tt)))

@@ -1,29 +1,42 @@
 -- What holds of a recording of a host and a device that enumerate over a bus that loses packets.
 use Rattle.std.specs.Prelude.{◌≡◌, ◌⊎◌, ℕ, true, false, List, [], Option, None}
 use Rattle.std.specs.List.{AllByRecursion}
+use Rattle.usb_wire.specs.Packets.{IsLegal}
 use Rattle.usb_file_data.specs.declared.file.DescriptorFile.{DescriptorFile}
+use Rattle.usb_fields.specs.declared.packet.Speed.{Speed}
+use Rattle.usb_host.specs.declared.choice.Choice.{Choice}
+use Rattle.usb_host.specs.Limits.{LimitView}
+use Rattle.usb_device.specs.Accepted.{Accepted}
 use Rattle.usb_device.specs.Requests.{answer}
 use Rattle.usb_bus.specs.declared.fate.Fate.{Fate}
 use Rattle.usb_bus.specs.DamagedRuns.{DamagedRunsAt}
-use Rattle.usb_bus.specs.Enumerate.{Pair}
+use Rattle.usb_bus.specs.Enumerate.{Pair, Runs, chosen_pair}
 use Rattle.usb_bus.specs.Exchanges.{is_lost_down}
+use Rattle.usb_capture.specs.declared.finding.Finding.TheVariants.{MoreThanAsked, OtherBytes, OtherType, RefusesStatus}
 use Rattle.usb_capture.specs.declared.frame.Frame.{Frame}
-use Rattle.usb_capture.specs.declared.packet_finding.PacketFinding.TheVariants.{NoHandshake, NoRequest, SetupRefused}
+use Rattle.usb_capture.specs.declared.packet_finding.PacketFinding.TheVariants.{Long, NoHandshake, NoRequest, NoShortPacket, SetupRefused, Toggle}
 use Rattle.usb_capture.specs.declared.reader.CaptureReader.{CaptureReader}
 use Rattle.usb_capture.specs.declared.recorded_packet.RecordedPacket.{RecordedPacket}
 use Rattle.usb_capture.specs.declared.transaction.Transaction.{Transaction}
+use Rattle.usb_capture.specs.BusTransfers.{transfers_in}
 use Rattle.usb_capture.specs.PacketFindings.{damage_in, is_found}
 use Rattle.usb_capture.specs.PacketSizes.{is_long, size_at}
 use Rattle.usb_capture.specs.Reading.{IsRead}
 use Rattle.usb_capture.specs.Recordings.{transactions_in}
 use Rattle.usb_recorded_runs.specs.Captures.{AreOfFrames, Moment, capture_of, frames, times}
 use Rattle.usb_recorded_runs.specs.Exchanges.{exchanges, received, packets_in, transaction_of}
-use Rattle.usb_recorded_runs.specs.Findings.{IsFreeAfter, LosesHandshake}
+use Rattle.usb_recorded_runs.specs.Findings.{IsFreeAfter, IsTransferFreeAfter, LosesHandshake}
 
--- A run from a new pair on, of n transactions over a bus of bytes that changes no bit of a packet: these are the pairs on the
--- way, the newest first. A bus of bytes carries packets that are legal.
+-- A run from a new pair on, of n transactions under these fates, as that of an enumeration: these are the pairs on the way, the newest
+-- first. Each packet that arrives is a legal one.
 abbrev pub IsRun : DescriptorFile → List Fate → Pair → List Pair → ℕ → Pair → Type 0
-IsRun f fates new earlier n last = DamagedRunsAt (answer f) f.device.packet fates [] new earlier n last
+IsRun f fates new earlier n last = Runs f fates new earlier n last × AllByRecursion IsLegal (packets_in (exchanges f fates earlier n))
+
+-- So it is over a bus of bytes that changes no bit of a packet, where no premise is needed.
+abbrev pub RunsOfBytesAreRuns : Type 0
+RunsOfBytesAreRuns =
+    (f : DescriptorFile) (fates : List Fate) (new : Pair) (earlier : List Pair) (n : ℕ) (last : Pair) →
+    DamagedRunsAt (answer f) f.device.packet fates [] new earlier n last → IsRun f fates new earlier n last
 
 -- The packets that arrive, read one by one as the program reads frames, are the transactions of the run, each with what of it arrives.
 abbrev pub RecordedRunsAreRead : Type 0
@@ -58,6 +71,14 @@ SetupsAreTaken =
     (let transactions = received times 1 (exchanges f fates earlier n) in
     IsFreeAfter NoRequest [] transactions × IsFreeAfter SetupRefused [] transactions)
 
+-- No data toggle is wrong (8.5.3, 8.6), of a host that enumerates a new device: a packet that comes again, since its ACK was lost, has
+-- the toggle that it had (8.6.4).
+abbrev pub NoToggleIsWrong : Type 0
+NoToggleIsWrong =
+    (f : DescriptorFile) (fates : List Fate) (limits : LimitView) (speed : Speed) (choice : Choice) (earlier : List Pair) (n : ℕ) (last : Pair)
+    (times : ℕ → Option ℕ) → IsRun f fates (chosen_pair limits speed choice) earlier n last →
+    IsFreeAfter Toggle [] (received times 1 (exchanges f fates earlier n))
+
 -- No packet of data is longer than bMaxPacketSize0 of the device (5.5.3, 9.6.1): none is found to be, where that or nothing is known of
 -- the packet size at its address.
 abbrev pub NoPacketIsLong : Type 0
@@ -67,6 +88,42 @@ NoPacketIsLong =
     AllByRecursion
     (λ t. (sizes : List ℕ) → (size_at t.to.address sizes ≡ 0) ⊎ (size_at t.to.address sizes ≡ f.device.packet) → is_long sizes t ≡ false)
     (received times 1 (exchanges f fates earlier n))
+
+-- None is found to be too long in an enumeration of a new device, whatever was read of its packet size: the device says no other one.
+abbrev pub NoLongPacketIsFound : Type 0
+NoLongPacketIsFound =
+    (f : DescriptorFile) (fates : List Fate) (limits : LimitView) (speed : Speed) (choice : Choice) (earlier : List Pair) (n : ℕ) (last : Pair)
+    (times : ℕ → Option ℕ) → IsRun f fates (chosen_pair limits speed choice) earlier n last →
+    IsFreeAfter Long [] (received times 1 (exchanges f fates earlier n))
+
+-- No status stage comes before its data stage is complete (5.5.3, 8.5.3.2): all bytes came, or a packet that is shorter than a whole one.
+abbrev pub NoShortPacketLacks : Type 0
+NoShortPacketLacks =
+    (f : DescriptorFile) (fates : List Fate) (limits : LimitView) (speed : Speed) (choice : Choice) (earlier : List Pair) (n : ℕ) (last : Pair)
+    (times : ℕ → Option ℕ) → IsRun f fates (chosen_pair limits speed choice) earlier n last →
+    IsFreeAfter NoShortPacket [] (received times 1 (exchanges f fates earlier n))
+
+-- Of the control transfers of an enumeration none has more bytes than wLength (9.3.5), and none is a GET_STATUS that a device refuses (9.4.5).
+abbrev pub NoTransferHasMore : Type 0
+NoTransferHasMore =
+    (f : DescriptorFile) (fates : List Fate) (limits : LimitView) (speed : Speed) (choice : Choice) (earlier : List Pair) (n : ℕ) (last : Pair)
+    (times : ℕ → Option ℕ) → IsRun f fates (chosen_pair limits speed choice) earlier n last →
+    (let transfers = transfers_in (received times 1 (exchanges f fates earlier n)) in
+    IsTransferFreeAfter MoreThanAsked [] transfers × IsTransferFreeAfter RefusesStatus [] transfers)
+
+-- What a device says of a descriptor is what it said of it before (9.4.3), as far as both have bytes.
+abbrev pub NoDescriptorChanges : Type 0
+NoDescriptorChanges =
+    (f : DescriptorFile) (fates : List Fate) (limits : LimitView) (speed : Speed) (choice : Choice) (earlier : List Pair) (n : ℕ) (last : Pair)
+    (times : ℕ → Option ℕ) → IsRun f fates (chosen_pair limits speed choice) earlier n last →
+    IsTransferFreeAfter OtherBytes [] (transfers_in (received times 1 (exchanges f fates earlier n)))
+
+-- A descriptor that comes has the type that was asked for (9.4.3), of a device with accepted descriptors.
+abbrev pub DescriptorsHaveTypes : Type 0
+DescriptorsHaveTypes =
+    (f : DescriptorFile) (fates : List Fate) (limits : LimitView) (speed : Speed) (choice : Choice) (earlier : List Pair) (n : ℕ) (last : Pair)
+    (times : ℕ → Option ℕ) → Accepted f speed → IsRun f fates (chosen_pair limits speed choice) earlier n last →
+    IsTransferFreeAfter OtherType [] (transfers_in (received times 1 (exchanges f fates earlier n)))
 
 -- A handshake lacks in a transaction whose token arrives only where it was lost, or where the device has another address (8.5).
 abbrev pub HandshakesAreLost : Type 0

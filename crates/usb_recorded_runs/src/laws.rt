@@ -1,5 +1,12 @@
 //! The functions of these laws do nothing: their contracts are the laws.
-ghost use Rattle.usb_recorded_runs.specs.Laws.{CapturedRunsAreRead, HandshakesAreLost, NoPacketIsDamaged, NoPacketIsLong, RecordedRunsAreRead, SetupsAreTaken};
+ghost use Rattle.usb_recorded_runs.specs.Laws.{CapturedRunsAreRead, DescriptorsHaveTypes, HandshakesAreLost, NoDescriptorChanges, NoLongPacketIsFound, NoPacketIsDamaged, NoPacketIsLong, NoShortPacketLacks, NoToggleIsWrong, NoTransferHasMore, RecordedRunsAreRead, RunsOfBytesAreRuns, SetupsAreTaken};
+
+use usb_bus::laws::a_device_keeps_its_table;
+
+/// A run over a bus of bytes that changes no bit is a run under fates, and each packet of it that arrives is legal.
+pub fn a_run_of_bytes_is_a_run()
+    ensures { RunsOfBytesAreRuns }
+{}
 
 /// The packets of a run that arrive are read back to the transactions of the run: of one whose token is lost there is nothing,
 /// and of another its token, its data and its handshake, as far as each arrives.
@@ -22,10 +29,52 @@ pub fn each_setup_is_taken()
     ensures { SetupsAreTaken }
 {}
 
+/// `Toggle` is never found: a packet that comes again after a loss has the toggle that it had.
+pub fn no_toggle_is_wrong()
+    ensures { NoToggleIsWrong }
+{
+    a_device_keeps_its_table();
+}
+
 /// `Long` is found nowhere where nothing else is known of a packet size than the device's own.
 pub fn no_packet_is_long()
     ensures { NoPacketIsLong }
 {}
+
+/// Nor is it found anywhere in an enumeration of a new device, which says no other packet size of itself.
+pub fn no_long_packet_is_found()
+    ensures { NoLongPacketIsFound }
+{
+    a_device_keeps_its_table();
+}
+
+/// Nor is `NoShortPacket`: a data stage ends with all bytes that were asked for, or with a packet that is shorter than a whole one.
+pub fn no_short_packet_lacks()
+    ensures { NoShortPacketLacks }
+{
+    a_device_keeps_its_table();
+}
+
+/// Of the findings in control transfers neither `MoreThanAsked` nor `RefusesStatus` is ever there.
+pub fn no_transfer_has_more()
+    ensures { NoTransferHasMore }
+{
+    a_device_keeps_its_table();
+}
+
+/// Nor is `OtherBytes`: a device never says something else of a descriptor.
+pub fn no_descriptor_changes()
+    ensures { NoDescriptorChanges }
+{
+    a_device_keeps_its_table();
+}
+
+/// Nor is `OtherType`, of a device with accepted descriptors.
+pub fn each_descriptor_has_its_type()
+    ensures { DescriptorsHaveTypes }
+{
+    a_device_keeps_its_table();
+}
 
 /// `NoHandshake` is found only where an answer or an ACK was lost, or where the device has another address, as one that has not
 /// received the ACK of its SET_ADDRESS.
