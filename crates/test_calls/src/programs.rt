@@ -76,9 +76,9 @@ fn a_bench_tells_what_a_loss_costs(rt: HostRuntime) -> Result<()> {
         Fate::Pass,
         Fate::LostAck,
     ];
-    let said = bench::said(rt.alloc(), &MOUSE, &lost_ack)?;
-    assert_eq!(rt; said.as_str(), "2 attempts, 48 transactions");
-    let trouble = bench::said(rt.alloc(), &MOUSE, &[Fate::LostDown; 9]);
+    let cost = bench::report(rt.alloc(), &MOUSE, &lost_ack)?;
+    assert_eq!(rt; cost.as_str(), "2 attempts, 48 transactions");
+    let trouble = bench::report(rt.alloc(), &MOUSE, &[Fate::LostDown; 9]);
     assert_eq!(rt;
         message(rt.alloc(), &trouble)?.as_str(),
         "no answer, three times in a row, at step first"

@@ -44,9 +44,9 @@ module _ (f : DescriptorFile) (s : State) where
       gives_cut value index size bytes (value % 256 == 0)
       (sym (ap (λ k. gives s (asked_so value index size) (descriptor f k (value % 256) index)) kind) ∙ sym (table_gives value index size) ∙ e)
 
-  pub device_told : (q : Setup) (bytes : List ℕ) → q.request_type ≡ 128 → q.request ≡ 6 → q.value / 256 ≡ 1 → answer f s q ≡ Bytes bytes
+  pub device_reported : (q : Setup) (bytes : List ℕ) → q.request_type ≡ 128 → q.request ≡ 6 → q.value / 256 ≡ 1 → answer f s q ≡ Bytes bytes
       → bytes ≡ take q.length (device_bytes f.device)
-  device_told q bytes type request kind e =
+  device_reported q bytes type request kind e =
       let same : q ≡ asked_so q.value q.index q.length = (λ i. record { request_type = type i; request = request i; value = q.value; index = q.index; length = q.length }) in
       tells_so q.value q.index q.length bytes kind (ap (answer f s) (sym same) ∙ e)
 
@@ -63,8 +63,8 @@ module _ (f : DescriptorFile) (s : State) where
   gives_any value index size bytes None e = absurd (let w : ⊥ = cc in w)
   gives_any value index size bytes (Some all) e = cut_any size all bytes (size == 0) e
 
-  any_told : (q : Setup) (bytes : List ℕ) → q.request_type ≡ 128 → q.request ≡ 6 → answer f s q ≡ Bytes bytes → bytes ≡ take q.length (described_by f q)
-  any_told q bytes type request e =
+  any_reported : (q : Setup) (bytes : List ℕ) → q.request_type ≡ 128 → q.request ≡ 6 → answer f s q ≡ Bytes bytes → bytes ≡ take q.length (described_by f q)
+  any_reported q bytes type request e =
       let same : q ≡ asked_so f s q.value q.index q.length = (λ i. record { request_type = type i; request = request i; value = q.value; index = q.index; length = q.length }) in
       gives_any q.value q.index q.length bytes (descriptor f (q.value / 256) (q.value % 256) q.index)
       (sym (table_gives f s q.value q.index q.length) ∙ ap (answer f s) (sym same) ∙ e)
@@ -145,7 +145,7 @@ long_fronts f s q bytes e within m read kind long =
     let parts = read_parts (q.request_type == 128) (q.request == 6) read in
     let of_device : q.value / 256 ≡ 1 = same_number (q.value / 256) 1 kind in
     let is : bytes ≡ take q.length (device_bytes f.device) =
-    device_told f s q bytes (same_number q.request_type 128 parts.0) (same_number q.request 6 parts.1) of_device e in
+    device_reported f s q bytes (same_number q.request_type 128 parts.0) (same_number q.request 6 parts.1) of_device e in
     let before = front_of f.device.packet q.length bytes m within in
     of before.0 before.1 is
   where
@@ -161,7 +161,7 @@ any_front : (f : DescriptorFile) (s : State) (q : Setup) (bytes : List ℕ) → 
     → reads_descriptor q ≡ true → IsFront (joined (take m (packets bytes f.device.packet q.length))) (described_by f q)
 any_front f s q bytes e within m read =
     let parts = read_parts (q.request_type == 128) (q.request == 6) read in
-    let is : bytes ≡ take q.length (described_by f q) = any_told f s q bytes (same_number q.request_type 128 parts.0) (same_number q.request 6 parts.1) e in
+    let is : bytes ≡ take q.length (described_by f q) = any_reported f s q bytes (same_number q.request_type 128 parts.0) (same_number q.request 6 parts.1) e in
     let before = front_of f.device.packet q.length bytes m within in
     of before.0 before.1 is
   where
@@ -183,7 +183,7 @@ fronts_tell f s q bytes e m read kind whole =
     let parts = read_parts (q.request_type == 128) (q.request == 6) read in
     let of_device : q.value / 256 ≡ 1 = same_number (q.value / 256) 1 kind in
     let is : bytes ≡ take q.length (device_bytes f.device) =
-    device_told f s q bytes (same_number q.request_type 128 parts.0) (same_number q.request 6 parts.1) of_device e in
+    device_reported f s q bytes (same_number q.request_type 128 parts.0) (same_number q.request 6 parts.1) of_device e in
     let within : length bytes ≤ q.length = omega (arith, ap length is, short_cut q.length (device_bytes f.device)) in
     let front = joined (take m (packets bytes f.device.packet q.length)) in
     let has : is_whole 1 front ≡ true = subst (λ k. is_whole k front ≡ true) of_device whole in

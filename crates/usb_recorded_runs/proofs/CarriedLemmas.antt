@@ -54,7 +54,7 @@ module _ (table : State → Setup → Outcome) (cut : ℕ) where
     pub device_is : r.device ≡ device
 
   abbrev after_ack : Bool → DeviceView → DeviceView
-  after_ack received d = if received then acked table cut d else d
+  after_ack arrived d = if arrived then acked table cut d else d
 
   answered_so : (d : DeviceView) (sent : Sent) (fate : Fate) (number n : ℕ) (a : Reply) (r : Served) → is_lost_down fate ≡ false
       → IsAnswered table cut d (Some sent) number fate (bits_of [] n) a r
@@ -65,10 +65,10 @@ module _ (table : State → Setup → Outcome) (cut : ℕ) where
           → (let s = served table cut d sent (is_ready fate) in Comes r s.reply (after_ack (is_data s.reply) s.device))
       whole fate up ack x =
           let reply : x.reply ≡ reply_packet a = taken_whole (reply_packet a) x.reply (subst (λ lost. IsTakenOf lost [] (reply_packet a) x.reply) up x.reply_is) in
-          let received : received_reply x.reply ≡ a = ap received_reply reply ∙ received_back a in
+          let arrived : received_reply x.reply ≡ a = ap received_reply reply ∙ received_back a in
           let acks : x.ack ≡ ack_packet (received_reply x.reply) = taken_whole (ack_packet (received_reply x.reply)) x.ack (subst (λ lost. IsTakenOf lost [] (ack_packet (received_reply x.reply)) x.ack) ack x.ack_is) in
-          let says : is_ack x.ack ≡ is_data (served table cut d sent (is_ready fate)).reply = ap is_ack acks ∙ ack_back (received_reply x.reply) ∙ ap is_data (received ∙ x.answers) in
-          record { reply_is = x.receives_reply ∙ received ∙ x.answers; device_is = x.device ∙ ap (λ c. after_ack c (served table cut d sent (is_ready fate)).device) says }
+          let says : is_ack x.ack ≡ is_data (served table cut d sent (is_ready fate)).reply = ap is_ack acks ∙ ack_back (received_reply x.reply) ∙ ap is_data (arrived ∙ x.answers) in
+          record { reply_is = x.receives_reply ∙ arrived ∙ x.answers; device_is = x.device ∙ ap (λ c. after_ack c (served table cut d sent (is_ready fate)).device) says }
 
       of : (fate : Fate) → is_lost_down fate ≡ false → IsAnswered table cut d (Some sent) number fate (bits_of [] n) a r
           → (let s = served table cut d sent (is_ready fate) in Comes r (brought fate s.reply) (after_ack (acknowledges fate s.reply) s.device))
@@ -77,14 +77,14 @@ module _ (table : State → Setup → Outcome) (cut : ℕ) where
       of fates.LostDown kept x = absurd (let w : ⊥ = cc in w)
       of fates.LostUp kept x =
           let none : x.reply ≡ None = taken_none (reply_packet a) x.reply x.reply_is in
-          let received : received_reply x.reply ≡ NoReply = ap received_reply none in
-          let acks : x.ack ≡ None = subst (λ reply. IsTakenOf false [] (ack_packet reply) x.ack) received x.ack_is in
-          record { reply_is = x.receives_reply ∙ received; device_is = x.device ∙ ap (λ k. after_ack (is_ack k) (served table cut d sent true).device) acks }
+          let arrived : received_reply x.reply ≡ NoReply = ap received_reply none in
+          let acks : x.ack ≡ None = subst (λ reply. IsTakenOf false [] (ack_packet reply) x.ack) arrived x.ack_is in
+          record { reply_is = x.receives_reply ∙ arrived; device_is = x.device ∙ ap (λ k. after_ack (is_ack k) (served table cut d sent true).device) acks }
       of fates.LostAck kept x =
           let reply : x.reply ≡ reply_packet a = taken_whole (reply_packet a) x.reply x.reply_is in
-          let received : received_reply x.reply ≡ a = ap received_reply reply ∙ received_back a in
+          let arrived : received_reply x.reply ≡ a = ap received_reply reply ∙ received_back a in
           let acks : x.ack ≡ None = taken_none (ack_packet (received_reply x.reply)) x.ack x.ack_is in
-          record { reply_is = x.receives_reply ∙ received ∙ x.answers; device_is = x.device ∙ ap (λ k. after_ack (is_ack k) (served table cut d sent true).device) acks }
+          record { reply_is = x.receives_reply ∙ arrived ∙ x.answers; device_is = x.device ∙ ap (λ k. after_ack (is_ack k) (served table cut d sent true).device) acks }
 
   received_whole : (sent : Sent) (token after : Option PacketView) → fits sent.token ≡ true → token ≡ Some (token_packet sent) → after ≡ data_packet sent.token
       → fitting (received_sent token after) ≡ Some sent
@@ -110,15 +110,15 @@ module _ (table : State → Setup → Outcome) (cut : ℕ) where
       of fates.LostAck x = kept fates.LostAck refl x
       of fates.LostDown x =
           let token : x.token ≡ None = taken_none (Some (token_packet sent)) x.token x.token_is in
-          let received : fitting (received_sent x.token x.after) ≡ None = ap (λ t. fitting (received_sent t x.after)) token in
-          silent (subst (λ h. IsAnswered table cut d h (reply_number sent.token) fates.LostDown (bits_of [] n) a r) received x.rest)
+          let arrived : fitting (received_sent x.token x.after) ≡ None = ap (λ t. fitting (received_sent t x.after)) token in
+          silent (subst (λ h. IsAnswered table cut d h (reply_number sent.token) fates.LostDown (bits_of [] n) a r) arrived x.rest)
         where
           silent : IsAnswered table cut d None (reply_number sent.token) fates.LostDown (bits_of [] n) a r → Comes r NoReply d
           silent x =
               let none : x.reply ≡ None = subst (λ b. IsTakenOf false [] (reply_packet b) x.reply) x.answers x.reply_is in
-              let received : received_reply x.reply ≡ NoReply = ap received_reply none in
-              let acks : x.ack ≡ None = subst (λ reply. IsTakenOf false [] (ack_packet reply) x.ack) received x.ack_is in
-              record { reply_is = x.receives_reply ∙ received; device_is = x.device ∙ ap (λ k. after_ack (is_ack k) d) acks }
+              let arrived : received_reply x.reply ≡ NoReply = ap received_reply none in
+              let acks : x.ack ≡ None = subst (λ reply. IsTakenOf false [] (ack_packet reply) x.ack) arrived x.ack_is in
+              record { reply_is = x.receives_reply ∙ arrived; device_is = x.device ∙ ap (λ k. after_ack (is_ack k) d) acks }
 
   -- ---- a run
 

@@ -65,7 +65,7 @@ module _ (size : ℕ) where
   abbrev FirstBytes : Kept → Type 0
   FirstBytes k = (b : List ℕ) → k ≡ kept.Bytes b → FirstTells size b
 
-  -- by the stage, where so many bytes have come
+  -- by the stage, where this many bytes have come
   abbrev KeptSo : TransferStage → ℕ → Kept → Type 0
   KeptSo stages.Setup count k = (k ≡ kept.Bytes []) × (count ≡ 0)
   KeptSo stages.DataIn count k = (k ≡ kept.Bytes []) × (count ≡ 0)
@@ -198,7 +198,7 @@ module _ (size : ℕ) where
       pub knows : KnowsSize size place
       pub first : place ≡ First → ReadsFirst t k
 
-    -- This holds of the transfer in work, if one is.
+    -- This holds of the current transfer, if one is.
     abbrev pub InWork : HostPhase → Type 0
     InWork ResetDue = Unit {0}
     InWork (Reading place transfer kept) = Works place transfer kept

@@ -24,7 +24,7 @@ use Rattle.usb_capture.specs.PacketFindings.{has_wrong_toggle, is_done_part, is_
 use Rattle.usb_capture.specs.Transfers.{open_with}
 use Rattle.usb_recorded_runs.specs.Exchanges.{data_received, handshake_received}
 use Rattle.usb_recorded_runs.proofs.PipeLemmas.{Holds, OpenAt, Sound, again, begins_at, ended_at, found_unseen, goes_at}
-use Rattle.usb_recorded_runs.proofs.SizeLemmas.{IfOver, Told, told_over, unseen_over}
+use Rattle.usb_recorded_runs.proofs.SizeLemmas.{IfOver, Reported, reported_over, unseen_over}
 
 abbrev pub Goes : Direction → Going → Type 0
 Goes direction going = data_direction going.transfer.setup ≡ direction
@@ -196,13 +196,13 @@ module _ (size : ℕ) (described : Setup → List ℕ) (number : ℕ) (time : Op
   received_here token lost came = received_in number time address token lost came
 
   -- an IN without data
-  pub quiet_in : (P Q : Going → Type 0) (lost : Bool) (came : Reply) → IsNoData came → OpenAt address P pipes → ((going : Going) → P going → Told size described going.transfer)
+  pub quiet_in : (P Q : Going → Type 0) (lost : Bool) (came : Reply) → IsNoData came → OpenAt address P pipes → ((going : Going) → P going → Reported size described going.transfer)
       → ((going : Going) → P going → Q going) → Right size described (received_here InToken lost came) Q pipes
-  quiet_in P Q lost AckReply none opens told keeps = right_at size described (received_here InToken lost AckReply) P Q pipes sound refl opens (λ going unended holds. (refl, tt, (λ known own none. not_done (data_direction going.transfer.setup) going known), again address going Q pipes small sound unended (keeps going holds)))
-  quiet_in P Q lost NakReply none opens told keeps = right_at size described (received_here InToken lost NakReply) P Q pipes sound refl opens (λ going unended holds. (refl, tt, (λ known own none. not_done (data_direction going.transfer.setup) going known), again address going Q pipes small sound unended (keeps going holds)))
-  quiet_in P Q lost StallReply none opens told keeps = right_at size described (received_here InToken lost StallReply) P Q pipes sound refl opens (λ going unended holds. (refl, told_over size described (received_here InToken lost StallReply) endings.Stall going.transfer (told going holds), (λ known own none. not_done (data_direction going.transfer.setup) going known), ended_at address going Q pipes sound))
-  quiet_in P Q lost NoReply none opens told keeps = right_at size described (received_here InToken lost NoReply) P Q pipes sound refl opens (λ going unended holds. (refl, tt, (λ known own none. not_done (data_direction going.transfer.setup) going known), again address going Q pipes small sound unended (keeps going holds)))
-  quiet_in P Q lost (DataReply toggle bytes) none opens told keeps = absurd none
+  quiet_in P Q lost AckReply none opens report keeps = right_at size described (received_here InToken lost AckReply) P Q pipes sound refl opens (λ going unended holds. (refl, tt, (λ known own none. not_done (data_direction going.transfer.setup) going known), again address going Q pipes small sound unended (keeps going holds)))
+  quiet_in P Q lost NakReply none opens report keeps = right_at size described (received_here InToken lost NakReply) P Q pipes sound refl opens (λ going unended holds. (refl, tt, (λ known own none. not_done (data_direction going.transfer.setup) going known), again address going Q pipes small sound unended (keeps going holds)))
+  quiet_in P Q lost StallReply none opens report keeps = right_at size described (received_here InToken lost StallReply) P Q pipes sound refl opens (λ going unended holds. (refl, reported_over size described (received_here InToken lost StallReply) endings.Stall going.transfer (report going holds), (λ known own none. not_done (data_direction going.transfer.setup) going known), ended_at address going Q pipes sound))
+  quiet_in P Q lost NoReply none opens report keeps = right_at size described (received_here InToken lost NoReply) P Q pipes sound refl opens (λ going unended holds. (refl, tt, (λ known own none. not_done (data_direction going.transfer.setup) going known), again address going Q pipes small sound unended (keeps going holds)))
+  quiet_in P Q lost (DataReply toggle bytes) none opens report keeps = absurd none
 
   -- an IN with a packet of the data stage, which is the next one or came again
   module _ (toggle : Toggle) (bytes : List ℕ) (P Q : Going → Type 0) (opens : OpenAt address P pipes) (ways : (going : Going) → P going → Goes directions.In going)
@@ -252,17 +252,17 @@ module _ (size : ℕ) (described : Setup → List ℕ) (number : ℕ) (time : Op
 
   -- an IN with the packet of the status stage
   pub status_in : (P Q : Going → Type 0) (lost : Bool) (bytes : List ℕ) → OpenAt address P pipes → ((going : Going) → P going → Goes directions.Out going)
-      → ((going : Going) → P going → Told size described going.transfer) → Right size described (received_here InToken lost (DataReply Data1 bytes)) Q pipes
-  status_in P Q true bytes opens ways told =
+      → ((going : Going) → P going → Reported size described going.transfer) → Right size described (received_here InToken lost (DataReply Data1 bytes)) Q pipes
+  status_in P Q true bytes opens ways report =
       right_way size described (received_here InToken true (DataReply Data1 bytes)) P Q pipes directions.Out sound refl opens ways
-      (λ going unended holds. (refl, told_over size described (received_here InToken true (DataReply Data1 bytes)) endings.Done going.transfer (told going holds), (λ known own none. refl), ended_at address (with_again true going) Q pipes sound))
-  status_in P Q false bytes opens ways told =
+      (λ going unended holds. (refl, reported_over size described (received_here InToken true (DataReply Data1 bytes)) endings.Done going.transfer (report going holds), (λ known own none. refl), ended_at address (with_again true going) Q pipes sound))
+  status_in P Q false bytes opens ways report =
       right_way size described (received_here InToken false (DataReply Data1 bytes)) P Q pipes directions.Out sound refl opens ways
-      (λ going unended holds. (refl, told_over size described (received_here InToken false (DataReply Data1 bytes)) endings.Done going.transfer (told going holds), (λ known own none. refl), ended_at address (with_again false going) Q pipes sound))
+      (λ going unended holds. (refl, reported_over size described (received_here InToken false (DataReply Data1 bytes)) endings.Done going.transfer (report going holds), (λ known own none. refl), ended_at address (with_again false going) Q pipes sound))
 
   -- the empty OUT of the status stage, which ends the transfer where it is accepted
   module _ (P Q : Going → Type 0) (opens : OpenAt address P pipes) (ways : (going : Going) → P going → Goes directions.In going)
-      (told : (going : Going) → P going → Told size described going.transfer) (whole : (going : Going) → P going → EndsWhole size address going) (stays : (going : Going) → P going → Q (with_again true going)) where
+      (report : (going : Going) → P going → Reported size described going.transfer) (whole : (going : Going) → P going → EndsWhole size address going) (stays : (going : Going) → P going → Q (with_again true going)) where
     whole_end : (going : Going) → EndsWhole size address going → (known : ℕ) → (known ≡ 0) ⊎ (known ≡ size) → (address ≡ 0 → known ≡ 0)
         → (nat_lt going.transfer.length going.transfer.setup.length && not (known == 0) && nat_le known going.toggle.last && true) ≡ false
     whole_end going whole known (inl none) at_zero = grind (arith, nat_tests)
@@ -273,13 +273,13 @@ module _ (size : ℕ) (described : Setup → List ℕ) (number : ℕ) (time : Op
     pub status_out : (lost : Bool) (came : Reply) → Right size described (received_here (OutToken Data1 []) lost came) Q pipes
     status_out lost AckReply =
         right_way size described (received_here (OutToken Data1 []) lost AckReply) P Q pipes directions.In sound refl opens ways
-        (λ going unended holds. (refl, told_over size described (received_here (OutToken Data1 []) lost AckReply) endings.Done going.transfer (told going holds), whole_end going (whole going holds), ended_at address (with_again false going) Q pipes sound))
+        (λ going unended holds. (refl, reported_over size described (received_here (OutToken Data1 []) lost AckReply) endings.Done going.transfer (report going holds), whole_end going (whole going holds), ended_at address (with_again false going) Q pipes sound))
     status_out lost NakReply =
         right_way size described (received_here (OutToken Data1 []) lost NakReply) P Q pipes directions.In sound refl opens ways
         (λ going unended holds. (refl, tt, (λ known own none. not_done directions.In going known), again address (with_again true going) Q pipes small sound unended (stays going holds)))
     status_out lost StallReply =
         right_way size described (received_here (OutToken Data1 []) lost StallReply) P Q pipes directions.In sound refl opens ways
-        (λ going unended holds. (refl, told_over size described (received_here (OutToken Data1 []) lost StallReply) endings.Stall going.transfer (told going holds), (λ known own none. not_done directions.In going known), ended_at address (with_again true going) Q pipes sound))
+        (λ going unended holds. (refl, reported_over size described (received_here (OutToken Data1 []) lost StallReply) endings.Stall going.transfer (report going holds), (λ known own none. not_done directions.In going known), ended_at address (with_again true going) Q pipes sound))
     status_out lost NoReply =
         right_way size described (received_here (OutToken Data1 []) lost NoReply) P Q pipes directions.In sound refl opens ways
         (λ going unended holds. (refl, tt, (λ known own none. not_done directions.In going known), again address (with_again true going) Q pipes small sound unended (stays going holds)))
@@ -288,7 +288,7 @@ module _ (size : ℕ) (described : Setup → List ℕ) (number : ℕ) (time : Op
         (λ going unended holds. (refl, tt, (λ known own none. not_done directions.In going known), again address (with_again true going) Q pipes small sound unended (stays going holds)))
     status_out false (DataReply toggle bytes) =
         right_way size described (received_here (OutToken Data1 []) false (DataReply toggle bytes)) P Q pipes directions.In sound refl opens ways
-        (λ going unended holds. (refl, told_over size described (received_here (OutToken Data1 []) false (DataReply toggle bytes)) endings.Done going.transfer (told going holds), whole_end going (whole going holds), ended_at address (with_again false going) Q pipes sound))
+        (λ going unended holds. (refl, reported_over size described (received_here (OutToken Data1 []) false (DataReply toggle bytes)) endings.Done going.transfer (report going holds), whole_end going (whole going holds), ended_at address (with_again false going) Q pipes sound))
 
   -- a SETUP with its request
   pub setup_right : (q : Setup) (lost : Bool) (came : Reply) (Q : Going → Type 0)

@@ -42,7 +42,7 @@ pub record Fronts (size : ℕ) (described : Setup → List ℕ) (q : Setup) (fro
   pub long : TellsLong size q front
 
 -- what is known of a transfer that is open: of its bytes, unless some are cut off, and of its request
-pub record Told (size : ℕ) (described : Setup → List ℕ) (transfer : ControlTransfer) : Type 0 where
+pub record Reported (size : ℕ) (described : Setup → List ℕ) (transfer : ControlTransfer) : Type 0 where
   pub tells : (transfer.is_cut ≡ true) ⊎ Tells size described transfer.setup transfer.data
   pub few : transfer.length ≤ transfer.setup.length
   pub asked : reads_status transfer.setup ≡ false
@@ -86,10 +86,10 @@ unseen_over size described t unseen = record {
 }
 
 -- and one that was open
-pub told_over : (size : ℕ) (described : Setup → List ℕ) (transaction : Transaction) (ending : Ending) (t : ControlTransfer) → Told size described t
+pub reported_over : (size : ℕ) (described : Setup → List ℕ) (transaction : Transaction) (ending : Ending) (t : ControlTransfer) → Reported size described t
     → IsSound size described (ended_so transaction ending t)
-told_over size described transaction ending t told =
-    record { front = front told.tells; says = says told.tells; few = λ e. told.few; asked = λ e. told.asked }
+reported_over size described transaction ending t report =
+    record { front = front report.tells; says = says report.tells; few = λ e. report.few; asked = λ e. report.asked }
   where
     says : (t.is_cut ≡ true) ⊎ Tells size described t.setup t.data → Says size (ended_so transaction ending t)
     says (inl cut) e = false_true (ap not (sym cut) ∙ (parts_of (ended_so transaction ending t) e).is_kept)
@@ -107,7 +107,7 @@ all_says size described (t ∷ ts) each = (each.0.says, all_says size described 
 none_whole : (kind : ℕ) → is_whole kind [] ≡ false
 none_whole kind = refl
 
--- Without bytes nothing is told.
+-- Without bytes nothing is reported.
 pub nothing_tells : (size : ℕ) (described : Setup → List ℕ) (q : Setup) → Tells size described q []
 nothing_tells size described q = record {
   whole = λ read device whole. false_true (sym (none_whole (q.value / 256)) ∙ whole);

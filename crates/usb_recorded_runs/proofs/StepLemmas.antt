@@ -39,7 +39,7 @@ use Rattle.usb_recorded_runs.proofs.PlaceLemmas.{FirstTells}
 use Rattle.usb_recorded_runs.proofs.DeviceLemmas.{Follows, IsElsewhere, IsEmpty, IsNext, IsSent, acked_flips, acked_so, in_toggle, none_some, served_sends}
 use Rattle.usb_recorded_runs.proofs.FrontLemmas.{front_more}
 use Rattle.usb_recorded_runs.proofs.ReceivedLemmas.{EndsWhole, Goes, IsNoData, NotEarly, Right, bytes_cases, bytes_count, bytes_cut, bytes_keep, bytes_total, received_in, packet_in, quiet_in, right_at, setup_right, status_in, status_out, with_again, with_next}
-use Rattle.usb_recorded_runs.proofs.SizeLemmas.{Fronts, IfOver, Tells, Told, nothing_tells}
+use Rattle.usb_recorded_runs.proofs.SizeLemmas.{Fronts, IfOver, Tells, Reported, nothing_tells}
 
 -- which way data go by the request that was recorded
 recorded_length : (q : Setup) → (setup_at (setup_bytes q) 0).length ≡ q.length
@@ -99,7 +99,7 @@ module _ (table : State → Setup → Outcome) (cut : ℕ) (described : Setup �
     Fronts cut described q (joined (take m (packets bytes cut q.length)))) where
   -- ---- what a recorder has of the bytes
 
-  -- so many packets of the answer to this request
+  -- this many packets of the answer to this request
   pub record HasCome (q : Setup) (all : List ℕ) (count : ℕ) (going : Going) : Type 0 where
     pub setup_is : going.transfer.setup ≡ q
     pub other : reads_status going.transfer.setup ≡ false
@@ -117,10 +117,10 @@ module _ (table : State → Setup → Outcome) (cut : ℕ) (described : Setup �
 
   abbrev pub Content : DeviceStage → Going → Type 0
   Content (Sending q all acked_ones) going = Reads q all acked_ones going
-  Content stage going = Told cut described going.transfer
+  Content stage going = Reported cut described going.transfer
 
-  come_told : (q : Setup) (all : List ℕ) (count : ℕ) (going : Going) → HasCome q all count going → Told cut described going.transfer
-  come_told q all count going came = record {
+  come_reported : (q : Setup) (all : List ℕ) (count : ℕ) (going : Going) → HasCome q all count going → Reported cut described going.transfer
+  come_reported q all count going came = record {
     tells = tells came.data_is;
     few = subst (λ s. going.transfer.length ≤ s.length) (sym came.setup_is) (omega (arith, came.few, (fronts came.state q all came.answers count).few));
     asked = came.other;
@@ -133,35 +133,35 @@ module _ (table : State → Setup → Outcome) (cut : ℕ) (described : Setup �
           inr (subst (λ s. Tells cut described s going.transfer.data) (sym came.setup_is)
           (subst (Tells cut described q) (sym data_is) (fronts came.state q all came.answers count).tells))
 
-  content_told : (stage : DeviceStage) (going : Going) → Content stage going → Told cut described going.transfer
-  content_told (Sending q all acked_ones) going reads = come_told q all reads.count going reads.came
-  content_told device.Idle going told = told
-  content_told (device.Halted refused) going told = told
-  content_told (device.StatusOut q) going told = told
-  content_told device.Over going told = told
-  content_told (StatusIn q carried) going told = told
-  content_told (device.Receiving q got) going told = told
-  content_told (device.Written q got) going told = told
+  content_reported : (stage : DeviceStage) (going : Going) → Content stage going → Reported cut described going.transfer
+  content_reported (Sending q all acked_ones) going reads = come_reported q all reads.count going reads.came
+  content_reported device.Idle going report = report
+  content_reported (device.Halted refused) going report = report
+  content_reported (device.StatusOut q) going report = report
+  content_reported device.Over going report = report
+  content_reported (StatusIn q carried) going report = report
+  content_reported (device.Receiving q got) going report = report
+  content_reported (device.Written q got) going report = report
 
-  told_content : (stage : DeviceStage) (going : Going) → IsElsewhere stage → Told cut described going.transfer → Content stage going
-  told_content (Sending q all acked_ones) going elsewhere told = absurd elsewhere
-  told_content device.Idle going elsewhere told = told
-  told_content (device.Halted refused) going elsewhere told = told
-  told_content (device.StatusOut q) going elsewhere told = told
-  told_content device.Over going elsewhere told = told
-  told_content (StatusIn q carried) going elsewhere told = told
-  told_content (device.Receiving q got) going elsewhere told = told
-  told_content (device.Written q got) going elsewhere told = told
+  reported_content : (stage : DeviceStage) (going : Going) → IsElsewhere stage → Reported cut described going.transfer → Content stage going
+  reported_content (Sending q all acked_ones) going elsewhere report = absurd elsewhere
+  reported_content device.Idle going elsewhere report = report
+  reported_content (device.Halted refused) going elsewhere report = report
+  reported_content (device.StatusOut q) going elsewhere report = report
+  reported_content device.Over going elsewhere report = report
+  reported_content (StatusIn q carried) going elsewhere report = report
+  reported_content (device.Receiving q got) going elsewhere report = report
+  reported_content (device.Written q got) going elsewhere report = report
 
   -- no packet was received
   content_stays : (old new : DeviceStage) (going : Going) → (new ≡ old) ⊎ IsElsewhere new → Content old going → Content new going
   content_stays old new going (inl same) content = subst (λ s. Content s going) (sym same) content
-  content_stays old new going (inr elsewhere) content = told_content new going elsewhere (content_told old going content)
+  content_stays old new going (inr elsewhere) content = reported_content new going elsewhere (content_reported old going content)
 
   -- the stage after the ACK of a packet
   content_acked : (q : Setup) (all : List ℕ) (acked_ones : ℕ) (left : List (List ℕ)) (going : Going) → HasCome q all (suc acked_ones) going
       → Content (next_stage q all acked_ones left) going
-  content_acked q all acked_ones [] going came = come_told q all (suc acked_ones) going came
+  content_acked q all acked_ones [] going came = come_reported q all (suc acked_ones) going came
   content_acked q all acked_ones (p ∷ rest) going came = record { count = suc acked_ones; counted = inl refl; came = came }
 
   -- of a packet that was received, where the ACK of it is lost or not
@@ -235,12 +235,12 @@ module _ (table : State → Setup → Outcome) (cut : ℕ) (described : Setup �
             next_is = came.next_is;
           })
 
-  told_bytes : (bytes : List ℕ) (transfer : ControlTransfer) → bytes ≡ [] → Told cut described transfer → Told cut described (with_bytes bytes transfer)
-  told_bytes bytes transfer none told = record {
-    tells = of told.tells (bytes_cases bytes transfer);
+  reported_bytes : (bytes : List ℕ) (transfer : ControlTransfer) → bytes ≡ [] → Reported cut described transfer → Reported cut described (with_bytes bytes transfer)
+  reported_bytes bytes transfer none report = record {
+    tells = of report.tells (bytes_cases bytes transfer);
     few = subst (λ s. (with_bytes bytes transfer).length ≤ s.length) (sym (bytes_keep bytes transfer))
-        (omega (arith, bytes_count bytes transfer, told.few, ap length none));
-    asked = ap reads_status (bytes_keep bytes transfer) ∙ told.asked;
+        (omega (arith, bytes_count bytes transfer, report.few, ap length none));
+    asked = ap reads_status (bytes_keep bytes transfer) ∙ report.asked;
   }
     where
       of : (transfer.is_cut ≡ true) ⊎ Tells cut described transfer.setup transfer.data
@@ -252,9 +252,9 @@ module _ (table : State → Setup → Outcome) (cut : ℕ) (described : Setup �
           let same : (with_bytes bytes transfer).data ≡ transfer.data = grows ∙ ap (λ b. transfer.data ++ b) none ∙ append-nil transfer.data in
           inr (subst (λ s. Tells cut described s (with_bytes bytes transfer).data) (sym (bytes_keep bytes transfer)) (subst (Tells cut described transfer.setup) (sym same) tells))
 
-  told_after : (lost : Bool) (stage : DeviceStage) (going : Going) → IsElsewhere stage → IsElsewhere (acked_stage table cut stage) → Told cut described going.transfer → After lost stage going
-  told_after true stage going elsewhere acked_is told = told_content stage going elsewhere told
-  told_after false stage going elsewhere acked_is told = told_content (acked_stage table cut stage) going acked_is told
+  reported_after : (lost : Bool) (stage : DeviceStage) (going : Going) → IsElsewhere stage → IsElsewhere (acked_stage table cut stage) → Reported cut described going.transfer → After lost stage going
+  reported_after true stage going elsewhere acked_is report = reported_content stage going elsewhere report
+  reported_after false stage going elsewhere acked_is report = reported_content (acked_stage table cut stage) going acked_is report
 
   -- what is known of the bytes after a packet that was received
   module _ (old new : DeviceStage) (toggle : Toggle) (bytes : List ℕ) (lost : Bool) (going : Going) (content : Content old going) where
@@ -264,19 +264,19 @@ module _ (table : State → Setup → Outcome) (cut : ℕ) (described : Setup �
         subst (λ s. After lost s (with_next bytes lost going)) (sym next.is)
         (packet_next lost next.request next.all next.acked_ones bytes next.later going next.due
         (subst (λ t. has_toggle (data_kind t) going.toggle.next ≡ true) next.toggle_is is) (subst (λ s. Content s going) next.was content))
-    received_next (inr empty) stays is = told_after lost new (with_next bytes lost going) (elsewhere stays) empty.acked_is (told_bytes bytes going.transfer empty.none (content_told old going content))
+    received_next (inr empty) stays is = reported_after lost new (with_next bytes lost going) (elsewhere stays) empty.acked_is (reported_bytes bytes going.transfer empty.none (content_reported old going content))
       where
         elsewhere : (new ≡ old) ⊎ IsElsewhere new → IsElsewhere new
         elsewhere (inl same) = subst IsElsewhere (sym same) empty.was
         elsewhere (inr other) = other
 
-    received_once_more : IsNext table cut old new toggle bytes ⊎ IsEmpty table cut old new bytes → (new ≡ old) ⊎ IsElsewhere new
+    received_again : IsNext table cut old new toggle bytes ⊎ IsEmpty table cut old new bytes → (new ≡ old) ⊎ IsElsewhere new
         → has_toggle (data_kind toggle) going.toggle.next ≡ false → After lost new (with_again lost going)
-    received_once_more (inl next) stays is =
+    received_again (inl next) stays is =
         subst (λ s. After lost s (with_again lost going)) (sym next.is)
         (packet_again lost next.request next.all next.acked_ones going
         (subst (λ t. has_toggle (data_kind t) going.toggle.next ≡ false) next.toggle_is is) (subst (λ s. Content s going) next.was content))
-    received_once_more (inr empty) stays is = told_after lost new (with_again lost going) (elsewhere stays) empty.acked_is (content_told old going content)
+    received_again (inr empty) stays is = reported_after lost new (with_again lost going) (elsewhere stays) empty.acked_is (content_reported old going content)
       where
         elsewhere : (new ≡ old) ⊎ IsElsewhere new → IsElsewhere new
         elsewhere (inl same) = subst IsElsewhere (sym same) empty.was
@@ -284,7 +284,7 @@ module _ (table : State → Setup → Outcome) (cut : ℕ) (described : Setup �
 
   -- ---- by the stage of the host's transfer
 
-  -- this toggle is awaited, and so many bytes have come
+  -- this toggle is awaited, and this many bytes have come
   pub record InData (stage : DeviceStage) (awaited : Toggle) (kept : ℕ) (q : Setup) (going : Going) : Type 0 where
     pub way : Goes directions.In going
     pub in_time : InTime stage going
@@ -296,13 +296,13 @@ module _ (table : State → Setup → Outcome) (cut : ℕ) (described : Setup �
 
   pub record InStatusOut (address : ℕ) (going : Going) : Type 0 where
     pub way : Goes directions.In going
-    pub told : Told cut described going.transfer
+    pub report : Reported cut described going.transfer
     pub whole : EndsWhole cut address going
 
   pub record InStatusIn (stage : DeviceStage) (going : Going) : Type 0 where
     pub way : Goes directions.Out going
     pub first : (toggle : Toggle) → in_toggle stage ≡ Some toggle → toggle ≡ Data1
-    pub told : Told cut described going.transfer
+    pub report : Reported cut described going.transfer
 
   -- by the stage of a transfer, with its address, the toggle that it awaits, how many bytes have come, and its request
   abbrev pub FitsBy : TransferStage → DeviceStage → ℕ → Toggle → ℕ → Setup → Going → Type 0
@@ -411,7 +411,7 @@ module _ (table : State → Setup → Outcome) (cut : ℕ) (described : Setup �
         → InData d (flipped t.awaited) (t.kept + n) t.request going × (going.toggle.last ≡ n) → Fits (if last then stages.StatusOut else stages.DataIn) d (with_packet t n) going
     after_data n true going e h = record {
       way = h.0.way;
-      told = content_told d going h.0.content;
+      report = content_reported d going h.0.content;
       whole = ends_whole n going h.0 h.1 (or_cases (nat_lt n t.packet) (t.kept + n == t.request.length) e);
     }
     after_data n false going e h = h.0
@@ -579,14 +579,14 @@ module _ (table : State → Setup → Outcome) (cut : ℕ) (described : Setup �
 
         quiet : (lost : Bool) (came : Reply) → IsNoData came → Right cut described (received_in number time address InToken lost came) (InData new.stage t.awaited t.kept t.request) pipes
         quiet lost came none = quiet_in cut described number time address small pipes sound Before (InData new.stage t.awaited t.kept t.request) lost came none opens
-            (λ going h. content_told old going h.content) stays
+            (λ going h. content_reported old going h.content) stays
 
         unreceived : (toggle : Toggle) (bytes : List ℕ) → IsSent table cut old new (DataReply toggle bytes)
             → Right cut described (received_in number time address InToken true (DataReply toggle bytes)) (AfterPacket toggle bytes new.stage t.awaited t.kept t.request) pipes
         unreceived toggle bytes sent = packet_in cut described number time address small pipes sound toggle bytes Before (AfterPacket toggle bytes new.stage t.awaited t.kept t.request) opens
             (λ going h. h.way) (λ going h. h.in_time toggle sent.was) true (λ going h. (
               λ e. next_packet_so t toggle bytes true old new.stage going h (λ other is. inr refl) (received_next old new.stage toggle bytes true going h.content sent.which stays_so e) e,
-              λ e. again_packet_so t toggle bytes true old new.stage going h (λ other is. inr refl) (received_once_more old new.stage toggle bytes true going h.content sent.which stays_so e) e,
+              λ e. again_packet_so t toggle bytes true old new.stage going h (λ other is. inr refl) (received_again old new.stage toggle bytes true going h.content sent.which stays_so e) e,
             ))
 
         received : (toggle : Toggle) (bytes : List ℕ) → IsSent table cut old new (DataReply toggle bytes)
@@ -600,7 +600,7 @@ module _ (table : State → Setup → Outcome) (cut : ℕ) (described : Setup �
               λ e. again_packet_so t toggle bytes false old (acked table cut new).stage going h
                   (λ other is. inl (acked_flips table cut new toggle other sent.waits sent.is is ∙ flips_again toggle going.toggle.next e))
                   (subst (λ s. Content s (with_again false going)) (sym (acked_so table cut new sent.waits))
-                  (received_once_more old new.stage toggle bytes false going h.content sent.which stays_so e)) e,
+                  (received_again old new.stage toggle bytes false going h.content sent.which stays_so e)) e,
             ))
 
         of : (fate : Fate) (reply : Reply) → is_lost_down fate ≡ false → IsSent table cut old new reply
@@ -635,13 +635,13 @@ module _ (table : State → Setup → Outcome) (cut : ℕ) (described : Setup �
         P = InStatusIn old
 
         quiet : (lost : Bool) (came : Reply) → IsNoData came → Right cut described (received_in number time address InToken lost came) (InStatusIn new.stage) pipes
-        quiet lost came none = quiet_in cut described number time address small pipes sound P (InStatusIn new.stage) lost came none opens (λ going h. h.told) (λ going h. record { way = h.way; first = λ toggle is. h.first toggle (follows toggle is); told = h.told })
+        quiet lost came none = quiet_in cut described number time address small pipes sound P (InStatusIn new.stage) lost came none opens (λ going h. h.report) (λ going h. record { way = h.way; first = λ toggle is. h.first toggle (follows toggle is); report = h.report })
 
         zero_one : Data0 ≡ Data1 → ⊥
         zero_one e = let w : ⊥ = cc in w
 
         packet : (lost : Bool) (toggle : Toggle) (bytes : List ℕ) (Q : Going → Type 0) → IsSent table cut old new (DataReply toggle bytes) → Right cut described (received_in number time address InToken lost (DataReply toggle bytes)) Q pipes
-        packet lost Data1 bytes Q sent = status_in cut described number time address small pipes sound P Q lost bytes opens (λ going h. h.way) (λ going h. h.told)
+        packet lost Data1 bytes Q sent = status_in cut described number time address small pipes sound P Q lost bytes opens (λ going h. h.way) (λ going h. h.report)
         packet lost Data0 bytes Q sent = right_at cut described (received_in number time address InToken lost (DataReply Data0 bytes)) P Q pipes sound refl opens (λ going unended h. absurd (zero_one (h.first Data0 sent.was)))
 
         of : (fate : Fate) (reply : Reply) → is_lost_down fate ≡ false → IsSent table cut old new reply
@@ -682,8 +682,8 @@ module _ (table : State → Setup → Outcome) (cut : ℕ) (described : Setup �
       of fates.Busy false kept acks = absurd (let w : ⊥ = cc in w)
       of fates.LostAck false kept acks = absurd (let w : ⊥ = cc in w)
 
-  begun_told : (q : Setup) (t : Transaction) → reads_status q ≡ false → Told cut described (begun_by t q)
-  begun_told q t other = record { tells = inr (nothing_tells cut described q); few = omega arith; asked = other }
+  begun_reported : (q : Setup) (t : Transaction) → reads_status q ≡ false → Reported cut described (begun_by t q)
+  begun_reported q t other = record { tells = inr (nothing_tells cut described q); few = omega arith; asked = other }
 
   begun_content : (s : State) (q : Setup) (o : Outcome) (t : Transaction) → reads_status q ≡ false → table s q ≡ o
       → Content (device.begun q o) (record { transfer = begun_by t q; toggle = first_toggle })
@@ -692,9 +692,9 @@ module _ (table : State → Setup → Outcome) (cut : ℕ) (described : Setup �
     counted = inl refl;
     came = record { setup_is = refl; other = other; state = s; answers = e; data_is = inr refl; few = omega arith; next_is = refl };
   }
-  begun_content s q (Done next) t other e = begun_told q t other
-  begun_content s q Refused t other e = begun_told q t other
-  begun_content s q (Takes judge) t other e = begun_told q t other
+  begun_content s q (Done next) t other e = begun_reported q t other
+  begun_content s q Refused t other e = begun_reported q t other
+  begun_content s q (Takes judge) t other e = begun_reported q t other
 
   same_count : (q : Setup) → (q.length == 0) ≡ true → q.length ≡ 0
   same_count q e = grind (arith, nat_tests)
@@ -742,7 +742,7 @@ module _ (table : State → Setup → Outcome) (cut : ℕ) (described : Setup �
       of true e brings = record {
         may_be = tt;
         same = tt;
-        fits = record { way = none_way q (same_count q e); first = first; told = begun_told (setup_at (setup_bytes q) 0) t begins.asked.other };
+        fits = record { way = none_way q (same_count q e); first = first; report = begun_reported (setup_at (setup_bytes q) 0) t begins.asked.other };
       }
       of false e (inl way) = subst (λ w. AfterSetup tv (data_stage w) stage begun_so) (sym way) (record {
         may_be = tt;
@@ -912,7 +912,7 @@ module _ (table : State → Setup → Outcome) (cut : ℕ) (described : Setup �
       same_sent _ sent due,
       step_at stages.StatusOut (OutToken Data1 []) at (λ e. let w : ⊥ = cc in w) agrees.size_is tt tt
           (status_out cut described number time t.address small pipes sound (InStatusOut t.address) (InStatusOut t.address)
-          agrees.fits (λ going h. h.way) (λ going h. h.told) (λ going h. h.whole) (λ going h. record { way = h.way; told = h.told; whole = h.whole }) (is_lost_ack fate) (brought fate (answer_to (OutToken Data1 [])).reply))
+          agrees.fits (λ going h. h.way) (λ going h. h.report) (λ going h. h.whole) (λ going h. record { way = h.way; report = h.report; whole = h.whole }) (is_lost_ack fate) (brought fate (answer_to (OutToken Data1 [])).reply))
           (λ e. absurd (let w : ⊥ = cc in w)),
     )
     step stages.DataOut sent at due agrees = absurd agrees.may_be
