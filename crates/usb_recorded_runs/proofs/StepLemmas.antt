@@ -291,7 +291,7 @@ module _ (table : State → Setup → Outcome) (cut : ℕ) (described : Setup �
     pub content : Content stage going
     pub next_is : going.toggle.next ≡ awaited
     pub count_is : going.transfer.length ≡ kept
-    pub length_is : going.transfer.setup.length ≡ q.length
+    pub setup_is : going.transfer.setup ≡ setup_at (setup_bytes q) 0
     pub low : q.length < 65536
 
   pub record InStatusOut (address : ℕ) (going : Going) : Type 0 where
@@ -355,14 +355,14 @@ module _ (table : State → Setup → Outcome) (cut : ℕ) (described : Setup �
   -- a host's transfer, the stage of a device, and what is open at the transfer's address
   pub record Agrees (stage : TransferStage) (t : TransferView) (d : DeviceStage) (pipes : Pipes) : Type 0 where
     pub may_be : MayBe stage t
-    pub size_is : SizeIsKnown cut t.address t.packet
+    pub size_is : SizeIsKnown cut t.address t.packet t.request
     pub same : AsksSame stage t.request d
     pub fits : OpenAt t.address (Fits stage d t) pipes
 
   abbrev pub Agree : DeviceStage → Pipes → TransferView → Type 0
   Agree d pipes t = Agrees t.stage t d pipes
 
-  pub fresh_agrees : (d : DeviceStage) (pipes : Pipes) (address packet naks : ℕ) (q : Setup) → IsAsked q → SizeIsKnown cut address packet
+  pub fresh_agrees : (d : DeviceStage) (pipes : Pipes) (address packet naks : ℕ) (q : Setup) → IsAsked q → SizeIsKnown cut address packet q
       → Agree d pipes (begun address packet naks q)
   fresh_agrees d pipes address packet naks q asked size_is =
       record { may_be = record { asked = asked; awaits = refl; none = refl }; size_is = size_is; same = tt; fits = λ transfer is. tt }
@@ -380,7 +380,7 @@ module _ (table : State → Setup → Outcome) (cut : ℕ) (described : Setup �
   same_so : (m n : ℕ) → (m == n) ≡ true → m ≡ n
   same_so m n e = grind (arith, nat_tests)
 
-  module _ (d : DeviceStage) (pipes : Pipes) (t : TransferView) (size_is : SizeIsKnown cut t.address t.packet) where
+  module _ (d : DeviceStage) (pipes : Pipes) (t : TransferView) (size_is : SizeIsKnown cut t.address t.packet t.request) where
     failed_agrees : (why : Why) → Agree d pipes (failed t why).transfer
     failed_agrees why = record { may_be = tt; size_is = size_is; same = tt; fits = λ transfer is. tt }
 
@@ -402,10 +402,10 @@ module _ (table : State → Setup → Outcome) (cut : ℕ) (described : Setup �
         → (nat_lt n t.packet ≡ true) ⊎ ((t.kept + n == t.request.length) ≡ true) → EndsWhole cut t.address going
     ends_whole n going h last (inl short) = of size_is
       where
-        of : SizeIsKnown cut t.address t.packet → EndsWhole cut t.address going
-        of (inl zero) = inl zero
+        of : SizeIsKnown cut t.address t.packet t.request → EndsWhole cut t.address going
+        of (inl zero) = inl zero.0
         of (inr own) = inr (inl (omega (arith, less_so n t.packet short, own, last)))
-    ends_whole n going h last (inr all) = inr (inr (omega (arith, same_so (t.kept + n) t.request.length all, h.count_is, h.length_is)))
+    ends_whole n going h last (inr all) = inr (inr (omega (arith, same_so (t.kept + n) t.request.length all, h.count_is, ap (λ q. q.length) h.setup_is, recorded_length t.request)))
 
     after_data : (n : ℕ) (last : Bool) (going : Going) → (nat_lt n t.packet || (t.kept + n == t.request.length)) ≡ last
         → InData d (flipped t.awaited) (t.kept + n) t.request going × (going.toggle.last ≡ n) → Fits (if last then stages.StatusOut else stages.DataIn) d (with_packet t n) going
@@ -453,7 +453,7 @@ module _ (table : State → Setup → Outcome) (cut : ℕ) (described : Setup �
     status_agrees Data1 [] still = record { may_be = tt; size_is = size_is; same = tt; fits = λ transfer is. tt }
 
   -- They agree after an answer, if they do where it changes nothing and after the ACK of a SETUP.
-  module _ (d : DeviceStage) (pipes : Pipes) (t : TransferView) (size_is : SizeIsKnown cut t.address t.packet) (stage : TransferStage) (at : t.stage ≡ stage)
+  module _ (d : DeviceStage) (pipes : Pipes) (t : TransferView) (size_is : SizeIsKnown cut t.address t.packet t.request) (stage : TransferStage) (at : t.stage ≡ stage)
       (may : MayBe stage t) (same : AsksSame stage t.request d) where
     still_so : OpenAt t.address (Fits stage d t) pipes → Agree d pipes t
     still_so fits = subst (λ s. Agrees s t d pipes) (sym at) (record { may_be = may; size_is = size_is; same = same; fits = fits })
@@ -473,7 +473,7 @@ module _ (table : State → Setup → Outcome) (cut : ℕ) (described : Setup �
     moved_so : Agrees (stage_after_setup t.request) t d pipes → Agree d pipes (moved t (stage_after_setup t.request)).transfer
     moved_so next = record { may_be = next.may_be; size_is = size_is; same = next.same; fits = next.fits }
 
-  pub taken_agrees : (d : DeviceStage) (pipes : Pipes) (t : TransferView) (size_is : SizeIsKnown cut t.address t.packet) (stage : TransferStage) (came : Reply) → t.stage ≡ stage
+  pub taken_agrees : (d : DeviceStage) (pipes : Pipes) (t : TransferView) (size_is : SizeIsKnown cut t.address t.packet t.request) (stage : TransferStage) (came : Reply) → t.stage ≡ stage
       → MayBe stage t → AsksSame stage t.request d → OpenAt t.address (AfterReply stage came d t) pipes
       → (stage ≡ stages.Setup → came ≡ AckReply → Agrees (stage_after_setup t.request) t d pipes) → Agree d pipes (taken_at t stage came).transfer
   taken_agrees d pipes t size_is stages.Setup AckReply at may same after acks = moved_so d pipes t size_is stages.Setup at may same (acks refl refl)
@@ -533,7 +533,7 @@ module _ (table : State → Setup → Outcome) (cut : ℕ) (described : Setup �
             content = content;
             next_is = ap flipped h.next_is;
             count_is = bytes_total bytes going.transfer (omega (arith, few, h.low, h.count_is)) ∙ ap (λ n. n + length bytes) h.count_is;
-            length_is = ap (λ q. q.length) (bytes_keep bytes going.transfer) ∙ h.length_is;
+            setup_is = bytes_keep bytes going.transfer ∙ h.setup_is;
             low = h.low;
           },
           refl,
@@ -552,7 +552,7 @@ module _ (table : State → Setup → Outcome) (cut : ℕ) (described : Setup �
           content = content;
           next_is = h.next_is;
           count_is = h.count_is;
-          length_is = h.length_is;
+          setup_is = h.setup_is;
           low = h.low;
         };
       }
@@ -573,7 +573,7 @@ module _ (table : State → Setup → Outcome) (cut : ℕ) (described : Setup �
           content = content_stays old new.stage going stays_so h.content;
           next_is = h.next_is;
           count_is = h.count_is;
-          length_is = h.length_is;
+          setup_is = h.setup_is;
           low = h.low;
         }
 
@@ -753,7 +753,7 @@ module _ (table : State → Setup → Outcome) (cut : ℕ) (described : Setup �
           content = content;
           next_is = sym begins.awaits;
           count_is = sym begins.none;
-          length_is = recorded_length q;
+          setup_is = refl;
           low = low;
         };
       })
@@ -848,7 +848,7 @@ module _ (table : State → Setup → Outcome) (cut : ℕ) (described : Setup �
       pub may_come : stage ≡ stages.DataIn → t.request ≡ get_descriptor 1 0 0 8 → MayCome cut (brought fate (answer_to token).reply)
 
     -- at a stage where nothing is known of an ACK
-    step_at : (stage : TransferStage) (token : Token) → t.stage ≡ stage → (stage ≡ stages.Setup → ⊥) → SizeIsKnown cut t.address t.packet → MayBe stage t
+    step_at : (stage : TransferStage) (token : Token) → t.stage ≡ stage → (stage ≡ stages.Setup → ⊥) → SizeIsKnown cut t.address t.packet t.request → MayBe stage t
         → AsksSame stage t.request (later token) → Right cut described (received_of token) (AfterReply stage (brought fate (answer_to token).reply) (later token) t) pipes
         → (stage ≡ stages.DataIn → t.request ≡ get_descriptor 1 0 0 8 → MayCome cut (brought fate (answer_to token).reply)) → Steps stage token
     step_at stage token at other size_is may same right comes =
@@ -861,7 +861,7 @@ module _ (table : State → Setup → Outcome) (cut : ℕ) (described : Setup �
           may_come = comes;
         }
 
-    setup_step : t.stage ≡ stages.Setup → SizeIsKnown cut t.address t.packet → MayBe stages.Setup t → Steps stages.Setup (SetupToken (setup_bytes t.request))
+    setup_step : t.stage ≡ stages.Setup → SizeIsKnown cut t.address t.packet t.request → MayBe stages.Setup t → Steps stages.Setup (SetupToken (setup_bytes t.request))
     setup_step at size_is may =
         let token = SetupToken (setup_bytes t.request) in
         let came = brought fate (answer_to token).reply in
