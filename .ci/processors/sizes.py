@@ -53,7 +53,7 @@ STRUCT, STRUCT_BOUND, FRAME_BOUND = "nzg_device", 330, 200
 
 
 # The modules for npm, as they are and packed by gzip: the library, and what it loads where a recording is read.
-OF_NPM = {"nozzlegorse.wasm": (320_000, 110_000), "recordings.wasm": (57_000, 25_500)}
+OF_NPM = {"nozzlegorse.wasm": (320_000, 110_000), "recordings.wasm": (59_000, 26_000)}
 
 
 def of_npm(files):
