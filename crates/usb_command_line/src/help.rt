@@ -343,7 +343,7 @@ Lines:
   their descriptors and how many findings there are.
 
 Faults of a recording, 'usbdesc: capture fault N at PLACE', the place in bytes from 0 of the
-part that has the fault; what came before it is report:
+part that has the fault; what came before it is told:
   1  neither pcap, nor pcapng, nor usbmon's text
   2  a section of neither byte order
   3  a block of a length that its type doesn't have
