@@ -238,7 +238,7 @@ REASONS = [
         "checks",
         "A pass over the settings enters all interfaces before the rules are checked in the order of the bytes: 29 of 58 instructions a setting. A small file takes 105 to fill its tables with zeros. A table of 256 bytes less gains nothing. At each descriptor a test tells whether it is to be counted: 3 instructions, before which these rows had 1.32, 1.19, 1.31 and 1.31.",
     ),
-    ("walk", "The walk stands in a library of its own, which is a call more."),
+    ("walk", "The step is inlined into the call, which then saves more registers."),
     (
         "recordings",
         "A frame's bytes are a list of its own: to ask for it, fill and free it takes some 230 instructions of 853 to 1,539. Through the list that holds a part these rows took 23.8, 12.8, 74.2 and 81.6, usbmon's text 406. Read where it lies they took 20.1, 9.65, 59.3, 67.0 and 87.0. That a record's head isn't handed on as what any part may say brought the rest.",
