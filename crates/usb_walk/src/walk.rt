@@ -14,7 +14,6 @@ use usb_fields::{after, byte_at, prefix, word_at};
 
 impl WalkedDescriptor {
     /// Becomes the first descriptor of an input, or the one after another one. False where none can stand there: nothing changes then.
-    #[inline(always)]
     #[tactic(auto, unfolding(crate::specs::WalkedDescriptors::next_of), using(crate::proofs::Walking::counted_of))]
     pub fn next_in(&mut self, bytes: &[u8]) -> bool
         ensures moved { self.new ≡ unwrap_or (next_of bytes.now self.old) self.old }
