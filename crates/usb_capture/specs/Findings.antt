@@ -212,7 +212,7 @@ abbrev pub is_configuration_value : (Asked → List ℕ) → Asked → ℕ → B
 is_configuration_value known asked value =
     list_any (λ i. slice_index (configuration known asked i) 5 == value) (range_with_len 0 (configuration_count known asked))
 
--- whether there are any, and each has said its value
+-- whether there are any, and the device said the value of each
 abbrev pub all_are_known : (Asked → List ℕ) → Asked → Bool
 all_are_known known asked =
     nat_lt 0 (configuration_count known asked)
