@@ -109,6 +109,7 @@ def refused(address, request):
 DEVICE = bytes.fromhex("120100020000000834127856000101020001")
 SET = bytes.fromhex("0902190001010080320904000001030000000705810308000a")
 OTHER_SET = SET[:8] + b"\xfa" + SET[9:]
+TWO, THREE = DEVICE[:17] + b"\2", [SET[:5] + bytes([value]) + SET[6:] for value in (1, 2, 3)]
 
 
 def enumerated():
@@ -235,6 +236,23 @@ def moved():
     ]
 
 
+def unsettled():
+    """A device of two configurations, of values 1 and 2, that refuses an address and values that it has, takes and tells others, and gives a
+    third configuration; and before it gave both, and with the high byte of wValue, which is reserved, what is no finding."""
+    values = [f"0009{value}00000000" for value in ("0000", "0200", "0300", "0103", "0301")]
+    none, second, third, *reserved = values
+    current = "8008000000000100"
+    return [
+        *refused(0, "0005800000000000"), *refused(0, "0005070000000000"), *ordered(0, "0005070000000000"), *refused(7, "0005080000000000"),
+        *refused(7, second), *ordered(7, third), *read(7, "8006020200001900", THREE[2]), *read(7, "8006000100001200", TWO), *read(7, "8006000200001900", THREE[0]),
+        *refused(7, second), *ordered(7, third), *read(7, current, b"\3"), *read(7, "8006010200000500", THREE[1][:5]), *read(7, current, b"\3"),
+        *read(7, "8006010200000600", THREE[1][:6]), *ordered(7, second), *refused(7, second), *refused(7, none), *refused(7, third),
+        *(it for value in reserved for it in (*refused(7, value), *ordered(7, value))), *ordered(7, third), *ordered(7, none),
+        *read(7, current, b"\2"), *read(7, current, b"\0"), *read(7, current, b"\3"), *refused(7, current), *refused(7, "8008000000000200"),
+        *read(7, "8006020200001900", THREE[2]), *refused(0, "0009000000000000"), *refused(0, current), FRAME,
+    ]
+
+
 def misplaced():
     """What wrong devices with packets do: ACK of data whose CRC is wrong, of a token whose CRC is, of a token before its data and of an ACK; and
     the next data packet after an ACK that is damaged."""
@@ -292,6 +310,7 @@ FILES = {
     "short-288.pcapng": (short_of_sections(read(5, "8006000100000800", DEVICE[:8])), None),
     "short-293.pcap": captured(">", 293, read(5, "8006000100000800", DEVICE[:8])),
     "other-address.pcap": heard(294, moved()),
+    "other-configurations.pcap": heard(294, unsettled()),
 }
 
 

@@ -54,7 +54,9 @@ FINDINGS = {
     "C2": "neither all bytes of the descriptor nor wLength bytes (9.4.3)", "C3": "the same descriptor had other bytes before (9.4.3, 9.6)",
     "C4": "the device has it: it gave bytes of it (9.4.3)", "C5": "the device has it: all devices do (9.4.3)",
     "C6": "the device has it: bNumConfigurations counts it (9.6.1, 9.6.2)", "C7": "the device has it: a descriptor names it (9.6.7)",
-    "C8": "the device has an address, so it answers (9.4.5)",
+    "C8": "the device has an address, so it answers (9.4.5)", "C9": "the device has no address yet, so it takes one (9.4.6)",
+    "C10": "the device takes 0 and the value of each configuration (9.4.7)", "C11": "no configuration of the device has this value (9.2.7, 9.4.7)",
+    "C12": "the device answers 0 or the value of a configuration (9.4.2)", "C13": "bNumConfigurations doesn't count it (9.4.3, 9.6.1)",
 }
 # In packets: by their damage, and of a transaction with endpoint zero.
 DAMAGES = {
@@ -389,6 +391,17 @@ class Conversations:
         yield unsaid and index == 0 and (kind == 2 and 0 < number < of(0x100)[17] or kind == 7 and number < of(0x600)[8])
         yield unsaid and (index == 0 and any(of(0x100)[14:17]) if value == 0x300 else kind == 3 and self.is_named(bus, device, number, index))
         yield ending == "stall" and setup == b"\x80\0\0\0\0\0\2\0" and device > 0
+        yield ending == "stall" and device == 0 and setup[:2] == b"\0\5" and value < 0x80 and not any(setup[4:])
+        # The value of each configuration that is counted, or None where it isn't known.
+        parts = [self.said.get((bus, device, 0x200 + it, 0), b"") for it in range(of(0x100)[17])]
+        values = [part[5] if len(part) >= 6 else None for part in parts]
+        others = set(range(1, 0x100)) - set(values) if values and None not in values else ()
+        sets = device > 0 and setup[:2] == b"\0\x09" and setup[3:] == bytes(5)
+        yield sets and ending == "stall" and value in (0, *values)
+        yield sets and ending == "done" and value in others
+        tells = ending == "done" and not transfer["cut"] and len(data) == 1 and data[0] in others
+        yield device > 0 and setup == b"\x80\x08\0\0\0\0\1\0" and (ending == "stall" or tells)
+        yield gives(transfer) and kind == 2 and index == 0 and 0 < of(0x100)[17] <= number
 
     def is_named(self, bus, device, number, language):
         """Whether a descriptor names this string (9.6.7), in a language of the list."""

@@ -8,7 +8,7 @@ use Rattle.usb_fields.proofs.Cells.{funext}
 use Rattle.usb_capture.specs.declared.asked.Asked.{Asked}
 use Rattle.usb_capture.specs.declared.control_transfer.ControlTransfer.{ControlTransfer}
 use Rattle.usb_capture.specs.declared.finding.Finding.{Finding}
-use Rattle.usb_capture.specs.declared.finding.Finding.TheVariants.{MoreThanAsked, OtherType, OtherLength, OtherBytes, RefusesGiven, RefusesRequired, RefusesCounted, RefusesNamed, RefusesStatus}
+use Rattle.usb_capture.specs.declared.finding.Finding.TheVariants.{MoreThanAsked, OtherType, OtherLength, OtherBytes, RefusesGiven, RefusesRequired, RefusesCounted, RefusesNamed, RefusesStatus, RefusesAddress, RefusesConfiguration, TakesConfiguration, OtherConfiguration, GivesUncounted}
 use Rattle.usb_capture.specs.DeviceFiles.{data_of, parts, reading_of}
 use Rattle.usb_capture.specs.DeviceReadings.{current_after, current_with, is_other_device, is_past}
 use Rattle.usb_capture.specs.Findings.{all_findings, asked_of, findings, gives, holds, is_named_string, is_of_another, is_same, may_change, resets_port, said, said_after, sets_address, sets_descriptor}
@@ -32,6 +32,11 @@ looks RefusesRequired known t = refl
 looks RefusesCounted known t = refl
 looks RefusesNamed known t = refl
 looks RefusesStatus known t = refl
+looks RefusesAddress known t = refl
+looks RefusesConfiguration known t = refl
+looks TakesConfiguration known t = refl
+looks OtherConfiguration known t = refl
+looks GivesUncounted known t = refl
 
 -- what another device's transfer leaves as it was
 apart_changes : (a b c d : ℕ) (reset address descriptor : Bool) → (not (a == b) || (not (c == d) && not (c == 0) && not reset)) ≡ true

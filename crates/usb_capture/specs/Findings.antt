@@ -1,13 +1,13 @@
--- What USB 2.0 forbids in control transfers, over a list of them (USB 2.0, 8.5.3, 9.3.5, 9.4.3, 9.4.5 and 9.6).
-use Rattle.std.specs.Prelude.{ℕ, zero, suc, ◌+◌, ◌*◌, ◌/◌, ◌%◌, ◌==◌, ◌&&◌, ◌||◌, Bool, true, false, not, List, [], ◌∷◌, ◌++◌, length, take, drop, min, filter, slice_index, nat_lt, if◌then◌else◌}
-use Rattle.std.specs.List.{list_any, range_with_len, zip}
+-- What USB 2.0 forbids in control transfers, over a list of them (USB 2.0, 8.5.3, 9.2.7, 9.3.5, 9.4.2, 9.4.3, 9.4.5 to 9.4.7, and 9.6).
+use Rattle.std.specs.Prelude.{ℕ, zero, suc, ◌+◌, ◌*◌, ◌/◌, ◌%◌, ◌==◌, ◌&&◌, ◌||◌, Bool, true, false, not, List, [], ◌∷◌, ◌++◌, length, take, drop, min, filter, slice_index, nat_le, nat_lt, if◌then◌else◌}
+use Rattle.std.specs.List.{list_all, list_any, range_with_len, zip}
 use Rattle.usb_fields.specs.declared.setup.Setup.{Setup}
 use Rattle.usb_capture.specs.declared.asked.Asked.{Asked}
 use Rattle.usb_capture.specs.declared.control_transfer.ControlTransfer.{ControlTransfer}
 use Rattle.usb_capture.specs.declared.ending.Ending.{Ending}
 use Rattle.usb_capture.specs.declared.ending.Ending.TheVariants.{Unseen, Done, Stall, Failed, Refused}
 use Rattle.usb_capture.specs.declared.finding.Finding.{Finding}
-use Rattle.usb_capture.specs.declared.finding.Finding.TheVariants.{MoreThanAsked, OtherType, OtherLength, OtherBytes, RefusesGiven, RefusesRequired, RefusesCounted, RefusesNamed, RefusesStatus}
+use Rattle.usb_capture.specs.declared.finding.Finding.TheVariants.{MoreThanAsked, OtherType, OtherLength, OtherBytes, RefusesGiven, RefusesRequired, RefusesCounted, RefusesNamed, RefusesStatus, RefusesAddress, RefusesConfiguration, TakesConfiguration, OtherConfiguration, GivesUncounted}
 use Rattle.usb_capture.specs.Readings.{full_length, is_done, reads_descriptor}
 
 -- Which descriptor a transfer asks for, and when it is the same.
@@ -184,6 +184,64 @@ reads_status setup = setup.request_type == 128 && setup.request == 0 && setup.va
 abbrev pub refuses_status : ControlTransfer → Bool
 refuses_status t = is_stall t.ending && reads_status t.setup && nat_lt 0 t.device
 
+-- How a device takes its address, and its configurations by what it said of them.
+
+-- SET_ADDRESS with an address that there is (9.4.6)
+abbrev pub gives_address : Setup → Bool
+gives_address setup = sets_address setup && nat_lt setup.value 128 && setup.index == 0 && setup.length == 0
+
+abbrev pub refuses_address : ControlTransfer → Bool
+refuses_address t = is_stall t.ending && gives_address t.setup && t.device == 0
+
+-- SET_CONFIGURATION, of which the high byte of wValue is reserved (9.4.7), and GET_CONFIGURATION (9.4.2), as table 9-4 has them
+abbrev pub sets_configuration : Setup → Bool
+sets_configuration setup = setup.request_type == 0 && setup.request == 9 && nat_lt setup.value 256 && setup.index == 0 && setup.length == 0
+
+abbrev pub reads_configuration : Setup → Bool
+reads_configuration setup = setup.request_type == 128 && setup.request == 8 && setup.value == 0 && setup.index == 0 && setup.length == 1
+
+-- bNumConfigurations of the device (9.6.1), and what it said of the configuration of this index
+abbrev pub configuration_count : (Asked → List ℕ) → Asked → ℕ
+configuration_count known asked = slice_index (known (beside asked 256)) 17
+
+abbrev pub configuration : (Asked → List ℕ) → Asked → ℕ → List ℕ
+configuration known asked i = known (beside asked (512 + i))
+
+-- whether bConfigurationValue of one of these is this value (9.6.3)
+abbrev pub is_configuration_value : (Asked → List ℕ) → Asked → ℕ → Bool
+is_configuration_value known asked value =
+    list_any (λ i. slice_index (configuration known asked i) 5 == value) (range_with_len 0 (configuration_count known asked))
+
+-- whether there are any, and the device said the value of each
+abbrev pub all_are_known : (Asked → List ℕ) → Asked → Bool
+all_are_known known asked =
+    nat_lt 0 (configuration_count known asked)
+    && list_all (λ i. nat_lt 5 (length (configuration known asked i))) (range_with_len 0 (configuration_count known asked))
+
+-- whether no configuration can have this value: 0 is that of none
+abbrev pub is_no_value : (Asked → List ℕ) → Asked → ℕ → Bool
+is_no_value known asked value = not (value == 0) && all_are_known known asked && not (is_configuration_value known asked value)
+
+abbrev pub refuses_configuration : (Asked → List ℕ) → ControlTransfer → Bool
+refuses_configuration known t =
+    is_stall t.ending && sets_configuration t.setup && nat_lt 0 t.device
+    && (t.setup.value == 0 || is_configuration_value known (asked_of t) t.setup.value)
+
+abbrev pub takes_configuration : (Asked → List ℕ) → ControlTransfer → Bool
+takes_configuration known t = is_done t.ending && sets_configuration t.setup && nat_lt 0 t.device && is_no_value known (asked_of t) t.setup.value
+
+-- GET_CONFIGURATION isn't answered, or with another value than 0 and those of configurations
+abbrev pub tells_no_value : (Asked → List ℕ) → ControlTransfer → Bool
+tells_no_value known t = is_done t.ending && not t.is_cut && length t.data == 1 && is_no_value known (asked_of t) (slice_index t.data 0)
+
+abbrev pub has_other_configuration : (Asked → List ℕ) → ControlTransfer → Bool
+has_other_configuration known t = reads_configuration t.setup && nat_lt 0 t.device && (is_stall t.ending || tells_no_value known t)
+
+-- a configuration that bNumConfigurations, where it is known and not 0, doesn't count (9.4.3 and 9.6.1)
+abbrev pub is_uncounted : (Asked → List ℕ) → Asked → Bool
+is_uncounted known asked =
+    asked.index == 0 && asked.value / 256 == 2 && nat_lt 0 (configuration_count known asked) && nat_le (configuration_count known asked) (asked.value % 256)
+
 -- Whether a finding holds of a transfer, of a device that has said this before.
 abbrev pub holds : Finding → (Asked → List ℕ) → ControlTransfer → Bool
 holds MoreThanAsked known t = has_more_than_asked t
@@ -195,10 +253,16 @@ holds RefusesRequired known t = refuses_unsaid known t && is_required (asked_of 
 holds RefusesCounted known t = refuses_unsaid known t && is_counted known (asked_of t)
 holds RefusesNamed known t = refuses_unsaid known t && is_named_string known (asked_of t)
 holds RefusesStatus known t = refuses_status t
+holds RefusesAddress known t = refuses_address t
+holds RefusesConfiguration known t = refuses_configuration known t
+holds TakesConfiguration known t = takes_configuration known t
+holds OtherConfiguration known t = has_other_configuration known t
+holds GivesUncounted known t = gives t && is_uncounted known (asked_of t)
 
 abbrev pub all_findings : List Finding
 all_findings =
-    MoreThanAsked ∷ OtherType ∷ OtherLength ∷ OtherBytes ∷ RefusesGiven ∷ RefusesRequired ∷ RefusesCounted ∷ RefusesNamed ∷ RefusesStatus ∷ []
+    MoreThanAsked ∷ OtherType ∷ OtherLength ∷ OtherBytes ∷ RefusesGiven ∷ RefusesRequired ∷ RefusesCounted ∷ RefusesNamed ∷ RefusesStatus
+    ∷ RefusesAddress ∷ RefusesConfiguration ∷ TakesConfiguration ∷ OtherConfiguration ∷ GivesUncounted ∷ []
 
 -- What is found in a transfer after these, of which the last is the first in the list.
 abbrev pub findings : List ControlTransfer → ControlTransfer → List Finding

@@ -91,7 +91,7 @@ fn is_answered(ending: Ending) -> bool
 }
 
 /// Whether a transfer was answered with STALL.
-fn is_stall(ending: Ending) -> bool
+pub(crate) fn is_stall(ending: Ending) -> bool
     ensures { result ≡ is_stall ending }
 {
     match ending {

@@ -12,6 +12,7 @@ use crate::answer::{
 };
 use crate::asked::Asked;
 use crate::change::may_change;
+use crate::configured::refuses_address;
 use crate::control_transfer::ControlTransfer;
 use crate::finding::Finding;
 use crate::named_strings::{device_names, has_language, names, names_any};
@@ -120,6 +121,11 @@ impl Conversations {
             Finding::RefusesCounted => self.refuses_unsaid(transfer) && self.is_counted(asked),
             Finding::RefusesNamed => self.refuses_unsaid(transfer) && self.is_named_string(asked),
             Finding::RefusesStatus => refuses_status(transfer),
+            Finding::RefusesAddress => refuses_address(transfer),
+            Finding::RefusesConfiguration => self.refuses_configuration(transfer),
+            Finding::TakesConfiguration => self.takes_configuration(transfer),
+            Finding::OtherConfiguration => self.has_other_configuration(transfer),
+            Finding::GivesUncounted => gives(transfer) && self.is_uncounted(asked),
         }
     }
 

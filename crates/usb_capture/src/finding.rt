@@ -28,11 +28,21 @@ pub enum Finding {
     RefusesNamed,
     /// STALL of GET_STATUS of the device, which has an address (9.4.5).
     RefusesStatus,
+    /// STALL of SET_ADDRESS by a device that has address 0 (9.4.6).
+    RefusesAddress,
+    /// STALL of SET_CONFIGURATION with 0, or with bConfigurationValue of a configuration of the device (9.4.7).
+    RefusesConfiguration,
+    /// SET_CONFIGURATION done with a value that no configuration of the device has (9.2.7 and 9.4.7).
+    TakesConfiguration,
+    /// STALL of GET_CONFIGURATION, or an answer of neither 0 nor the value of a configuration (9.4.2).
+    OtherConfiguration,
+    /// A configuration came that bNumConfigurations doesn't count (9.4.3 and 9.6.1).
+    GivesUncounted,
 }
 
 impl Finding {
     /// All findings, in the order in which those of one transfer are reported.
-    pub const ALL: [Finding; 9] = [
+    pub const ALL: [Finding; 14] = [
         Finding::MoreThanAsked,
         Finding::OtherType,
         Finding::OtherLength,
@@ -42,9 +52,14 @@ impl Finding {
         Finding::RefusesCounted,
         Finding::RefusesNamed,
         Finding::RefusesStatus,
+        Finding::RefusesAddress,
+        Finding::RefusesConfiguration,
+        Finding::TakesConfiguration,
+        Finding::OtherConfiguration,
+        Finding::GivesUncounted,
     ];
 
-    /// Its name: T1 is of one transfer, C1 to C8 are of a device's conversation.
+    /// Its name: T1 is of one transfer, C1 to C13 are of a device's conversation.
     pub fn name(self) -> &'static str {
         match self {
             Finding::MoreThanAsked => "T1",
@@ -56,6 +71,11 @@ impl Finding {
             Finding::RefusesCounted => "C6",
             Finding::RefusesNamed => "C7",
             Finding::RefusesStatus => "C8",
+            Finding::RefusesAddress => "C9",
+            Finding::RefusesConfiguration => "C10",
+            Finding::TakesConfiguration => "C11",
+            Finding::OtherConfiguration => "C12",
+            Finding::GivesUncounted => "C13",
         }
     }
 
@@ -71,6 +91,12 @@ impl Finding {
             Finding::RefusesCounted => "the device has it: bNumConfigurations counts it",
             Finding::RefusesNamed => "the device has it: a descriptor names it",
             Finding::RefusesStatus => "the device has an address, so it answers",
+            Finding::RefusesAddress => "the device has no address yet, so it takes one",
+            Finding::RefusesConfiguration =>
+                "the device takes 0 and the value of each configuration",
+            Finding::TakesConfiguration => "no configuration of the device has this value",
+            Finding::OtherConfiguration => "the device answers 0 or the value of a configuration",
+            Finding::GivesUncounted => "bNumConfigurations doesn't count it",
         }
     }
 
@@ -84,6 +110,11 @@ impl Finding {
             Finding::RefusesCounted => "9.6.1, 9.6.2",
             Finding::RefusesNamed => "9.6.7",
             Finding::RefusesStatus => "9.4.5",
+            Finding::RefusesAddress => "9.4.6",
+            Finding::RefusesConfiguration => "9.4.7",
+            Finding::TakesConfiguration => "9.2.7, 9.4.7",
+            Finding::OtherConfiguration => "9.4.2",
+            Finding::GivesUncounted => "9.4.3, 9.6.1",
         }
     }
 }

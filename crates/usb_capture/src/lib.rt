@@ -34,6 +34,7 @@ mod bus_transfer;
 mod bus_transfers;
 mod change;
 mod clock;
+mod configured;
 mod content;
 mod control_pipes;
 mod control_transfer;

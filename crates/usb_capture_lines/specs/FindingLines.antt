@@ -6,7 +6,7 @@ use Rattle.usb_text.specs.Lines.{column}
 use Rattle.usb_wire.specs.declared.damage.Damage.{Damage}
 use Rattle.usb_wire.specs.declared.damage.Damage.TheVariants.{Empty, Pid, Reserved, Length, Crc5, Crc16}
 use Rattle.usb_capture.specs.declared.finding.Finding.{Finding}
-use Rattle.usb_capture.specs.declared.finding.Finding.TheVariants.{MoreThanAsked, OtherType, OtherLength, OtherBytes, RefusesGiven, RefusesRequired, RefusesCounted, RefusesNamed, RefusesStatus}
+use Rattle.usb_capture.specs.declared.finding.Finding.TheVariants.{MoreThanAsked, OtherType, OtherLength, OtherBytes, RefusesGiven, RefusesRequired, RefusesCounted, RefusesNamed, RefusesStatus, RefusesAddress, RefusesConfiguration, TakesConfiguration, OtherConfiguration, GivesUncounted}
 use Rattle.usb_capture.specs.declared.packet_finding.PacketFinding.{PacketFinding}
 use Rattle.usb_capture.specs.declared.packet_finding.PacketFinding.TheVariants.{Damaged, NoHandshake, NoRequest, SetupRefused, Toggle, Long, NoShortPacket}
 use Rattle.usb_capture_lines.specs.BusFindings.{device_of}
@@ -24,6 +24,11 @@ finding_words RefusesRequired = codes "the device has it: all devices do (9.4.3)
 finding_words RefusesCounted = codes "the device has it: bNumConfigurations counts it (9.6.1, 9.6.2)"
 finding_words RefusesNamed = codes "the device has it: a descriptor names it (9.6.7)"
 finding_words RefusesStatus = codes "the device has an address, so it answers (9.4.5)"
+finding_words RefusesAddress = codes "the device has no address yet, so it takes one (9.4.6)"
+finding_words RefusesConfiguration = codes "the device takes 0 and the value of each configuration (9.4.7)"
+finding_words TakesConfiguration = codes "no configuration of the device has this value (9.2.7, 9.4.7)"
+finding_words OtherConfiguration = codes "the device answers 0 or the value of a configuration (9.4.2)"
+finding_words GivesUncounted = codes "bNumConfigurations doesn't count it (9.4.3, 9.6.1)"
 
 unfoldable pub finding_line : Finding → List ℕ
 finding_line finding = codes "           ! " ++ finding_words finding ++ codes "\n"

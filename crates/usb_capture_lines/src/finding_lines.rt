@@ -45,6 +45,14 @@ pub fn finding_words(finding: Finding) -> &'static str
         Finding::RefusesCounted => "the device has it: bNumConfigurations counts it (9.6.1, 9.6.2)",
         Finding::RefusesNamed => "the device has it: a descriptor names it (9.6.7)",
         Finding::RefusesStatus => "the device has an address, so it answers (9.4.5)",
+        Finding::RefusesAddress => "the device has no address yet, so it takes one (9.4.6)",
+        Finding::RefusesConfiguration =>
+            "the device takes 0 and the value of each configuration (9.4.7)",
+        Finding::TakesConfiguration =>
+            "no configuration of the device has this value (9.2.7, 9.4.7)",
+        Finding::OtherConfiguration =>
+            "the device answers 0 or the value of a configuration (9.4.2)",
+        Finding::GivesUncounted => "bNumConfigurations doesn't count it (9.4.3, 9.6.1)",
     }
 }
 

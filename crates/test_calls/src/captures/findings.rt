@@ -51,6 +51,94 @@ aaaa1111 17 S Ci:1:005:0 s 80 06 0301 0409 0004 4 <
 aaaa1111 18 C Ci:1:005:0 0 6 = 06034200 4300
 ";
 
+/// A device without an address that refuses one, and what may be refused: one that there isn't, with wIndex, and by a device that has
+/// an address. Then its descriptor counts two configurations. The value of the second is refused before and after it is known, and so
+/// are another value, the high byte of wValue, wIndex, 0, and GET_CONFIGURATION of one byte and of two; the same at address 0.
+const REFUSED_VALUES: &[u8] = b"aaaa1111 1 S Co:1:000:0 s 00 05 0080 0000 0000 0
+aaaa1111 2 C Co:1:000:0 -32 0
+aaaa1111 3 S Co:1:000:0 s 00 05 0007 0001 0000 0
+aaaa1111 4 C Co:1:000:0 -32 0
+aaaa1111 5 S Co:1:000:0 s 00 05 0007 0000 0000 0
+aaaa1111 6 C Co:1:000:0 -32 0
+aaaa1111 7 S Co:1:007:0 s 00 05 0008 0000 0000 0
+aaaa1111 8 C Co:1:007:0 -32 0
+aaaa1111 9 S Co:1:007:0 s 00 09 0002 0000 0000 0
+aaaa1111 10 C Co:1:007:0 -32 0
+aaaa1111 11 S Ci:1:007:0 s 80 06 0100 0000 0012 18 <
+aaaa1111 12 C Ci:1:007:0 0 18 = 12010002 00000040 83044057 00020102 0302
+aaaa1111 13 S Ci:1:007:0 s 80 06 0201 0000 0005 5 <
+aaaa1111 14 C Ci:1:007:0 0 5 = 09021900 01
+aaaa1111 15 S Co:1:007:0 s 00 09 0002 0000 0000 0
+aaaa1111 16 C Co:1:007:0 -32 0
+aaaa1111 17 S Ci:1:007:0 s 80 06 0201 0000 0006 6 <
+aaaa1111 18 C Ci:1:007:0 0 6 = 09021900 0102
+aaaa1111 19 S Co:1:007:0 s 00 09 0002 0000 0000 0
+aaaa1111 20 C Co:1:007:0 -32 0
+aaaa1111 21 S Co:1:007:0 s 00 09 0003 0000 0000 0
+aaaa1111 22 C Co:1:007:0 -32 0
+aaaa1111 23 S Co:1:007:0 s 00 09 0102 0000 0000 0
+aaaa1111 24 C Co:1:007:0 -32 0
+aaaa1111 25 S Co:1:007:0 s 00 09 0002 0001 0000 0
+aaaa1111 26 C Co:1:007:0 -32 0
+aaaa1111 27 S Co:1:007:0 s 00 09 0000 0000 0000 0
+aaaa1111 28 C Co:1:007:0 -32 0
+aaaa1111 29 S Ci:1:007:0 s 80 08 0000 0000 0001 1 <
+aaaa1111 30 C Ci:1:007:0 -32 0
+aaaa1111 31 S Ci:1:007:0 s 80 08 0000 0000 0002 2 <
+aaaa1111 32 C Ci:1:007:0 -32 0
+aaaa1111 33 S Co:1:000:0 s 00 09 0000 0000 0000 0
+aaaa1111 34 C Co:1:000:0 -32 0
+aaaa1111 35 S Ci:1:000:0 s 80 08 0000 0000 0001 1 <
+aaaa1111 36 C Ci:1:000:0 -32 0
+aaaa1111 37 S Co:1:007:0 s 00 09 0002 0000 0000 0
+aaaa1111 38 C Co:1:007:0 -32 0
+";
+
+/// A third configuration, before and after the device descriptor counts two, once cut, and once with wIndex. SET_CONFIGURATION is done
+/// with a value that none has, before and after both are known, with 0, with the high byte of wValue, with wIndex, and with the value of
+/// the second. GET_CONFIGURATION has the other value, before and after, that of the second, 0, and of another device.
+const OTHER_VALUES: &[u8] = b"aaaa1111 1 S Ci:1:007:0 s 80 06 0202 0000 0009 9 <
+aaaa1111 2 C Ci:1:007:0 0 9 = 09021900 01030080 32
+aaaa1111 3 S Ci:1:007:0 s 80 06 0100 0000 0012 18 <
+aaaa1111 4 C Ci:1:007:0 0 18 = 12010002 00000040 83044057 00020102 0302
+aaaa1111 5 S Ci:1:007:0 s 80 06 0200 0000 0006 6 <
+aaaa1111 6 C Ci:1:007:0 0 6 = 09021900 0101
+aaaa1111 7 S Co:1:007:0 s 00 09 0003 0000 0000 0
+aaaa1111 8 C Co:1:007:0 0 0
+aaaa1111 9 S Ci:1:007:0 s 80 06 0201 0000 0005 5 <
+aaaa1111 10 C Ci:1:007:0 0 5 = 09021900 01
+aaaa1111 11 S Ci:1:007:0 s 80 08 0000 0000 0001 1 <
+aaaa1111 12 C Ci:1:007:0 0 1 = 03
+aaaa1111 13 S Ci:1:007:0 s 80 06 0201 0000 0006 6 <
+aaaa1111 14 C Ci:1:007:0 0 6 = 09021900 0102
+aaaa1111 15 S Co:1:007:0 s 00 09 0003 0000 0000 0
+aaaa1111 16 C Co:1:007:0 0 0
+aaaa1111 17 S Co:1:007:0 s 00 09 0000 0000 0000 0
+aaaa1111 18 C Co:1:007:0 0 0
+aaaa1111 19 S Co:1:007:0 s 00 09 0103 0000 0000 0
+aaaa1111 20 C Co:1:007:0 0 0
+aaaa1111 21 S Co:1:007:0 s 00 09 0003 0001 0000 0
+aaaa1111 22 C Co:1:007:0 0 0
+aaaa1111 23 S Co:1:007:0 s 00 09 0002 0000 0000 0
+aaaa1111 24 C Co:1:007:0 0 0
+aaaa1111 25 S Ci:1:007:0 s 80 08 0000 0000 0001 1 <
+aaaa1111 26 C Ci:1:007:0 0 1 = 02
+aaaa1111 27 S Ci:1:007:0 s 80 08 0000 0000 0001 1 <
+aaaa1111 28 C Ci:1:007:0 0 1 = 00
+aaaa1111 29 S Ci:1:007:0 s 80 06 0202 0000 0021 33 <
+aaaa1111 30 C Ci:1:007:0 0 33 = 09021900 01030080 32000000 00000000 00000000 00000000 00000000 00000000
+aaaa1111 31 S Ci:1:007:0 s 80 06 0202 0000 0009 9 <
+aaaa1111 32 C Ci:1:007:0 0 9 = 09021900 01030080 32
+aaaa1111 33 S Ci:1:007:0 s 80 06 0202 0001 0009 9 <
+aaaa1111 34 C Ci:1:007:0 0 9 = 09021900 01030080 32
+aaaa1111 35 S Ci:1:007:0 s 80 06 0201 0000 0009 9 <
+aaaa1111 36 C Ci:1:007:0 0 9 = 09021900 01020080 32
+aaaa1111 37 S Ci:1:008:0 s 80 08 0000 0000 0001 1 <
+aaaa1111 38 C Ci:1:008:0 0 1 = 03
+aaaa1111 39 S Ci:1:007:0 s 80 08 0000 0000 0001 1 <
+aaaa1111 40 C Ci:1:007:0 0 1 = 03
+";
+
 /// What is found in each transfer, one after another.
 fn judge(
     alloc: Global,
@@ -103,4 +191,40 @@ fn finds_answers_that_dont_fit(rt: HostRuntime) {
         (8, Finding::OtherBytes),
     ];
     assert!(rt; found.as_slice() == wanted.as_slice());
+}
+
+#[test]
+fn finds_refusals_of_addresses_and_configurations(rt: HostRuntime) {
+    let (frames, _) = read_cut(rt.alloc(), REFUSED_VALUES, 99).expect(&rt, "a capture");
+    let transfers = transfers_of(rt.alloc(), &frames).expect(&rt, "memory");
+    let mut conversations = Conversations::new(rt.alloc());
+    let found = judge(rt.alloc(), &mut conversations, &transfers).expect(&rt, "memory");
+    let wanted = [
+        (2, Finding::RefusesAddress),
+        (9, Finding::RefusesConfiguration),
+        (13, Finding::RefusesConfiguration),
+        (14, Finding::OtherConfiguration),
+    ];
+    assert!(rt; found.as_slice() == wanted.as_slice());
+}
+
+#[test]
+fn finds_configurations_that_a_device_doesnt_have(rt: HostRuntime) {
+    let (frames, _) = read_cut(rt.alloc(), OTHER_VALUES, 99).expect(&rt, "a capture");
+    let mut transfers = transfers_of(rt.alloc(), &frames).expect(&rt, "memory");
+    let mut conversations = Conversations::new(rt.alloc());
+    let found = judge(rt.alloc(), &mut conversations, &transfers).expect(&rt, "memory");
+    let wanted = [
+        (7, Finding::TakesConfiguration),
+        (15, Finding::GivesUncounted),
+        (19, Finding::OtherConfiguration),
+    ];
+    assert!(rt; found.as_slice() == wanted.as_slice());
+    // The last one, where a byte of it lacks.
+    let last = transfers.pop().expect(&rt, "a transfer");
+    let cut = ControlTransfer {
+        is_cut: true,
+        ..last
+    };
+    assert!(rt; conversations.take(&cut).expect(&rt, "memory").is_empty());
 }
