@@ -43,7 +43,7 @@ use Rattle.usb_recorded_runs.proofs.DeviceLemmas.{Follows, IsElsewhere, IsEmpty,
 use Rattle.usb_recorded_runs.proofs.FrontLemmas.{front_more}
 use Rattle.usb_recorded_runs.proofs.ReceivedLemmas.{EndsWhole, Goes, IsNoData, NotEarly, Right, bytes_cases, bytes_count, bytes_cut, bytes_keep, bytes_total, received_in, packet_in, quiet_in, right_at, setup_right, status_in, status_out, with_again, with_next}
 use Rattle.usb_recorded_runs.proofs.SizeLemmas.{Fronts, IfOver, IsSound, Tells, Reported, nothing_tells, reported_over, unseen_over}
-use Rattle.usb_recorded_runs.proofs.TogetherLemmas.{HasEnded, IsRefused, IsWhole, StaysTogether, TogetherAfter, TogetherBy, Took, begun_together, data_in, done_ended, nothing_after, sent_length, sent_setup, stall_ended, status_in as status_in_together, status_out as status_out_together, unseen_ended}
+use Rattle.usb_recorded_runs.proofs.TogetherLemmas.{HasEnded, IsRefused, IsWhole, TogetherAfter, TogetherBy, Took, begun_together, data_in, done_ended, sent_length, sent_setup, stall_ended, status_in as status_in_together, status_out as status_out_together, unseen_ended}
 
 -- which way data go by the request that was recorded
 recorded_length : (q : Setup) → (setup_at (setup_bytes q) 0).length ≡ q.length
