@@ -51,5 +51,5 @@ pub transfers_ended : (f : DescriptorFile) (speed : Speed) (fates : List Fate) (
 transfers_ended f speed fates limits choice earlier n last times is_table accepted run =
     let new = chosen_pair limits speed choice in
     let right = run_right f is_table fates times new earlier n last refl run.0
-        (all_small (exchanges f fates earlier n) (regular_plain f fates new earlier n last run.0 run.1)) (short_run f fates new earlier n last run.0) in
+    (all_small (exchanges f fates earlier n) (regular_plain f fates new earlier n last run.0 run.1)) (short_run f fates new earlier n last run.0) in
     all_ended f (transfers_in (received times 1 (exchanges f fates earlier n))) (right.ended (packet_eight f accepted.rules))

@@ -430,8 +430,8 @@ module _ (table : State → Setup → Outcome) (cut : ℕ) where
         let P = TogetherIn t.request t.awaited t.kept in
         let r = served table cut d (record { address = t.address; token = InToken }) ready in
         let after = in_after P (λ toggle bytes stage. Took toggle bytes t.packet t.awaited t.kept t.request stage) t.request fate d.stage r.reply r.device kept
-            (served_at_in P t.request d t.address ready both (stage_in_data t.request t.awaited t.kept d.state d.stage both)) sent
-            (λ toggle bytes lost. took_packet t.address t.packet t.request t.awaited t.kept d.stage r.device toggle bytes lost size_is both) in
+        (served_at_in P t.request d t.address ready both (stage_in_data t.request t.awaited t.kept d.state d.stage both)) sent
+        (λ toggle bytes lost. took_packet t.address t.packet t.request t.awaited t.kept d.stage r.device toggle bytes lost size_is both) in
         record { together = after.0; refuses = after.1 }
 
     pub status_in : (t : TransferView) (d : DeviceView) (fate : Fate) (ready : Bool) → is_lost_down fate ≡ false → CarriesOut t.request d.stage
@@ -441,8 +441,8 @@ module _ (table : State → Setup → Outcome) (cut : ℕ) where
         let P = CarriesOut t.request in
         let r = served table cut d (record { address = t.address; token = InToken }) ready in
         let after = in_after P (λ toggle bytes stage. toggle ≡ Data1) t.request fate d.stage r.reply r.device kept
-            (served_at_in P t.request d t.address ready both (stage_in_status t.request d.state d.stage both)) sent
-            (λ toggle bytes lost p. status_toggle t.request d.stage toggle both p.was) in
+        (served_at_in P t.request d t.address ready both (stage_in_status t.request d.state d.stage both)) sent
+        (λ toggle bytes lost p. status_toggle t.request d.stage toggle both p.was) in
         record { together = after.0; refuses = after.1 }
 
     -- the empty OUT of the status stage
