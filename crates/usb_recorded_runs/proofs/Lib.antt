@@ -10,9 +10,11 @@ pub mod CarriedLemmas
 pub mod FrontLemmas
 pub mod DeviceLemmas
 pub mod ReceivedLemmas
+pub mod TogetherLemmas
 pub mod StepLemmas
 pub mod KnownRuns
 pub mod SizeLemmas
 pub mod AnswerLemmas
 pub mod TransferLemmas
 pub mod PlaceLemmas
+pub mod EndedLemmas

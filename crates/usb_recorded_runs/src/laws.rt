@@ -1,5 +1,5 @@
 //! The functions of these laws do nothing: their contracts are the laws.
-ghost use Rattle.usb_recorded_runs.specs.Laws.{CapturedRunsAreRead, DescriptorsHaveTypes, HandshakesAreLost, NoDescriptorChanges, NoLongPacketIsFound, NoPacketIsDamaged, NoPacketIsLong, NoShortPacketLacks, NoToggleIsWrong, NoTransferHasMore, RecordedRunsAreRead, RunsOfBytesAreRuns, SetupsAreTaken};
+ghost use Rattle.usb_recorded_runs.specs.Laws.{CapturedRunsAreRead, DescriptorsHaveTypes, HandshakesAreLost, NoDescriptorChanges, NoLongPacketIsFound, NoPacketIsDamaged, NoPacketIsLong, NoShortPacketLacks, NoToggleIsWrong, NoTransferHasMore, RecordedRunsAreRead, RunsOfBytesAreRuns, SetupsAreTaken, TransfersEndRight};
 
 use usb_bus::laws::a_device_keeps_its_table;
 
@@ -72,6 +72,14 @@ pub fn no_descriptor_changes()
 /// Nor is `OtherType`, of a device with accepted descriptors.
 pub fn each_descriptor_has_its_type()
     ensures { DescriptorsHaveTypes }
+{
+    a_device_keeps_its_table();
+}
+
+/// Each transfer ends as it does with this device: one that is refused is of a request that the device refuses, and one that reads a
+/// descriptor has as many bytes of it as were asked for, or all.
+pub fn each_transfer_ends_right()
+    ensures { TransfersEndRight }
 {
     a_device_keeps_its_table();
 }
