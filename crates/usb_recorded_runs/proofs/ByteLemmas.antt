@@ -1,5 +1,5 @@
 -- A device with descriptors that are bytes sends bytes to a host that enumerates it.
-use Rattle.std.proofs.Common.{◌≡◌, ◌≢◌, ◌⊎◌, inl, inr, ◌<◌, ◌==◌, ◌-◌, ◌/◌, ◌%◌, ◌++◌, ℕ, zero, suc, Bool, true, false, not, min, nat_lt, if◌then◌else◌, List, [], ◌∷◌, length, take, drop, refl, sym, subst, arith}
+use Rattle.std.proofs.Common.{◌≡◌, ◌⊎◌, inl, inr, ◌<◌, ◌==◌, ◌-◌, ◌/◌, ◌%◌, ◌++◌, ℕ, zero, suc, Bool, true, false, not, min, nat_lt, if◌then◌else◌, List, [], ◌∷◌, length, take, drop, refl, sym, subst, arith}
 use Rattle.std.specs.Prelude.{Option, Some, None, option_and_then, slice_get, unwrap_or}
 use Rattle.std.specs.List.{AllByRecursion}
 use Rattle.std.specs.Option.{option_map}
@@ -108,14 +108,14 @@ descriptor_given f kind index language are =
 -- ---- what a host sends
 
 -- a request of an enumeration: its fields have bytes, and it asks for a descriptor, or for no data
-pub record IsOwn (q : Setup) : Type 0 where
+pub record IsHostRequest (q : Setup) : Type 0 where
   pub bytes : AreBytes (setup_bytes q)
   pub asks : ((q.request_type ≡ 128) × (q.request ≡ 6)) ⊎ (q.length ≡ 0)
 
-abbrev pub IsOwnToken : Token → Type 0
-IsOwnToken (SetupToken bytes) = (q : Setup) × (bytes ≡ setup_bytes q) × IsOwn q
-IsOwnToken InToken = Unit {0}
-IsOwnToken (OutToken toggle bytes) = AreBytes bytes
+abbrev pub IsHostToken : Token → Type 0
+IsHostToken (SetupToken bytes) = (q : Setup) × (bytes ≡ setup_bytes q) × IsHostRequest q
+IsHostToken InToken = Unit {0}
+IsHostToken (OutToken toggle bytes) = AreBytes bytes
 
 -- ---- a device
 
@@ -132,13 +132,13 @@ stays_has : (old new : DeviceStage) → (new ≡ old) ⊎ IsElsewhere new → Ha
 stays_has old new (inl same) has = subst HasBytes (sym same) has
 stays_has old new (inr elsewhere) has = elsewhere_has new elsewhere
 
-pub record HasSaid (r : Served) : Type 0 where
+pub record AnswersBytes (r : Served) : Type 0 where
   pub reply : BringsBytes r.reply
   pub stage : HasBytes r.device.stage
 
-either_said : (c : Bool) (x y : Served) → HasSaid x → HasSaid y → HasSaid (if c then x else y)
-either_said true x y p q = p
-either_said false x y p q = q
+either_answers : (c : Bool) (x y : Served) → AnswersBytes x → AnswersBytes y → AnswersBytes (if c then x else y)
+either_answers true x y p q = p
+either_answers false x y p q = q
 
 -- what answers no IN has no data
 no_data : (toggle : Toggle) (bytes : List ℕ) (reply : Reply) → Fits (OutToken toggle bytes) reply → BringsBytes reply
@@ -218,14 +218,14 @@ module _ (table : State → Setup → Outcome) (cut : ℕ) where
   sent_bytes old new StallReply has sent = tt
   sent_bytes old new NoReply has sent = tt
 
-  in_said : (d : DeviceView) (address : ℕ) (ready : Bool) → HasBytes d.stage → HasSaid (served table cut d (record { address = address; token = InToken }) ready)
-  in_said d address ready has =
+  in_answers : (d : DeviceView) (address : ℕ) (ready : Bool) → HasBytes d.stage → AnswersBytes (served table cut d (record { address = address; token = InToken }) ready)
+  in_answers d address ready has =
       let r = served table cut d (record { address = address; token = InToken }) ready in
       let sends : Sends table cut d.stage r = served_sends table cut d address ready in
       record { reply = sent_bytes d.stage r.device r.reply has sends.sent; stage = stays_has d.stage r.device.stage sends.stays has }
 
-  out_said : (d : DeviceView) (toggle : Toggle) (bytes : List ℕ) (ready : Bool) → HasBytes d.stage → HasSaid (served_here table cut d (OutToken toggle bytes) ready)
-  out_said d toggle bytes ready has =
+  out_answers : (d : DeviceView) (toggle : Toggle) (bytes : List ℕ) (ready : Bool) → HasBytes d.stage → AnswersBytes (served_here table cut d (OutToken toggle bytes) ready)
+  out_answers d toggle bytes ready has =
       let r = served_here table cut d (OutToken toggle bytes) ready in
       record { reply = no_data toggle bytes r.reply (here_fits table cut d (OutToken toggle bytes) ready); stage = of ready }
     where
@@ -239,8 +239,8 @@ module _ (f : DescriptorFile) (are : AreBytes (file_bytes f)) (kept_table : IsTa
   abbrev cut : ℕ
   cut = f.device.packet
 
-  answer_has : (s : State) (q : Setup) (o : Outcome) → IsOwn q → answer f s (setup_of (setup_bytes q)) ≡ o → HasBytes (begun (setup_of (setup_bytes q)) o)
-  answer_has s q (Bytes bytes) own e = of own.asks
+  answer_has : (s : State) (q : Setup) (o : Outcome) → IsHostRequest q → answer f s (setup_of (setup_bytes q)) ≡ o → HasBytes (begun (setup_of (setup_bytes q)) o)
+  answer_has s q (Bytes bytes) fits e = of fits.asks
     where
       r : Setup
       r = setup_of (setup_bytes q)
@@ -252,25 +252,25 @@ module _ (f : DescriptorFile) (are : AreBytes (file_bytes f)) (kept_table : IsTa
       of (inr none) =
           let some : 0 < r.length = ((kept_table.answering s r).bytes bytes e).0 in
           absurd (let w : ⊥ = omega (arith, some, none) in w)
-  answer_has s q (Done next) own e = tt
-  answer_has s q Refused own e = tt
-  answer_has s q (Takes judge) own e = tt
+  answer_has s q (Done next) fits e = tt
+  answer_has s q Refused fits e = tt
+  answer_has s q (Takes judge) fits e = tt
 
-  setup_said : (d : DeviceView) (bytes : List ℕ) (ready : Bool) → IsOwnToken (SetupToken bytes) → HasSaid (served_here (answer f) cut d (SetupToken bytes) ready)
-  setup_said d bytes ready (q, same, own) =
-      subst (λ b. HasSaid (served_here (answer f) cut d (SetupToken b) ready)) (sym same)
-      (record { reply = tt; stage = answer_has d.state q (answer f d.state (setup_of (setup_bytes q))) own refl })
+  setup_answers : (d : DeviceView) (bytes : List ℕ) (ready : Bool) → IsHostToken (SetupToken bytes) → AnswersBytes (served_here (answer f) cut d (SetupToken bytes) ready)
+  setup_answers d bytes ready (q, same, fits) =
+      subst (λ b. AnswersBytes (served_here (answer f) cut d (SetupToken b) ready)) (sym same)
+      (record { reply = tt; stage = answer_has d.state q (answer f d.state (setup_of (setup_bytes q))) fits refl })
 
-  served_said : (d : DeviceView) (sent : Sent) (ready : Bool) → IsOwnToken sent.token → HasBytes d.stage → HasSaid (served (answer f) cut d sent ready)
-  served_said d sent ready own has = of sent.token own
+  served_answers : (d : DeviceView) (sent : Sent) (ready : Bool) → IsHostToken sent.token → HasBytes d.stage → AnswersBytes (served (answer f) cut d sent ready)
+  served_answers d sent ready fits has = of sent.token fits
     where
-      at : (token : Token) → HasSaid (served_here (answer f) cut d token ready) → HasSaid (served (answer f) cut d (record { address = sent.address; token = token }) ready)
-      at token here = either_said (sent.address == d.state.address) _ (replies NoReply d.state d.stage false) here (record { reply = tt; stage = has })
+      at : (token : Token) → AnswersBytes (served_here (answer f) cut d token ready) → AnswersBytes (served (answer f) cut d (record { address = sent.address; token = token }) ready)
+      at token here = either_answers (sent.address == d.state.address) _ (replies NoReply d.state d.stage false) here (record { reply = tt; stage = has })
 
-      of : (token : Token) → IsOwnToken token → HasSaid (served (answer f) cut d (record { address = sent.address; token = token }) ready)
-      of (SetupToken bytes) own = at (SetupToken bytes) (setup_said d bytes ready own)
-      of InToken own = in_said (answer f) cut d sent.address ready has
-      of (OutToken toggle bytes) own = at (OutToken toggle bytes) (out_said (answer f) cut d toggle bytes ready has)
+      of : (token : Token) → IsHostToken token → AnswersBytes (served (answer f) cut d (record { address = sent.address; token = token }) ready)
+      of (SetupToken bytes) fits = at (SetupToken bytes) (setup_answers d bytes ready fits)
+      of InToken fits = in_answers (answer f) cut d sent.address ready has
+      of (OutToken toggle bytes) fits = at (OutToken toggle bytes) (out_answers (answer f) cut d toggle bytes ready has)
 
   acknowledged_has : (r : Served) → HasBytes r.device.stage → HasBytes (acknowledged (answer f) cut fates.Pass r).device.stage
   acknowledged_has r has = of (is_data r.reply)
@@ -280,18 +280,18 @@ module _ (f : DescriptorFile) (are : AreBytes (file_bytes f)) (kept_table : IsTa
       of false = has
 
   -- what it answers, and its stage after that
-  pub answered_bytes : (d : DeviceView) (sent : Sent) (fate : Fate) → IsOwnToken sent.token → HasBytes d.stage → BringsBytes (answered f d sent fate)
-  answered_bytes d sent fates.Pass own has = (served_said d sent true own has).reply
-  answered_bytes d sent fates.Busy own has = (served_said d sent false own has).reply
-  answered_bytes d sent fates.LostUp own has = (served_said d sent true own has).reply
-  answered_bytes d sent fates.LostAck own has = (served_said d sent true own has).reply
-  answered_bytes d sent fates.LostDown own has = tt
+  pub answered_bytes : (d : DeviceView) (sent : Sent) (fate : Fate) → IsHostToken sent.token → HasBytes d.stage → BringsBytes (answered f d sent fate)
+  answered_bytes d sent fates.Pass fits has = (served_answers d sent true fits has).reply
+  answered_bytes d sent fates.Busy fits has = (served_answers d sent false fits has).reply
+  answered_bytes d sent fates.LostUp fits has = (served_answers d sent true fits has).reply
+  answered_bytes d sent fates.LostAck fits has = (served_answers d sent true fits has).reply
+  answered_bytes d sent fates.LostDown fits has = tt
 
-  pub carried_has : (d : DeviceView) (sent : Sent) (fate : Fate) → IsOwnToken sent.token → HasBytes d.stage → HasSaid (carried (answer f) cut d sent fate)
-  carried_has d sent fates.Pass own has =
-      let said = served_said d sent true own has in record { reply = said.reply; stage = acknowledged_has (served (answer f) cut d sent true) said.stage }
-  carried_has d sent fates.Busy own has =
-      let said = served_said d sent false own has in record { reply = said.reply; stage = acknowledged_has (served (answer f) cut d sent false) said.stage }
-  carried_has d sent fates.LostUp own has = record { reply = tt; stage = (served_said d sent true own has).stage }
-  carried_has d sent fates.LostAck own has = served_said d sent true own has
-  carried_has d sent fates.LostDown own has = record { reply = tt; stage = has }
+  pub carried_has : (d : DeviceView) (sent : Sent) (fate : Fate) → IsHostToken sent.token → HasBytes d.stage → AnswersBytes (carried (answer f) cut d sent fate)
+  carried_has d sent fates.Pass fits has =
+      let answers = served_answers d sent true fits has in record { reply = answers.reply; stage = acknowledged_has (served (answer f) cut d sent true) answers.stage }
+  carried_has d sent fates.Busy fits has =
+      let answers = served_answers d sent false fits has in record { reply = answers.reply; stage = acknowledged_has (served (answer f) cut d sent false) answers.stage }
+  carried_has d sent fates.LostUp fits has = record { reply = tt; stage = (served_answers d sent true fits has).stage }
+  carried_has d sent fates.LostAck fits has = served_answers d sent true fits has
+  carried_has d sent fates.LostDown fits has = record { reply = tt; stage = has }

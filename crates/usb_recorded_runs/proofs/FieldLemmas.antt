@@ -1,5 +1,5 @@
 -- A host that receives bytes sends requests whose fields have their widths, to addresses of 7 bits.
-use Rattle.std.proofs.Common.{◌≡◌, ◌<◌, ◌≤◌, ◌==◌, ◌&&◌, ◌||◌, ◌+◌, ◌*◌, ◌/◌, ◌%◌, ◌++◌, not, nat_lt, ℕ, zero, suc, Bool, true, false, if◌then◌else◌, List, [], ◌∷◌, length, take, get_or, inl, inr, refl, sym, ◌∙◌, ap, subst, arith, lit<}
+use Rattle.std.proofs.Common.{◌≡◌, ◌<◌, ◌≤◌, ◌==◌, ◌&&◌, ◌||◌, ◌+◌, ◌*◌, ◌/◌, ◌%◌, ◌++◌, not, nat_lt, ℕ, zero, suc, Bool, true, false, if◌then◌else◌, List, [], ◌∷◌, length, take, get_or, inl, inr, refl, sym, subst, arith, lit<}
 use Rattle.std.specs.Prelude.{Option, Some, None, Result, Ok, Err, drop, filter}
 use Rattle.std.specs.List.{AllByRecursion, flat_map, list_any, range_with_len}
 use Rattle.std.proofs.lemmas.Bool.Decides.{nat_tests}
@@ -8,8 +8,7 @@ use Rattle.usb_fields.specs.declared.device.DeviceDescriptor.{DeviceDescriptor}
 use Rattle.usb_fields.specs.declared.packet.Toggle.{Toggle}
 use Rattle.usb_fields.specs.declared.packet.Toggle.TheVariants.{Data0, Data1}
 use Rattle.usb_fields.specs.declared.qualifier.Qualifier.{Qualifier}
-use Rattle.usb_fields.specs.Packets.{AckReply, DataReply, InToken, NakReply, NoReply, OutToken, Reply, Sent, SetupToken, StallReply, is_same_toggle}
-use Rattle.usb_fields.specs.Setup.{setup_bytes}
+use Rattle.usb_fields.specs.Packets.{AckReply, DataReply, NakReply, NoReply, Reply, Sent, StallReply, is_same_toggle}
 use Rattle.usb_fields.specs.Units.{units_bytes}
 use Rattle.usb_fields.proofs.ByteParts.{bytes_append}
 use Rattle.usb_set.specs.declared.decoder.Progress.{Progress}
@@ -42,10 +41,10 @@ use Rattle.usb_host.specs.Plan.{Plan, Begin, Success, GivesUp}
 use Rattle.usb_host.specs.Read.{device_of, get_descriptor, is_first, may_have_second, qualifier_of, same_bytes, set_address, set_configuration, total_in, total_said, units_of}
 use Rattle.usb_host.specs.Steps.{Ended, HostPhase, HostView, KeepsReceived, Reading, ResetDue, Takes, TakesIn, TakesReceived, WantsSent, blames_bus, completed_leads, enter, entered, goes_on, read_leads, reset, reset_in, sends, settled, terms_of, wanted}
 use Rattle.usb_host.specs.Terms.{is_asked}
-use Rattle.usb_host.specs.Transfer.{Brings, Completes, Fails, Goes, HeardView, Taken, TransferView, addressed, delayed, failed, packet_due, struck, taken, taken_at, taken_data, taken_status, token_due, kept_packet}
+use Rattle.usb_host.specs.Transfer.{Brings, Completes, Fails, Goes, HeardView, Taken, TransferView, addressed, delayed, failed, struck, taken, taken_at, taken_data, taken_status, token_due, kept_packet}
 use Rattle.usb_host.proofs.LowerLemmas.{HasBytesOf, receives_bytes}
 use Rattle.usb_host.proofs.ReadLemmas.{byte_at, device_narrow, qualifier_narrow, units_written}
-use Rattle.usb_recorded_runs.proofs.ByteLemmas.{IsOwn, IsOwnToken}
+use Rattle.usb_recorded_runs.proofs.ByteLemmas.{IsHostRequest, IsHostToken}
 
 -- ---- numbers of two bytes
 
@@ -98,17 +97,13 @@ declared_small kinds.Configuration f widths = widths.sets
 declared_small kinds.OtherSpeed f widths = widths.others
 
 abbrev IsNarrow : Place → Type 0
-IsNarrow First = Unit {0}
-IsNarrow (Address first) = Unit {0}
-IsNarrow (Device first) = Unit {0}
 IsNarrow (Header kind f) = HasWidths f × (length (sets_of kind f) < 256)
 IsNarrow (Set kind f total) = HasWidths f × (length (sets_of kind f) < 256) × (total < 65536)
 IsNarrow (SecondSpeed f) = HasWidths f
 IsNarrow (Languages f named) = HasWidths f × AreBytes named
 IsNarrow (Text f s named) = HasWidths f × AreBytes named × AreWords s.languages
 IsNarrow (Configure f) = HasWidths f
-IsNarrow (Reported f) = Unit {0}
-IsNarrow (Stopped trouble) = Unit {0}
+IsNarrow place = Unit {0}
 
 either_narrow : (c : Bool) (x y : Place) → (c ≡ true → IsNarrow x) → IsNarrow y → IsNarrow (if c then x else y)
 either_narrow true x y p q = p refl
@@ -195,16 +190,12 @@ text_narrow f s named (Some u) widths small words = texts_narrow f (record s { t
 
 bytes_narrow : (terms : Terms) (place : Place) (b : List ℕ) → IsNarrow place → AreBytes b → IsNarrow (bytes_lead terms place b)
 bytes_narrow terms First b is are = either_narrow (is_first terms.speed b) (Address b) _ (λ c. tt) tt
-bytes_narrow terms (Address first) b is are = tt
 bytes_narrow terms (Device first) b is are = device_narrow_at terms first b (device_of b) are refl
 bytes_narrow terms (Header kind f) b is are = header_narrow kind f b (total_in (type_number kind) b) is are refl
-bytes_narrow terms (Set kind f total) b is are = tt
 bytes_narrow terms (SecondSpeed f) b is are = qualifier_narrow_at terms f b (qualifier_of b) is are refl
 bytes_narrow terms (Languages f named) b is are = languages_narrow f named b (units_of b) is.0 is.1 are refl
 bytes_narrow terms (Text f s named) b is are = text_narrow f s named (units_of b) is.0 is.1 is.2
-bytes_narrow terms (Configure f) b is are = tt
-bytes_narrow terms (Reported f) b is are = tt
-bytes_narrow terms (Stopped trouble) b is are = tt
+bytes_narrow terms place b is are = tt
 
 -- ---- what is kept of a read
 
@@ -249,43 +240,19 @@ kept_value (has d) false c keeps e = let same : d ≡ c = cc in subst (λ s. s.v
 
 read_narrow : (terms : Terms) (place : Place) (count : ℕ) (k : Kept) → IsNarrow place → KeepsBytes k → IsNarrow (read_leads terms place count k)
 read_narrow terms place count (kept.Bytes b) is keeps = bytes_narrow terms place b is keeps
-read_narrow terms (Set kind f total) count (kept.Set d over) is keeps = set_narrow terms kind f total count (set_kept d over) is.0 (λ c e. kept_value d over c keeps e)
-read_narrow terms First count (kept.Set d over) is keeps = tt
-read_narrow terms (Address first) count (kept.Set d over) is keeps = tt
-read_narrow terms (Device first) count (kept.Set d over) is keeps = tt
-read_narrow terms (Header kind f) count (kept.Set d over) is keeps = tt
-read_narrow terms (SecondSpeed f) count (kept.Set d over) is keeps = tt
-read_narrow terms (Languages f named) count (kept.Set d over) is keeps = tt
-read_narrow terms (Text f s named) count (kept.Set d over) is keeps = tt
-read_narrow terms (Configure f) count (kept.Set d over) is keeps = tt
-read_narrow terms (Reported f) count (kept.Set d over) is keeps = tt
-read_narrow terms (Stopped trouble) count (kept.Set d over) is keeps = tt
+read_narrow terms (Set kind f total) count (kept.Set d over) is keeps =
+    set_narrow terms kind f total count (set_kept d over) is.0 (λ c e. kept_value d over c keeps e)
+read_narrow terms place count (kept.Set d over) is keeps = tt
 
 done_narrow : (place : Place) → IsNarrow (done_leads place)
 done_narrow (Address first) = tt
 done_narrow (Configure f) = tt
-done_narrow First = tt
-done_narrow (Device first) = tt
-done_narrow (Header kind f) = tt
-done_narrow (Set kind f total) = tt
-done_narrow (SecondSpeed f) = tt
-done_narrow (Languages f named) = tt
-done_narrow (Text f s named) = tt
-done_narrow (Reported f) = tt
-done_narrow (Stopped trouble) = tt
+done_narrow place = tt
 
 stand_narrow : (place : Place) → IsNarrow place → IsNarrow (stand_in place)
 stand_narrow (Languages f named) is = texts_narrow f (record { languages = 0x0409 ∷ []; texts = [] }) named is.0 is.1 (lit< tt, tt)
 stand_narrow (Text f s named) is = texts_narrow f (record s { texts = s.texts ++ [] ∷ [] }) named is.0 is.1 is.2
-stand_narrow First is = is
-stand_narrow (Address first) is = is
-stand_narrow (Device first) is = is
-stand_narrow (Header kind f) is = is
-stand_narrow (Set kind f total) is = is
-stand_narrow (SecondSpeed f) is = is
-stand_narrow (Configure f) is = is
-stand_narrow (Reported f) is = is
-stand_narrow (Stopped trouble) is = is
+stand_narrow place is = is
 
 spared_narrow : (texts : NamedStrings) (here there : Place) → IsNarrow here → IsNarrow there → IsNarrow (spared texts here there)
 spared_narrow texts here there is next = either_narrow (is_spared texts here there) (stand_in here) there (λ c. stand_narrow here is) next
@@ -298,21 +265,12 @@ completed_narrow terms place t k is keeps =
 
 refused_narrow : (terms : Terms) (place : Place) → IsNarrow place → IsNarrow (refused_leads terms place)
 refused_narrow terms (SecondSpeed f) is = strings_narrow terms f is
-refused_narrow terms First is = tt
-refused_narrow terms (Address first) is = tt
-refused_narrow terms (Device first) is = tt
-refused_narrow terms (Header kind f) is = tt
-refused_narrow terms (Set kind f total) is = tt
-refused_narrow terms (Languages f named) is = tt
-refused_narrow terms (Text f s named) is = tt
-refused_narrow terms (Configure f) is = tt
-refused_narrow terms (Reported f) is = tt
-refused_narrow terms (Stopped trouble) is = tt
+refused_narrow terms place is = tt
 
 -- ---- requests
 
-own_descriptor : (kind index language size : ℕ) → kind < 256 → index < 256 → language < 65536 → size < 65536 → IsOwn (get_descriptor kind index language size)
-own_descriptor kind index language size k i l s = record {
+descriptor_fits : (kind index language size : ℕ) → kind < 256 → index < 256 → language < 65536 → size < 65536 → IsHostRequest (get_descriptor kind index language size)
+descriptor_fits kind index language size k i l s = record {
   bytes = (
     lit< tt,
     (lit< tt, (omega arith, (omega (arith, k, i), (omega arith, (omega (arith, l), (omega arith, (omega (arith, s), tt))))))),
@@ -320,14 +278,14 @@ own_descriptor kind index language size k i l s = record {
   asks = inl (refl, refl);
 }
 
-own_address : (address : ℕ) → address < 128 → IsOwn (set_address address)
-own_address address small = record {
+address_fits : (address : ℕ) → address < 128 → IsHostRequest (set_address address)
+address_fits address small = record {
   bytes = (lit< tt, (lit< tt, (omega arith, (omega (arith, small), (lit< tt, (lit< tt, (lit< tt, (lit< tt, tt))))))));
   asks = inr refl;
 }
 
-own_value : (value : ℕ) → value < 256 → IsOwn (set_configuration value)
-own_value value small = record {
+value_fits : (value : ℕ) → value < 256 → IsHostRequest (set_configuration value)
+value_fits value small = record {
   bytes = (lit< tt, (lit< tt, (omega arith, (omega (arith, small), (lit< tt, (lit< tt, (lit< tt, (lit< tt, tt))))))));
   asks = inr refl;
 }
@@ -337,189 +295,154 @@ kind_small kinds.Configuration = lit< tt
 kind_small kinds.OtherSpeed = lit< tt
 
 -- an address and a request that are sent
-abbrev Own : TransferView → Type 0
-Own t = (t.address < 128) × IsOwn t.request
+abbrev IsHostTransfer : TransferView → Type 0
+IsHostTransfer t = (t.address < 128) × IsHostRequest t.request
 
-abbrev OwnPlan : Plan → Type 0
-OwnPlan (Begin address packet q) = (address < 128) × IsOwn q
-OwnPlan Success = Unit {0}
-OwnPlan (GivesUp why) = Unit {0}
+abbrev IsHostPlan : Plan → Type 0
+IsHostPlan (Begin address packet q) = (address < 128) × IsHostRequest q
+IsHostPlan Success = Unit {0}
+IsHostPlan (GivesUp why) = Unit {0}
 
-asks_own : (address : ℕ) (place : Place) → address < 128 → IsNarrow place → OwnPlan (asks address place)
-asks_own address First low is = (lit< tt, own_descriptor 1 0 0 8 (lit< tt) (lit< tt) (lit< tt) (lit< tt))
-asks_own address (Address first) low is = (lit< tt, own_address address low)
-asks_own address (Device first) low is = (low, own_descriptor 1 0 0 18 (lit< tt) (lit< tt) (lit< tt) (lit< tt))
-asks_own address (Header kind f) low is = (low, own_descriptor (type_number kind) (length (sets_of kind f)) 0 9 (kind_small kind) is.1 (lit< tt) (lit< tt))
-asks_own address (Set kind f total) low is = (low, own_descriptor (type_number kind) (length (sets_of kind f)) 0 total (kind_small kind) is.1 (lit< tt) is.2)
-asks_own address (SecondSpeed f) low is = (low, own_descriptor 6 0 0 10 (lit< tt) (lit< tt) (lit< tt) (lit< tt))
-asks_own address (Languages f named) low is = (low, own_descriptor 3 0 0 255 (lit< tt) (lit< tt) (lit< tt) (lit< tt))
-asks_own address (Text f s named) low is = (
+asks_fits : (address : ℕ) (place : Place) → address < 128 → IsNarrow place → IsHostPlan (asks address place)
+asks_fits address First low is = (lit< tt, descriptor_fits 1 0 0 8 (lit< tt) (lit< tt) (lit< tt) (lit< tt))
+asks_fits address (Address first) low is = (lit< tt, address_fits address low)
+asks_fits address (Device first) low is = (low, descriptor_fits 1 0 0 18 (lit< tt) (lit< tt) (lit< tt) (lit< tt))
+asks_fits address (Header kind f) low is = (low, descriptor_fits (type_number kind) (length (sets_of kind f)) 0 9 (kind_small kind) is.1 (lit< tt) (lit< tt))
+asks_fits address (Set kind f total) low is = (low, descriptor_fits (type_number kind) (length (sets_of kind f)) 0 total (kind_small kind) is.1 (lit< tt) is.2)
+asks_fits address (SecondSpeed f) low is = (low, descriptor_fits 6 0 0 10 (lit< tt) (lit< tt) (lit< tt) (lit< tt))
+asks_fits address (Languages f named) low is = (low, descriptor_fits 3 0 0 255 (lit< tt) (lit< tt) (lit< tt) (lit< tt))
+asks_fits address (Text f s named) low is = (
   low,
-  own_descriptor 3 (index_due named (length s.texts)) (language_due s.languages named (length s.texts)) 255 (lit< tt)
+  descriptor_fits 3 (index_due named (length s.texts)) (language_due s.languages named (length s.texts)) 255 (lit< tt)
       (byte_at named (length s.texts % length named) is.1) (word_at s.languages (length s.texts / length named) is.2) (lit< tt),
 )
-asks_own address (Configure f) low is = (low, own_value (first_value f.sets) is.value)
-asks_own address (Reported f) low is = tt
-asks_own address (Stopped trouble) low is = tt
+asks_fits address (Configure f) low is = (low, value_fits (first_value f.sets) is.value)
+asks_fits address (Reported f) low is = tt
+asks_fits address (Stopped trouble) low is = tt
 
 -- ---- a transfer keeps its address and its request
 
-either_own : (c : Bool) (x y : Taken) → Own x.transfer → Own y.transfer → Own (if c then x else y).transfer
-either_own true x y p q = p
-either_own false x y p q = q
+either_fits : (c : Bool) (x y : Taken) → IsHostTransfer x.transfer → IsHostTransfer y.transfer → IsHostTransfer (if c then x else y).transfer
+either_fits true x y p q = p
+either_fits false x y p q = q
 
-struck_own : (t : TransferView) → Own t → Own (struck t).transfer
-struck_own t own = either_own (nat_lt t.strikes 2) _ (failed t whys.NoAnswer) own own
+struck_fits : (t : TransferView) → IsHostTransfer t → IsHostTransfer (struck t).transfer
+struck_fits t fits = either_fits (nat_lt t.strikes 2) _ (failed t whys.NoAnswer) fits fits
 
-delayed_own : (t : TransferView) → Own t → Own (delayed t).transfer
-delayed_own t own = either_own (nat_lt t.nak_count t.naks) _ (failed t whys.Busy) own own
+delayed_fits : (t : TransferView) → IsHostTransfer t → IsHostTransfer (delayed t).transfer
+delayed_fits t fits = either_fits (nat_lt t.nak_count t.naks) _ (failed t whys.Busy) fits fits
 
-data_own : (t : TransferView) (toggle : Toggle) (bytes : List ℕ) → Own t → Own (taken_data t toggle bytes).transfer
-data_own t toggle bytes own =
-    either_own (nat_lt t.packet (length bytes)) (failed t whys.TooLong) _ own
-    (either_own (is_same_toggle toggle t.awaited) _ (struck t)
-    (either_own (nat_lt t.request.length (t.kept + length bytes)) (failed t whys.TooLong) (kept_packet t bytes) own own)
-    (struck_own t own))
+data_fits : (t : TransferView) (toggle : Toggle) (bytes : List ℕ) → IsHostTransfer t → IsHostTransfer (taken_data t toggle bytes).transfer
+data_fits t toggle bytes fits =
+    either_fits (nat_lt t.packet (length bytes)) (failed t whys.TooLong) _ fits
+    (either_fits (is_same_toggle toggle t.awaited) _ (struck t)
+    (either_fits (nat_lt t.request.length (t.kept + length bytes)) (failed t whys.TooLong) (kept_packet t bytes) fits fits)
+    (struck_fits t fits))
 
-status_own : (t : TransferView) (toggle : Toggle) (bytes : List ℕ) → Own t → Own (taken_status t toggle bytes).transfer
-status_own t Data0 (byte ∷ bytes) own = own
-status_own t Data1 (byte ∷ bytes) own = own
-status_own t Data0 [] own = struck_own t own
-status_own t Data1 [] own = own
+status_fits : (t : TransferView) (toggle : Toggle) (bytes : List ℕ) → IsHostTransfer t → IsHostTransfer (taken_status t toggle bytes).transfer
+status_fits t Data0 (byte ∷ bytes) fits = fits
+status_fits t Data1 (byte ∷ bytes) fits = fits
+status_fits t Data0 [] fits = struck_fits t fits
+status_fits t Data1 [] fits = fits
 
-taken_own : (t : TransferView) (stage : TransferStage) (reply : Reply) → Own t → Own (taken_at t stage reply).transfer
-taken_own t stages.Setup AckReply own = own
-taken_own t stages.Setup NakReply own = own
-taken_own t stages.Setup StallReply own = own
-taken_own t stages.Setup (DataReply toggle bytes) own = own
-taken_own t stages.Setup NoReply own = struck_own t own
-taken_own t stages.DataIn AckReply own = own
-taken_own t stages.DataIn NakReply own = delayed_own t own
-taken_own t stages.DataIn StallReply own = own
-taken_own t stages.DataIn (DataReply toggle bytes) own = data_own t toggle bytes own
-taken_own t stages.DataIn NoReply own = struck_own t own
-taken_own t stages.DataOut AckReply own = own
-taken_own t stages.DataOut NakReply own = delayed_own t own
-taken_own t stages.DataOut StallReply own = own
-taken_own t stages.DataOut (DataReply toggle bytes) own = own
-taken_own t stages.DataOut NoReply own = struck_own t own
-taken_own t stages.StatusOut AckReply own = own
-taken_own t stages.StatusOut NakReply own = delayed_own t own
-taken_own t stages.StatusOut StallReply own = own
-taken_own t stages.StatusOut (DataReply toggle bytes) own = own
-taken_own t stages.StatusOut NoReply own = struck_own t own
-taken_own t stages.StatusIn AckReply own = own
-taken_own t stages.StatusIn NakReply own = delayed_own t own
-taken_own t stages.StatusIn StallReply own = own
-taken_own t stages.StatusIn (DataReply toggle bytes) own = status_own t toggle bytes own
-taken_own t stages.StatusIn NoReply own = struck_own t own
-taken_own t stages.Completed reply own = own
-taken_own t (stages.Failed why) reply own = own
+taken_fits : (t : TransferView) (stage : TransferStage) (reply : Reply) → IsHostTransfer t → IsHostTransfer (taken_at t stage reply).transfer
+taken_fits t stages.Setup NoReply fits = struck_fits t fits
+taken_fits t stages.DataIn NakReply fits = delayed_fits t fits
+taken_fits t stages.DataIn (DataReply toggle bytes) fits = data_fits t toggle bytes fits
+taken_fits t stages.DataIn NoReply fits = struck_fits t fits
+taken_fits t stages.DataOut NakReply fits = delayed_fits t fits
+taken_fits t stages.DataOut NoReply fits = struck_fits t fits
+taken_fits t stages.StatusOut NakReply fits = delayed_fits t fits
+taken_fits t stages.StatusOut NoReply fits = struck_fits t fits
+taken_fits t stages.StatusIn NakReply fits = delayed_fits t fits
+taken_fits t stages.StatusIn (DataReply toggle bytes) fits = status_fits t toggle bytes fits
+taken_fits t stages.StatusIn NoReply fits = struck_fits t fits
+taken_fits t stage reply fits = fits
 
 -- ---- a host
 
 record IsReading (place : Place) (t : TransferView) (k : Kept) : Type 0 where
   narrow : IsNarrow place
   keeps : KeepsBytes k
-  own : Own t
+  fits : IsHostTransfer t
 
-abbrev AsksOwn : HostPhase → Type 0
-AsksOwn ResetDue = Unit {0}
-AsksOwn (Reading place t k) = IsReading place t k
-AsksOwn (Ended place) = Unit {0}
+abbrev IsHostPhase : HostPhase → Type 0
+IsHostPhase ResetDue = Unit {0}
+IsHostPhase (Reading place t k) = IsReading place t k
+IsHostPhase (Ended place) = Unit {0}
 
-pub record IsOwnHost (v : HostView) : Type 0 where
-  pub address : v.limits.address < 128
-  phase : AsksOwn v.phase
+pub record IsNarrowHost (v : HostView) : Type 0 where
+  address : v.limits.address < 128
+  phase : IsHostPhase v.phase
 
-entered_own : (naks : ℕ) (place : Place) (plan : Plan) → IsNarrow place → OwnPlan plan → AsksOwn (entered naks place plan)
-entered_own naks place (Begin address packet q) is own = record { narrow = is; keeps = nothing_keeps place; own = own }
-entered_own naks place Success is own = tt
-entered_own naks place (GivesUp why) is own = tt
+entered_fits : (naks : ℕ) (place : Place) (plan : Plan) → IsNarrow place → IsHostPlan plan → IsHostPhase (entered naks place plan)
+entered_fits naks place (Begin address packet q) is fits = record { narrow = is; keeps = nothing_keeps place; fits = fits }
+entered_fits naks place Success is fits = tt
+entered_fits naks place (GivesUp why) is fits = tt
 
-enter_own : (limits : LimitView) (place : Place) → limits.address < 128 → IsNarrow place → AsksOwn (enter limits place)
-enter_own limits place low is = entered_own limits.naks place (asks limits.address place) is (asks_own limits.address place low is)
+enter_fits : (limits : LimitView) (place : Place) → limits.address < 128 → IsNarrow place → IsHostPhase (enter limits place)
+enter_fits limits place low is = entered_fits limits.naks place (asks limits.address place) is (asks_fits limits.address place low is)
 
-goes_own : (limits : LimitView) (terms : Terms) (place : Place) (t : TransferView) (k : Kept) (stage : TransferStage) → limits.address < 128 → IsReading place t k
-    → AsksOwn (goes_on limits terms place t k stage)
-goes_own limits terms place t k stages.Completed low is =
-    enter_own limits (spared terms.choice.strings place (completed_leads terms place t k)) low (completed_narrow terms place t k is.narrow is.keeps)
-goes_own limits terms place t k (stages.Failed whys.Stalled) low is =
-    enter_own limits (spared terms.choice.strings place (refused_leads terms place)) low
+goes_fits : (limits : LimitView) (terms : Terms) (place : Place) (t : TransferView) (k : Kept) (stage : TransferStage) → limits.address < 128 → IsReading place t k
+    → IsHostPhase (goes_on limits terms place t k stage)
+goes_fits limits terms place t k stages.Completed low is =
+    enter_fits limits (spared terms.choice.strings place (completed_leads terms place t k)) low (completed_narrow terms place t k is.narrow is.keeps)
+goes_fits limits terms place t k (stages.Failed whys.Stalled) low is =
+    enter_fits limits (spared terms.choice.strings place (refused_leads terms place)) low
     (spared_narrow terms.choice.strings place (refused_leads terms place) is.narrow (refused_narrow terms place is.narrow))
-goes_own limits terms place t k (stages.Failed whys.NoAnswer) low is = tt
-goes_own limits terms place t k (stages.Failed whys.Busy) low is = tt
-goes_own limits terms place t k (stages.Failed whys.TooLong) low is = tt
-goes_own limits terms place t k (stages.Failed whys.Unexpected) low is = tt
-goes_own limits terms place t k (stages.Failed whys.Malformed) low is = tt
-goes_own limits terms place t k (stages.Failed whys.Memory) low is = tt
-goes_own limits terms place t k stages.Setup low is = is
-goes_own limits terms place t k stages.DataIn low is = is
-goes_own limits terms place t k stages.DataOut low is = is
-goes_own limits terms place t k stages.StatusOut low is = is
-goes_own limits terms place t k stages.StatusIn low is = is
+goes_fits limits terms place t k (stages.Failed why) low is = tt
+goes_fits limits terms place t k stage low is = is
 
-received_own : (limits : LimitView) (terms : Terms) (place : Place) (t : TransferView) (old : Kept) (reply : Reply) (new : HostPhase) (before after : List Trouble) → limits.address < 128
-    → IsReading place t old → BringsBytes reply → TakesReceived limits terms place old (taken t reply) new before after → AsksOwn new
-received_own limits terms place t old reply new b a low is bytes (result, k, keeps, inl (lacks, e, same)) = subst AsksOwn (sym e) tt
-received_own limits terms place t old reply new b a low is bytes (result, k, keeps, inr (lacks, e, adds)) =
-    subst AsksOwn (sym e)
-    (goes_own limits terms place (taken t reply).transfer k (taken t reply).transfer.stage low (record {
+received_fits : (limits : LimitView) (terms : Terms) (place : Place) (t : TransferView) (old : Kept) (reply : Reply) (new : HostPhase) (before after : List Trouble) → limits.address < 128
+    → IsReading place t old → BringsBytes reply → TakesReceived limits terms place old (taken t reply) new before after → IsHostPhase new
+received_fits limits terms place t old reply new b a low is bytes (result, k, keeps, inl (lacks, e, same)) = subst IsHostPhase (sym e) tt
+received_fits limits terms place t old reply new b a low is bytes (result, k, keeps, inr (lacks, e, adds)) =
+    subst IsHostPhase (sym e)
+    (goes_fits limits terms place (taken t reply).transfer k (taken t reply).transfer.stage low (record {
       narrow = is.narrow;
       keeps = received_keeps old k (taken t reply).received result is.keeps (receives_bytes t t.stage reply bytes) keeps;
-      own = taken_own t t.stage reply is.own;
+      fits = taken_fits t t.stage reply is.fits;
     }))
 
-either_phase : (c : Bool) (x y : HostPhase) → AsksOwn x → AsksOwn y → AsksOwn (if c then x else y)
+either_phase : (c : Bool) (x y : HostPhase) → IsHostPhase x → IsHostPhase y → IsHostPhase (if c then x else y)
 either_phase true x y p q = p
 either_phase false x y p q = q
 
-settled_own : (attempts resets : ℕ) (phase : HostPhase) → AsksOwn phase → AsksOwn (settled attempts resets phase)
-settled_own attempts resets ResetDue own = tt
-settled_own attempts resets (Reading place t k) own = own
-settled_own attempts resets (Ended First) own = tt
-settled_own attempts resets (Ended (Address first)) own = tt
-settled_own attempts resets (Ended (Device first)) own = tt
-settled_own attempts resets (Ended (Header kind f)) own = tt
-settled_own attempts resets (Ended (Set kind f total)) own = tt
-settled_own attempts resets (Ended (SecondSpeed f)) own = tt
-settled_own attempts resets (Ended (Languages f named)) own = tt
-settled_own attempts resets (Ended (Text f s named)) own = tt
-settled_own attempts resets (Ended (Configure f)) own = tt
-settled_own attempts resets (Ended (Reported f)) own = tt
-settled_own attempts resets (Ended (Stopped trouble)) own =
+settled_fits : (attempts resets : ℕ) (phase : HostPhase) → IsHostPhase phase → IsHostPhase (settled attempts resets phase)
+settled_fits attempts resets (Ended (Stopped trouble)) fits =
     either_phase (blames_bus trouble.why && nat_lt resets attempts) ResetDue (Ended (Stopped trouble)) tt tt
+settled_fits attempts resets phase fits = fits
 
-takes_in : (v w : HostView) (phase : HostPhase) (reply : Reply) → IsOwnHost v → AsksOwn phase → BringsBytes reply → TakesIn v phase reply w → IsOwnHost w
-takes_in v w ResetDue reply is own bytes e = subst IsOwnHost (sym e) is
-takes_in v w (Ended place) reply is own bytes e = subst IsOwnHost (sym e) is
-takes_in v w (Reading place t k) reply is own bytes (phase, received, e) =
-    subst IsOwnHost (sym e) (record {
+takes_in : (v w : HostView) (phase : HostPhase) (reply : Reply) → IsNarrowHost v → IsHostPhase phase → BringsBytes reply → TakesIn v phase reply w → IsNarrowHost w
+takes_in v w ResetDue reply is fits bytes e = subst IsNarrowHost (sym e) is
+takes_in v w (Ended place) reply is fits bytes e = subst IsNarrowHost (sym e) is
+takes_in v w (Reading place t k) reply is fits bytes (phase, received, e) =
+    subst IsNarrowHost (sym e) (record {
       address = is.address;
-      phase = settled_own v.limits.attempts v.resets phase (received_own v.limits (terms_of v) place t k reply phase v.forgiven w.forgiven is.address own bytes received);
+      phase = settled_fits v.limits.attempts v.resets phase (received_fits v.limits (terms_of v) place t k reply phase v.forgiven w.forgiven is.address fits bytes received);
     })
 
-pub takes_own : (v w : HostView) (reply : Reply) → IsOwnHost v → BringsBytes reply → Takes v reply w → IsOwnHost w
-takes_own v w reply is bytes takes = takes_in v w v.phase reply is is.phase bytes takes
+pub takes_fits : (v w : HostView) (reply : Reply) → IsNarrowHost v → BringsBytes reply → Takes v reply w → IsNarrowHost w
+takes_fits v w reply is bytes takes = takes_in v w v.phase reply is is.phase bytes takes
 
-reset_in_own : (v : HostView) (phase : HostPhase) → IsOwnHost v → IsOwnHost (reset_in v phase)
-reset_in_own v ResetDue is = record { address = is.address; phase = enter_own v.limits First is.address tt }
-reset_in_own v (Reading place t k) is = is
-reset_in_own v (Ended place) is = is
+reset_in_fits : (v : HostView) (phase : HostPhase) → IsNarrowHost v → IsNarrowHost (reset_in v phase)
+reset_in_fits v ResetDue is = record { address = is.address; phase = enter_fits v.limits First is.address tt }
+reset_in_fits v (Reading place t k) is = is
+reset_in_fits v (Ended place) is = is
 
-pub reset_own : (v w : HostView) → IsOwnHost v → w ≡ reset v → IsOwnHost w
-reset_own v w is e = subst IsOwnHost (sym e) (reset_in_own v v.phase is)
+pub reset_fits : (v w : HostView) → IsNarrowHost v → w ≡ reset v → IsNarrowHost w
+reset_fits v w is e = subst IsNarrowHost (sym e) (reset_in_fits v v.phase is)
 
-pub new_own : (v : HostView) → v.limits.address < 128 → v.phase ≡ ResetDue → IsOwnHost v
-new_own v low due = record { address = low; phase = subst AsksOwn (sym due) tt }
+pub new_fits : (v : HostView) → v.limits.address < 128 → v.phase ≡ ResetDue → IsNarrowHost v
+new_fits v low due = record { address = low; phase = subst IsHostPhase (sym due) tt }
 
 -- ---- what it sends
 
-abbrev pub IsOwnSent : Sent → Type 0
-IsOwnSent sent = (sent.address < 128) × IsOwnToken sent.token
+abbrev pub IsHostSent : Sent → Type 0
+IsHostSent sent = (sent.address < 128) × IsHostToken sent.token
 
-same_own : (s sent : Sent) → WantsSent s ≡ WantsSent sent → IsOwnSent s → IsOwnSent sent
-same_own s sent e own = let same : s ≡ sent = cc in subst IsOwnSent same own
+same_fits : (s sent : Sent) → WantsSent s ≡ WantsSent sent → IsHostSent s → IsHostSent sent
+same_fits s sent e fits = let same : s ≡ sent = cc in subst IsHostSent same fits
 
 none_due : (n k : ℕ) → AreBytes (take n (drop k []))
 none_due zero zero = tt
@@ -527,19 +450,19 @@ none_due zero (suc k) = tt
 none_due (suc n) zero = tt
 none_due (suc n) (suc k) = tt
 
-token_own : (t : TransferView) (stage : TransferStage) (sent : Sent) → Own t → sends (addressed t.address (token_due t [] stage)) ≡ WantsSent sent → IsOwnSent sent
-token_own t stages.Setup sent own e = same_own _ sent e (own.0, (t.request, refl, own.1))
-token_own t stages.DataIn sent own e = same_own _ sent e (own.0, tt)
-token_own t stages.DataOut sent own e = same_own _ sent e (own.0, none_due t.packet t.kept)
-token_own t stages.StatusOut sent own e = same_own _ sent e (own.0, tt)
-token_own t stages.StatusIn sent own e = same_own _ sent e (own.0, tt)
-token_own t stages.Completed sent own e = absurd (let w : ⊥ = cc in w)
-token_own t (stages.Failed why) sent own e = absurd (let w : ⊥ = cc in w)
+token_fits : (t : TransferView) (stage : TransferStage) (sent : Sent) → IsHostTransfer t → sends (addressed t.address (token_due t [] stage)) ≡ WantsSent sent → IsHostSent sent
+token_fits t stages.Setup sent fits e = same_fits _ sent e (fits.0, (t.request, refl, fits.1))
+token_fits t stages.DataIn sent fits e = same_fits _ sent e (fits.0, tt)
+token_fits t stages.DataOut sent fits e = same_fits _ sent e (fits.0, none_due t.packet t.kept)
+token_fits t stages.StatusOut sent fits e = same_fits _ sent e (fits.0, tt)
+token_fits t stages.StatusIn sent fits e = same_fits _ sent e (fits.0, tt)
+token_fits t stages.Completed sent fits e = absurd (let w : ⊥ = cc in w)
+token_fits t (stages.Failed why) sent fits e = absurd (let w : ⊥ = cc in w)
 
-due_in : (phase : HostPhase) (sent : Sent) → AsksOwn phase → wanted phase ≡ WantsSent sent → IsOwnSent sent
-due_in ResetDue sent own e = absurd (let w : ⊥ = cc in w)
-due_in (Reading place t k) sent own e = token_own t t.stage sent own.own e
-due_in (Ended place) sent own e = absurd (let w : ⊥ = cc in w)
+due_in : (phase : HostPhase) (sent : Sent) → IsHostPhase phase → wanted phase ≡ WantsSent sent → IsHostSent sent
+due_in ResetDue sent fits e = absurd (let w : ⊥ = cc in w)
+due_in (Reading place t k) sent fits e = token_fits t t.stage sent fits.fits e
+due_in (Ended place) sent fits e = absurd (let w : ⊥ = cc in w)
 
-pub due_own : (v : HostView) (sent : Sent) → IsOwnHost v → wanted v.phase ≡ WantsSent sent → IsOwnSent sent
-due_own v sent is e = due_in v.phase sent is.phase e
+pub due_fits : (v : HostView) (sent : Sent) → IsNarrowHost v → wanted v.phase ≡ WantsSent sent → IsHostSent sent
+due_fits v sent is e = due_in v.phase sent is.phase e

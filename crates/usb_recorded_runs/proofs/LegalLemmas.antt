@@ -1,5 +1,5 @@
 -- The packets of an enumeration are legal ones.
-use Rattle.std.proofs.Common.{◌≡◌, ◌<◌, ◌≤◌, ◌-◌, ℕ, Bool, true, false, List, [], ◌∷◌, ◌++◌, append_assoc, length, inl, inr, refl, sym, ap, subst, arith, lit<}
+use Rattle.std.proofs.Common.{◌≡◌, ◌<◌, ◌≤◌, ◌-◌, ℕ, Bool, true, false, List, [], ◌∷◌, ◌++◌, length, inl, inr, refl, sym, subst, arith, lit<}
 use Rattle.std.specs.Prelude.{Option, Some, None}
 use Rattle.std.specs.List.{AllByRecursion}
 use Rattle.usb_wire.specs.Packets.{IsLegal, PacketView}
@@ -22,10 +22,10 @@ use Rattle.usb_bus.specs.Enumerate.{Pair, RunsAt, answered, chosen_pair}
 use Rattle.usb_bus.specs.Exchanges.{is_lost_ack, is_lost_down, is_lost_up}
 use Rattle.usb_bus.specs.Log.{count_before}
 use Rattle.usb_bus.specs.Run.{fate_at}
-use Rattle.usb_bus.specs.Wire.{ack_packet, data_packet, reply_packet, token_packet}
+use Rattle.usb_bus.specs.Wire.{data_packet, reply_packet, token_packet}
 use Rattle.usb_recorded_runs.specs.Exchanges.{Exchange, arriving, exchange_in, exchanges, packets_in, packets_of}
-use Rattle.usb_recorded_runs.proofs.ByteLemmas.{HasBytes, IsOwn, IsOwnToken, answered_bytes, carried_has}
-use Rattle.usb_recorded_runs.proofs.FieldLemmas.{IsOwnHost, IsOwnSent, due_own, new_own, reset_own, takes_own}
+use Rattle.usb_recorded_runs.proofs.ByteLemmas.{HasBytes, IsHostToken, answered_bytes, carried_has}
+use Rattle.usb_recorded_runs.proofs.FieldLemmas.{IsNarrowHost, IsHostSent, due_fits, new_fits, reset_fits, takes_fits}
 use Rattle.usb_recorded_runs.proofs.LengthLemmas.{IsShort, IsShortIn, IsShortToken, short_run}
 use Rattle.usb_recorded_runs.proofs.RunLemmas.{all_append, legal_ack}
 
@@ -33,7 +33,7 @@ use Rattle.usb_recorded_runs.proofs.RunLemmas.{all_append, legal_ack}
 
 -- a transaction of bytes
 record IsOfBytes (x : Exchange) : Type 0 where
-  sent : IsOwnSent x.sent
+  sent : IsHostSent x.sent
   answered : BringsBytes x.answered
 
 arriving_legal : (lost : Bool) (p : Option PacketView) → AllByRecursion IsLegal (arriving false p) → AllByRecursion IsLegal (arriving lost p)
@@ -41,11 +41,11 @@ arriving_legal false p legal = legal
 arriving_legal true None legal = tt
 arriving_legal true (Some packet) legal = tt
 
-data_legal : (size : ℕ) (token : Token) → size ≤ 1024 → IsOwnToken token → IsShortToken size token → AllByRecursion IsLegal (arriving false (data_packet token))
-data_legal size (SetupToken bytes) few (q, same, own) short =
-    (subst (λ b. AreBytes b × (length b ≤ 1024)) (sym same) (own.bytes, omega arith), tt)
-data_legal size InToken few own short = tt
-data_legal size (OutToken toggle bytes) few own short = ((own, omega (arith, few, short)), tt)
+data_legal : (size : ℕ) (token : Token) → size ≤ 1024 → IsHostToken token → IsShortToken size token → AllByRecursion IsLegal (arriving false (data_packet token))
+data_legal size (SetupToken bytes) few (q, same, fits) short =
+    (subst (λ b. AreBytes b × (length b ≤ 1024)) (sym same) (fits.bytes, omega arith), tt)
+data_legal size InToken few fits short = tt
+data_legal size (OutToken toggle bytes) few fits short = ((fits, omega (arith, few, short)), tt)
 
 reply_legal : (size : ℕ) (reply : Reply) → size ≤ 1024 → BringsBytes reply → IsShort size reply → AllByRecursion IsLegal (arriving false (reply_packet reply))
 reply_legal size (DataReply toggle bytes) few are short = ((are, omega (arith, few, short)), tt)
@@ -86,45 +86,45 @@ module _ (f : DescriptorFile) (are : AreBytes (file_bytes f)) (kept_table : IsTa
   made_of d sent fate = record { fate = fate; sent = sent; address = d.state.address; answered = answered f d sent fate }
 
   -- the transactions so far, and both ends after them
-  record IsOwnRun (xs : List Exchange) (last : Pair) : Type 0 where
+  record IsByteRun (xs : List Exchange) (last : Pair) : Type 0 where
     all : AllByRecursion IsOfBytes xs
-    host : IsOwnHost last.host
+    host : IsNarrowHost last.host
     device : HasBytes last.device.stage
 
-  run_own : (new : Pair) (earlier : List Pair) (n : ℕ) (last : Pair) → IsOwnHost new.host → HasBytes new.device.stage
-      → RunsAt (answer f) f.device.packet list new earlier n last → IsOwnRun (exchanges f list earlier n) last
-  run_own new [] n last host device (same, none) = record {
+  run_of_bytes : (new : Pair) (earlier : List Pair) (n : ℕ) (last : Pair) → IsNarrowHost new.host → HasBytes new.device.stage
+      → RunsAt (answer f) f.device.packet list new earlier n last → IsByteRun (exchanges f list earlier n) last
+  run_of_bytes new [] n last host device (same, none) = record {
     all = tt;
-    host = subst (λ y. IsOwnHost y.host) (sym same) host;
+    host = subst (λ y. IsNarrowHost y.host) (sym same) host;
     device = subst (λ y. HasBytes y.device.stage) (sym same) device;
   }
-  run_own new (x ∷ earlier) n last host device (inl (reset, run)) =
-      let before = run_own new earlier n x host device run in
-      subst (λ w. IsOwnRun (exchanges f list earlier (count_before w n) ++ exchange_in f list n x.device w) last) (sym reset.due)
+  run_of_bytes new (x ∷ earlier) n last host device (inl (reset, run)) =
+      let before = run_of_bytes new earlier n x host device run in
+      subst (λ w. IsByteRun (exchanges f list earlier (count_before w n) ++ exchange_in f list n x.device w) last) (sym reset.due)
       (record {
         all = all_append IsOfBytes (exchanges f list earlier n) [] before.all tt;
-        host = reset_own x.host last.host before.host reset.host;
+        host = reset_fits x.host last.host before.host reset.host;
         device = subst (λ d. HasBytes d.stage) (sym reset.device) tt;
       })
-  run_own new (x ∷ earlier) n last host device (inr (m, same, made, run)) =
+  run_of_bytes new (x ∷ earlier) n last host device (inr (m, same, made, run)) =
       let back : n - 1 ≡ m = omega (arith, same) in
-      let before = run_own new earlier m x host device run in
+      let before = run_of_bytes new earlier m x host device run in
       let fate = fate_at list m in
-      let own : IsOwnSent made.sent = due_own x.host made.sent before.host made.due in
-      let said = carried_has f are kept_table x.device made.sent fate own.1 before.device in
+      let fits : IsHostSent made.sent = due_fits x.host made.sent before.host made.due in
+      let carries = carried_has f are kept_table x.device made.sent fate fits.1 before.device in
       let one : IsOfBytes (made_of x.device made.sent fate) =
-      record { sent = own; answered = answered_bytes f are kept_table x.device made.sent fate own.1 before.device } in
-      subst (λ w. IsOwnRun (exchanges f list earlier (count_before w n) ++ exchange_in f list n x.device w) last) (sym made.due)
-      (subst (λ k. IsOwnRun (exchanges f list earlier k ++ made_of x.device made.sent (fate_at list k) ∷ []) last) (sym back)
+      record { sent = fits; answered = answered_bytes f are kept_table x.device made.sent fate fits.1 before.device } in
+      subst (λ w. IsByteRun (exchanges f list earlier (count_before w n) ++ exchange_in f list n x.device w) last) (sym made.due)
+      (subst (λ k. IsByteRun (exchanges f list earlier k ++ made_of x.device made.sent (fate_at list k) ∷ []) last) (sym back)
       (record {
         all = all_append IsOfBytes (exchanges f list earlier m) _ before.all (one, tt);
-        host = takes_own x.host last.host _ before.host said.reply made.host;
-        device = subst (λ d. HasBytes d.stage) (sym made.device) said.stage;
+        host = takes_fits x.host last.host _ before.host carries.reply made.host;
+        device = subst (λ d. HasBytes d.stage) (sym made.device) carries.stage;
       }))
 
   pub enumeration_legal : (limits : LimitView) (speed : Speed) (choice : Choice) (earlier : List Pair) (n : ℕ) (last : Pair) → limits.address < 128
       → RunsAt (answer f) f.device.packet list (chosen_pair limits speed choice) earlier n last → AllByRecursion IsLegal (packets_in (exchanges f list earlier n))
   enumeration_legal limits speed choice earlier n last low run =
       let new = chosen_pair limits speed choice in
-      exchanges_legal f.device.packet (exchanges f list earlier n) (size_few f are) (run_own new earlier n last (new_own new.host low refl) tt run).all
+      exchanges_legal f.device.packet (exchanges f list earlier n) (size_few f are) (run_of_bytes new earlier n last (new_fits new.host low refl) tt run).all
       (short_run f list new earlier n last run)
