@@ -8,7 +8,7 @@ use Rattle.usb_fields.specs.Device.{device_bytes, qualifier_bytes}
 use Rattle.usb_fields.specs.declared.packet.Toggle.{Toggle}
 use Rattle.usb_fields.specs.declared.packet.Toggle.TheVariants.{Data0, Data1}
 use Rattle.usb_fields.specs.declared.setup.Setup.{Setup}
-use Rattle.usb_fields.specs.Packets.{AckReply, DataReply, InToken, NakReply, NoReply, OutToken, Reply, Sent, SetupToken, StallReply, Token, is_same_toggle, packets, packets_within}
+use Rattle.usb_fields.specs.Packets.{AckReply, DataReply, InToken, NoReply, OutToken, Reply, Sent, SetupToken, Token, is_same_toggle, packets, packets_within}
 use Rattle.usb_fields.specs.Setup.{setup_bytes, setup_of}
 use Rattle.usb_fields.specs.Units.{units_bytes}
 use Rattle.usb_fields.proofs.ByteParts.{bytes_back, bytes_front}
@@ -21,8 +21,8 @@ use Rattle.usb_file_data.proofs.Lists.{bytes_before, bytes_behind}
 use Rattle.usb_host.specs.Cost.{BringsBytes}
 use Rattle.usb_device.specs.declared.state.State.{State}
 use Rattle.usb_device.specs.Descriptors.{descriptor, other_set_at, qualifier_of, set_at, string_at}
-use Rattle.usb_device.specs.Requests.{Bytes, Done, Outcome, Refused, Takes, answer}
-use Rattle.usb_device.specs.Step.{DeviceStage, DeviceView, Halted, Idle, Over, Receiving, Sending, Served, StatusIn, StatusOut, Written, acked, acked_stage, acked_state, awaited, begun, completed, gathered, next_stage, replies, served, served_here, served_out, stalls, status_out}
+use Rattle.usb_device.specs.Requests.{Bytes, Outcome, Takes, answer}
+use Rattle.usb_device.specs.Step.{DeviceStage, DeviceView, Halted, Over, Receiving, Sending, Served, StatusIn, StatusOut, Written, acked, acked_stage, acked_state, awaited, begun, completed, gathered, next_stage, replies, served, served_here, served_out, stalls, status_out}
 use Rattle.usb_bus.specs.declared.fate.Fate.{Fate}
 use Rattle.usb_bus.specs.declared.fate.Fate.TheVariants as fates
 use Rattle.usb_bus.specs.Beside.{IsTable}
@@ -81,7 +81,8 @@ text_given [] index are = tt
 text_given (units ∷ texts) zero are = bytes_before (units_bytes units) (each_string_bytes texts) are
 text_given (units ∷ texts) (suc index) are = text_given texts index (bytes_behind (units_bytes units) (each_string_bytes texts) are)
 
-text_at_given : (texts : List (List ℕ)) (place : Option ℕ) → AreBytes (each_string_bytes texts) → Given (option_map units_bytes (option_and_then (slice_get texts) place))
+text_at_given : (texts : List (List ℕ)) (place : Option ℕ) → AreBytes (each_string_bytes texts)
+    → Given (option_map units_bytes (option_and_then (slice_get texts) place))
 text_at_given texts None are = tt
 text_at_given texts (Some index) are = text_given texts index are
 
@@ -143,10 +144,7 @@ either_answers false x y p q = q
 -- what answers no IN has no data
 no_data : (toggle : Toggle) (bytes : List ℕ) (reply : Reply) → Fits (OutToken toggle bytes) reply → BringsBytes reply
 no_data toggle bytes (DataReply other more) fits = absurd fits
-no_data toggle bytes AckReply fits = tt
-no_data toggle bytes NakReply fits = tt
-no_data toggle bytes StallReply fits = tt
-no_data toggle bytes NoReply fits = tt
+no_data toggle bytes reply fits = tt
 
 status_has : (s : State) (stage : DeviceStage) (toggle : Toggle) (bytes : List ℕ) → HasBytes stage → HasBytes (status_out s stage toggle bytes).device.stage
 status_has s stage Data0 bytes has = has
@@ -159,16 +157,15 @@ either_has false x y p q = q
 
 completed_has : (q : Setup) (o : Outcome) (got : List ℕ) → HasBytes (completed q o got)
 completed_has q (Takes judge) got = either_has (judge got) (StatusIn q false) (Halted None) tt tt
-completed_has q Refused got = tt
-completed_has q (Bytes bytes) got = tt
-completed_has q (Done next) got = tt
+completed_has q o got = tt
 
 either_then : (c : Bool) (x y : Served) → HasBytes x.device.stage → HasBytes y.device.stage → HasBytes (if c then x else y).device.stage
 either_then true x y p q = p
 either_then false x y p q = q
 
 module _ (table : State → Setup → Outcome) (cut : ℕ) where
-  out_has : (s : State) (stage : DeviceStage) (toggle : Toggle) (bytes : List ℕ) → HasBytes stage → HasBytes (served_out table cut s stage toggle bytes).device.stage
+  out_has : (s : State) (stage : DeviceStage) (toggle : Toggle) (bytes : List ℕ) → HasBytes stage
+      → HasBytes (served_out table cut s stage toggle bytes).device.stage
   out_has s (Sending q b k) toggle bytes has = status_has s (Sending q b k) toggle bytes has
   out_has s (StatusOut q) toggle bytes has = status_has s (StatusOut q) toggle bytes tt
   out_has s Over toggle bytes has = status_has s Over toggle bytes tt
@@ -176,11 +173,12 @@ module _ (table : State → Setup → Outcome) (cut : ℕ) where
   out_has s (Receiving q got) toggle bytes has =
       either_then (not (is_same_toggle toggle (awaited cut (length got)))) (replies AckReply s (Receiving q got) false) _ tt
       (either_then (length bytes == min cut (q.length - length got)) (replies AckReply s (gathered q (table s q) (got ++ bytes)) false) (stalls s)
-      (either_has (length (got ++ bytes) == q.length) (completed q (table s q) (got ++ bytes)) (Receiving q (got ++ bytes)) (completed_has q (table s q) (got ++ bytes)) tt) tt)
+      (either_has (length (got ++ bytes) == q.length) (completed q (table s q) (got ++ bytes)) (Receiving q (got ++ bytes))
+      (completed_has q (table s q) (got ++ bytes)) tt)
+      tt)
   out_has s (Written q got) toggle bytes has =
       either_then (is_same_toggle toggle (awaited cut (length got))) (stalls s) (replies AckReply s (Written q got) false) tt tt
-  out_has s Idle toggle bytes has = tt
-  out_has s (Halted refused) toggle bytes has = tt
+  out_has s stage toggle bytes has = tt
 
   -- after the ACK of a packet
   next_has : (q : Setup) (bytes : List ℕ) (k : ℕ) (left : List (List ℕ)) → AreBytes bytes → HasBytes (next_stage q bytes k left)
@@ -190,17 +188,13 @@ module _ (table : State → Setup → Outcome) (cut : ℕ) where
   acked_has : (stage : DeviceStage) → HasBytes stage → HasBytes (acked_stage table cut stage)
   acked_has (Sending q bytes k) has = next_has q bytes k (drop (suc k) (packets bytes cut q.length)) has
   acked_has (StatusIn q carried) has = tt
-  acked_has Idle has = tt
-  acked_has (Halted refused) has = tt
-  acked_has (StatusOut q) has = tt
-  acked_has Over has = tt
-  acked_has (Receiving q got) has = tt
-  acked_has (Written q got) has = tt
+  acked_has stage has = has
 
   device_acked : (d : DeviceView) → HasBytes d.stage → HasBytes (acked table cut d).stage
   device_acked d has = of d.pending
     where
-      of : (waits : Bool) → HasBytes (if waits then (record { state = acked_state table cut d.state d.stage; stage = acked_stage table cut d.stage; pending = false }) else d).stage
+      of : (waits : Bool)
+          → HasBytes (if waits then (record { state = acked_state table cut d.state d.stage; stage = acked_stage table cut d.stage; pending = false }) else d).stage
       of true = acked_has d.stage has
       of false = has
 
@@ -211,20 +205,20 @@ module _ (table : State → Setup → Outcome) (cut : ℕ) where
       of : IsNext table cut old new.stage toggle bytes ⊎ IsEmpty table cut old new.stage bytes → AreBytes bytes
       of (inl next) =
           (subst (AllByRecursion AreBytes) next.due
-          (all_drop AreBytes next.acked_ones (packets next.all cut next.request.length) (packets_are next.all cut next.request.length (subst HasBytes next.was has)))).0
+          (all_drop AreBytes next.acked_ones (packets next.all cut next.request.length)
+          (packets_are next.all cut next.request.length (subst HasBytes next.was has)))).0
       of (inr empty) = subst AreBytes (sym empty.none) tt
-  sent_bytes old new AckReply has sent = tt
-  sent_bytes old new NakReply has sent = tt
-  sent_bytes old new StallReply has sent = tt
-  sent_bytes old new NoReply has sent = tt
+  sent_bytes old new reply has sent = tt
 
-  in_answers : (d : DeviceView) (address : ℕ) (ready : Bool) → HasBytes d.stage → AnswersBytes (served table cut d (record { address = address; token = InToken }) ready)
+  in_answers : (d : DeviceView) (address : ℕ) (ready : Bool) → HasBytes d.stage
+      → AnswersBytes (served table cut d (record { address = address; token = InToken }) ready)
   in_answers d address ready has =
       let r = served table cut d (record { address = address; token = InToken }) ready in
       let sends : Sends table cut d.stage r = served_sends table cut d address ready in
       record { reply = sent_bytes d.stage r.device r.reply has sends.sent; stage = stays_has d.stage r.device.stage sends.stays has }
 
-  out_answers : (d : DeviceView) (toggle : Toggle) (bytes : List ℕ) (ready : Bool) → HasBytes d.stage → AnswersBytes (served_here table cut d (OutToken toggle bytes) ready)
+  out_answers : (d : DeviceView) (toggle : Toggle) (bytes : List ℕ) (ready : Bool) → HasBytes d.stage
+      → AnswersBytes (served_here table cut d (OutToken toggle bytes) ready)
   out_answers d toggle bytes ready has =
       let r = served_here table cut d (OutToken toggle bytes) ready in
       record { reply = no_data toggle bytes r.reply (here_fits table cut d (OutToken toggle bytes) ready); stage = of ready }
@@ -239,7 +233,8 @@ module _ (f : DescriptorFile) (are : AreBytes (file_bytes f)) (kept_table : IsTa
   abbrev cut : ℕ
   cut = f.device.packet
 
-  answer_has : (s : State) (q : Setup) (o : Outcome) → IsHostRequest q → answer f s (setup_of (setup_bytes q)) ≡ o → HasBytes (begun (setup_of (setup_bytes q)) o)
+  answer_has : (s : State) (q : Setup) (o : Outcome) → IsHostRequest q → answer f s (setup_of (setup_bytes q)) ≡ o
+      → HasBytes (begun (setup_of (setup_bytes q)) o)
   answer_has s q (Bytes bytes) fits e = of fits.asks
     where
       r : Setup
@@ -252,19 +247,20 @@ module _ (f : DescriptorFile) (are : AreBytes (file_bytes f)) (kept_table : IsTa
       of (inr none) =
           let some : 0 < r.length = ((kept_table.answering s r).bytes bytes e).0 in
           absurd (let w : ⊥ = omega (arith, some, none) in w)
-  answer_has s q (Done next) fits e = tt
-  answer_has s q Refused fits e = tt
-  answer_has s q (Takes judge) fits e = tt
+  answer_has s q o fits e = tt
 
-  setup_answers : (d : DeviceView) (bytes : List ℕ) (ready : Bool) → IsHostToken (SetupToken bytes) → AnswersBytes (served_here (answer f) cut d (SetupToken bytes) ready)
+  setup_answers : (d : DeviceView) (bytes : List ℕ) (ready : Bool) → IsHostToken (SetupToken bytes)
+      → AnswersBytes (served_here (answer f) cut d (SetupToken bytes) ready)
   setup_answers d bytes ready (q, same, fits) =
       subst (λ b. AnswersBytes (served_here (answer f) cut d (SetupToken b) ready)) (sym same)
       (record { reply = tt; stage = answer_has d.state q (answer f d.state (setup_of (setup_bytes q))) fits refl })
 
-  served_answers : (d : DeviceView) (sent : Sent) (ready : Bool) → IsHostToken sent.token → HasBytes d.stage → AnswersBytes (served (answer f) cut d sent ready)
+  served_answers : (d : DeviceView) (sent : Sent) (ready : Bool) → IsHostToken sent.token → HasBytes d.stage
+      → AnswersBytes (served (answer f) cut d sent ready)
   served_answers d sent ready fits has = of sent.token fits
     where
-      at : (token : Token) → AnswersBytes (served_here (answer f) cut d token ready) → AnswersBytes (served (answer f) cut d (record { address = sent.address; token = token }) ready)
+      at : (token : Token) → AnswersBytes (served_here (answer f) cut d token ready)
+          → AnswersBytes (served (answer f) cut d (record { address = sent.address; token = token }) ready)
       at token here = either_answers (sent.address == d.state.address) _ (replies NoReply d.state d.stage false) here (record { reply = tt; stage = has })
 
       of : (token : Token) → IsHostToken token → AnswersBytes (served (answer f) cut d (record { address = sent.address; token = token }) ready)
@@ -289,9 +285,11 @@ module _ (f : DescriptorFile) (are : AreBytes (file_bytes f)) (kept_table : IsTa
 
   pub carried_has : (d : DeviceView) (sent : Sent) (fate : Fate) → IsHostToken sent.token → HasBytes d.stage → AnswersBytes (carried (answer f) cut d sent fate)
   carried_has d sent fates.Pass fits has =
-      let answers = served_answers d sent true fits has in record { reply = answers.reply; stage = acknowledged_has (served (answer f) cut d sent true) answers.stage }
+      let answers = served_answers d sent true fits has in
+      record { reply = answers.reply; stage = acknowledged_has (served (answer f) cut d sent true) answers.stage }
   carried_has d sent fates.Busy fits has =
-      let answers = served_answers d sent false fits has in record { reply = answers.reply; stage = acknowledged_has (served (answer f) cut d sent false) answers.stage }
+      let answers = served_answers d sent false fits has in
+      record { reply = answers.reply; stage = acknowledged_has (served (answer f) cut d sent false) answers.stage }
   carried_has d sent fates.LostUp fits has = record { reply = tt; stage = (served_answers d sent true fits has).stage }
   carried_has d sent fates.LostAck fits has = served_answers d sent true fits has
   carried_has d sent fates.LostDown fits has = record { reply = tt; stage = has }

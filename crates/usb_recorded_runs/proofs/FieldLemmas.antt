@@ -8,7 +8,7 @@ use Rattle.usb_fields.specs.declared.device.DeviceDescriptor.{DeviceDescriptor}
 use Rattle.usb_fields.specs.declared.packet.Toggle.{Toggle}
 use Rattle.usb_fields.specs.declared.packet.Toggle.TheVariants.{Data0, Data1}
 use Rattle.usb_fields.specs.declared.qualifier.Qualifier.{Qualifier}
-use Rattle.usb_fields.specs.Packets.{AckReply, DataReply, NakReply, NoReply, Reply, Sent, StallReply, is_same_toggle}
+use Rattle.usb_fields.specs.Packets.{DataReply, NakReply, NoReply, Reply, Sent, is_same_toggle}
 use Rattle.usb_fields.specs.Units.{units_bytes}
 use Rattle.usb_fields.proofs.ByteParts.{bytes_append}
 use Rattle.usb_set.specs.declared.decoder.Progress.{Progress}
@@ -67,7 +67,11 @@ units_are b units are e = let all : AreBytes (units_bytes units) = subst AreByte
 
 range_small : (first count : ℕ) → first + count ≤ 256 → AreBytes (range_with_len first count)
 range_small first zero few = tt
-range_small first (suc count) few = (omega (arith, few), let next : suc first ≡ first + 1 = omega arith in subst (λ n. AreBytes (range_with_len n count)) next (range_small (suc first) count (omega (arith, few))))
+range_small first (suc count) few = (
+  omega (arith, few),
+  let next : suc first ≡ first + 1 = omega arith in
+      subst (λ n. AreBytes (range_with_len n count)) next (range_small (suc first) count (omega (arith, few))),
+)
 
 filtered : (test : ℕ → Bool) (xs : List ℕ) → AreBytes xs → AreBytes (filter test xs)
 filtered test [] are = tt
@@ -116,11 +120,13 @@ texts_narrow f s named widths are words =
 
 strings_narrow : (terms : Terms) (f : DescriptorFile) → HasWidths f → IsNarrow (strings_due terms f)
 strings_narrow terms f widths =
-    either_narrow (not (is_asked terms.choice.strings) || (length (named_indices f) == 0)) (Configure f) (Languages f (named_indices f)) (λ c. widths) (widths, named_small f)
+    either_narrow (not (is_asked terms.choice.strings) || (length (named_indices f) == 0)) (Configure f) (Languages f (named_indices f))
+    (λ c. widths) (widths, named_small f)
 
 after_narrow : (terms : Terms) (kind : SetKind) (f : DescriptorFile) → HasWidths f → IsNarrow (after_sets terms kind f)
 after_narrow terms kinds.Configuration f widths =
-    either_narrow (terms.choice.other_speed && may_have_second terms.speed f.device) (SecondSpeed f) (strings_due terms f) (λ c. widths) (strings_narrow terms f widths)
+    either_narrow (terms.choice.other_speed && may_have_second terms.speed f.device) (SecondSpeed f) (strings_due terms f)
+    (λ c. widths) (strings_narrow terms f widths)
 after_narrow terms kinds.OtherSpeed f widths = strings_narrow terms f widths
 
 few_sets : (count declared : ℕ) → declared < 256 → nat_lt count declared ≡ true → count < 256
@@ -131,7 +137,8 @@ sets_narrow terms kind f widths =
     either_narrow (nat_lt (length (sets_of kind f)) (declared_sets kind f)) (Header kind f) (after_sets terms kind f)
     (λ c. (widths, few_sets (length (sets_of kind f)) (declared_sets kind f) (declared_small kind f widths) c)) (after_narrow terms kind f widths)
 
-device_narrow_at : (terms : Terms) (first b : List ℕ) (o : Option DeviceDescriptor) → AreBytes b → device_of b ≡ o → IsNarrow (device_leads terms (Device first) first b o)
+device_narrow_at : (terms : Terms) (first b : List ℕ) (o : Option DeviceDescriptor) → AreBytes b → device_of b ≡ o
+    → IsNarrow (device_leads terms (Device first) first b o)
 device_narrow_at terms first b None are e = tt
 device_narrow_at terms first b (Some d) are e =
     either_narrow (same_bytes (take 8 b) first && not (d.configurations == 0)) (sets_due terms kinds.Configuration read) _
@@ -162,13 +169,15 @@ first_small (d ∷ sets) c small one = small
 
 with_set_has : (kind : SetKind) (c : Configuration) (f : DescriptorFile) → HasWidths f → c.value < 256 → HasWidths (with_set kind c f)
 with_set_has kinds.Configuration c f widths one = record { sets = widths.sets; others = widths.others; value = first_small f.sets c widths.value one }
-with_set_has kinds.OtherSpeed c f widths one = record { sets = widths.sets; others = subst (λ n. n < 256) (sym (other_same c f.other)) widths.others; value = widths.value }
+with_set_has kinds.OtherSpeed c f widths one =
+    record { sets = widths.sets; others = subst (λ n. n < 256) (sym (other_same c f.other)) widths.others; value = widths.value }
 
 set_narrow : (terms : Terms) (kind : SetKind) (f : DescriptorFile) (total count : ℕ) (o : Option Configuration) → HasWidths f
     → ((c : Configuration) → o ≡ Some c → c.value < 256) → IsNarrow (set_leads terms (Set kind f total) kind f total count o)
 set_narrow terms kind f total count None widths each = tt
 set_narrow terms kind f total count (Some c) widths each =
-    either_narrow ((count == total) && (type_number c.kind == type_number kind) && not (is_first_zero kind (sets_of kind f) c)) (sets_due terms kind (with_set kind c f)) _
+    either_narrow ((count == total) && (type_number c.kind == type_number kind) && not (is_first_zero kind (sets_of kind f) c))
+    (sets_due terms kind (with_set kind c f)) _
     (λ t. sets_narrow terms kind (with_set kind c f) (with_set_has kind c f widths (each c refl))) tt
 
 qualifier_narrow_at : (terms : Terms) (f : DescriptorFile) (b : List ℕ) (o : Option Qualifier) → HasWidths f → AreBytes b → qualifier_of b ≡ o
@@ -181,7 +190,8 @@ languages_narrow : (f : DescriptorFile) (named b : List ℕ) (o : Option (List �
     → IsNarrow (languages_lead (Languages f named) f named o)
 languages_narrow f named b None widths small are e = tt
 languages_narrow f named b (Some []) widths small are e = tt
-languages_narrow f named b (Some (l ∷ ls)) widths small are e = texts_narrow f (record { languages = l ∷ ls; texts = [] }) named widths small (units_are b (l ∷ ls) are e)
+languages_narrow f named b (Some (l ∷ ls)) widths small are e =
+    texts_narrow f (record { languages = l ∷ ls; texts = [] }) named widths small (units_are b (l ∷ ls) are e)
 
 text_narrow : (f : DescriptorFile) (s : Strings) (named : List ℕ) (o : Option (List ℕ)) → HasWidths f → AreBytes named → AreWords s.languages
     → IsNarrow (text_leads (Text f s named) f s named o)
@@ -213,7 +223,8 @@ nothing_keeps place = tt
 value_small : (b : List ℕ) (c : Configuration) (n : ℕ) → Begins b c n → c.value < 256
 value_small b c n begins = (subst AreBytes begins.layout.bytes begins.layout.fits).1.1.1.1.1.0
 
-set_keeps : (d e : Decoding) (over now : Bool) (piece : List ℕ) (result : Result Progress SetFault) → KeepsBytes (kept.Set d over) → Answers d piece result e → KeepsBytes (kept.Set e now)
+set_keeps : (d e : Decoding) (over now : Bool) (piece : List ℕ) (result : Result Progress SetFault) → KeepsBytes (kept.Set d over)
+    → Answers d piece result e → KeepsBytes (kept.Set e now)
 set_keeps (gathers s) e over now piece (Ok More) keeps answers = subst (λ d. KeepsBytes (kept.Set d now)) (sym answers.1) tt
 set_keeps (gathers s) e over now piece (Ok (Done used)) keeps (c, begins, within, is) =
     subst (λ d. KeepsBytes (kept.Set d now)) (sym is) (value_small (s ++ piece) c (length s + used) begins)
@@ -221,7 +232,8 @@ set_keeps (gathers s) e over now piece (Err fault) keeps answers = subst (λ d. 
 set_keeps (has c) e over now piece result keeps answers = subst (λ d. KeepsBytes (kept.Set d now)) (sym answers.1) keeps
 set_keeps (refused fault) e over now piece result keeps answers = subst (λ d. KeepsBytes (kept.Set d now)) (sym answers.1) tt
 
-received_keeps : (old new : Kept) (received : HeardView) (result : Result Progress SetFault) → KeepsBytes old → HasBytesOf received → KeepsReceived old received result new → KeepsBytes new
+received_keeps : (old new : Kept) (received : HeardView) (result : Result Progress SetFault) → KeepsBytes old → HasBytesOf received
+    → KeepsReceived old received result new → KeepsBytes new
 received_keeps old new Goes result keeps are same = subst KeepsBytes (sym same) keeps
 received_keeps old new Completes result keeps are same = subst KeepsBytes (sym same) keeps
 received_keeps old new (Fails why) result keeps are same = subst KeepsBytes (sym same) keeps
@@ -261,7 +273,8 @@ completed_narrow : (terms : Terms) (place : Place) (t : TransferView) (k : Kept)
     → IsNarrow (spared terms.choice.strings place (completed_leads terms place t k))
 completed_narrow terms place t k is keeps =
     spared_narrow terms.choice.strings place (completed_leads terms place t k) is
-    (either_narrow (t.request.length == 0) (done_leads place) (read_leads terms place t.kept k) (λ c. done_narrow place) (read_narrow terms place t.kept k is keeps))
+    (either_narrow (t.request.length == 0) (done_leads place) (read_leads terms place t.kept k)
+    (λ c. done_narrow place) (read_narrow terms place t.kept k is keeps))
 
 refused_narrow : (terms : Terms) (place : Place) → IsNarrow place → IsNarrow (refused_leads terms place)
 refused_narrow terms (SecondSpeed f) is = strings_narrow terms f is
@@ -269,7 +282,8 @@ refused_narrow terms place is = tt
 
 -- ---- requests
 
-descriptor_fits : (kind index language size : ℕ) → kind < 256 → index < 256 → language < 65536 → size < 65536 → IsHostRequest (get_descriptor kind index language size)
+descriptor_fits : (kind index language size : ℕ) → kind < 256 → index < 256 → language < 65536 → size < 65536
+    → IsHostRequest (get_descriptor kind index language size)
 descriptor_fits kind index language size k i l s = record {
   bytes = (
     lit< tt,
@@ -383,8 +397,8 @@ entered_fits naks place (GivesUp why) is fits = tt
 enter_fits : (limits : LimitView) (place : Place) → limits.address < 128 → IsNarrow place → IsHostPhase (enter limits place)
 enter_fits limits place low is = entered_fits limits.naks place (asks limits.address place) is (asks_fits limits.address place low is)
 
-goes_fits : (limits : LimitView) (terms : Terms) (place : Place) (t : TransferView) (k : Kept) (stage : TransferStage) → limits.address < 128 → IsReading place t k
-    → IsHostPhase (goes_on limits terms place t k stage)
+goes_fits : (limits : LimitView) (terms : Terms) (place : Place) (t : TransferView) (k : Kept) (stage : TransferStage) → limits.address < 128
+    → IsReading place t k → IsHostPhase (goes_on limits terms place t k stage)
 goes_fits limits terms place t k stages.Completed low is =
     enter_fits limits (spared terms.choice.strings place (completed_leads terms place t k)) low (completed_narrow terms place t k is.narrow is.keeps)
 goes_fits limits terms place t k (stages.Failed whys.Stalled) low is =
@@ -393,8 +407,8 @@ goes_fits limits terms place t k (stages.Failed whys.Stalled) low is =
 goes_fits limits terms place t k (stages.Failed why) low is = tt
 goes_fits limits terms place t k stage low is = is
 
-received_fits : (limits : LimitView) (terms : Terms) (place : Place) (t : TransferView) (old : Kept) (reply : Reply) (new : HostPhase) (before after : List Trouble) → limits.address < 128
-    → IsReading place t old → BringsBytes reply → TakesReceived limits terms place old (taken t reply) new before after → IsHostPhase new
+received_fits : (limits : LimitView) (terms : Terms) (place : Place) (t : TransferView) (old : Kept) (reply : Reply) (new : HostPhase)
+    (before after : List Trouble) → limits.address < 128 → IsReading place t old → BringsBytes reply → TakesReceived limits terms place old (taken t reply) new before after → IsHostPhase new
 received_fits limits terms place t old reply new b a low is bytes (result, k, keeps, inl (lacks, e, same)) = subst IsHostPhase (sym e) tt
 received_fits limits terms place t old reply new b a low is bytes (result, k, keeps, inr (lacks, e, adds)) =
     subst IsHostPhase (sym e)
@@ -413,13 +427,15 @@ settled_fits attempts resets (Ended (Stopped trouble)) fits =
     either_phase (blames_bus trouble.why && nat_lt resets attempts) ResetDue (Ended (Stopped trouble)) tt tt
 settled_fits attempts resets phase fits = fits
 
-takes_in : (v w : HostView) (phase : HostPhase) (reply : Reply) → IsNarrowHost v → IsHostPhase phase → BringsBytes reply → TakesIn v phase reply w → IsNarrowHost w
+takes_in : (v w : HostView) (phase : HostPhase) (reply : Reply) → IsNarrowHost v → IsHostPhase phase → BringsBytes reply
+    → TakesIn v phase reply w → IsNarrowHost w
 takes_in v w ResetDue reply is fits bytes e = subst IsNarrowHost (sym e) is
 takes_in v w (Ended place) reply is fits bytes e = subst IsNarrowHost (sym e) is
 takes_in v w (Reading place t k) reply is fits bytes (phase, received, e) =
     subst IsNarrowHost (sym e) (record {
       address = is.address;
-      phase = settled_fits v.limits.attempts v.resets phase (received_fits v.limits (terms_of v) place t k reply phase v.forgiven w.forgiven is.address fits bytes received);
+      phase = settled_fits v.limits.attempts v.resets phase
+          (received_fits v.limits (terms_of v) place t k reply phase v.forgiven w.forgiven is.address fits bytes received);
     })
 
 pub takes_fits : (v w : HostView) (reply : Reply) → IsNarrowHost v → BringsBytes reply → Takes v reply w → IsNarrowHost w
@@ -450,7 +466,8 @@ none_due zero (suc k) = tt
 none_due (suc n) zero = tt
 none_due (suc n) (suc k) = tt
 
-token_fits : (t : TransferView) (stage : TransferStage) (sent : Sent) → IsHostTransfer t → sends (addressed t.address (token_due t [] stage)) ≡ WantsSent sent → IsHostSent sent
+token_fits : (t : TransferView) (stage : TransferStage) (sent : Sent) → IsHostTransfer t → sends (addressed t.address (token_due t [] stage)) ≡ WantsSent sent
+    → IsHostSent sent
 token_fits t stages.Setup sent fits e = same_fits _ sent e (fits.0, (t.request, refl, fits.1))
 token_fits t stages.DataIn sent fits e = same_fits _ sent e (fits.0, tt)
 token_fits t stages.DataOut sent fits e = same_fits _ sent e (fits.0, none_due t.packet t.kept)

@@ -25,7 +25,7 @@ use Rattle.usb_bus.specs.Run.{fate_at}
 use Rattle.usb_bus.specs.Wire.{data_packet, reply_packet, token_packet}
 use Rattle.usb_recorded_runs.specs.Exchanges.{Exchange, arriving, exchange_in, exchanges, packets_in, packets_of}
 use Rattle.usb_recorded_runs.proofs.ByteLemmas.{HasBytes, IsHostToken, answered_bytes, carried_has}
-use Rattle.usb_recorded_runs.proofs.FieldLemmas.{IsNarrowHost, IsHostSent, due_fits, new_fits, reset_fits, takes_fits}
+use Rattle.usb_recorded_runs.proofs.FieldLemmas.{IsHostSent, IsNarrowHost, due_fits, new_fits, reset_fits, takes_fits}
 use Rattle.usb_recorded_runs.proofs.LengthLemmas.{IsShort, IsShortIn, IsShortToken, short_run}
 use Rattle.usb_recorded_runs.proofs.RunLemmas.{all_append, legal_ack}
 
@@ -41,7 +41,8 @@ arriving_legal false p legal = legal
 arriving_legal true None legal = tt
 arriving_legal true (Some packet) legal = tt
 
-data_legal : (size : ℕ) (token : Token) → size ≤ 1024 → IsHostToken token → IsShortToken size token → AllByRecursion IsLegal (arriving false (data_packet token))
+data_legal : (size : ℕ) (token : Token) → size ≤ 1024 → IsHostToken token → IsShortToken size token
+    → AllByRecursion IsLegal (arriving false (data_packet token))
 data_legal size (SetupToken bytes) few (q, same, fits) short =
     (subst (λ b. AreBytes b × (length b ≤ 1024)) (sym same) (fits.bytes, omega arith), tt)
 data_legal size InToken few fits short = tt
@@ -64,7 +65,8 @@ exchange_legal size x few are short =
     (arriving_legal (is_lost_up x.fate) (reply_packet x.answered) (reply_legal size x.answered few are.answered short.reply))
     (legal_ack (is_lost_ack x.fate) (brought x.fate x.answered))))
 
-exchanges_legal : (size : ℕ) (xs : List Exchange) → size ≤ 1024 → AllByRecursion IsOfBytes xs → AllByRecursion (IsShortIn size) xs → AllByRecursion IsLegal (packets_in xs)
+exchanges_legal : (size : ℕ) (xs : List Exchange) → size ≤ 1024 → AllByRecursion IsOfBytes xs → AllByRecursion (IsShortIn size) xs
+    → AllByRecursion IsLegal (packets_in xs)
 exchanges_legal size [] few are short = tt
 exchanges_legal size (x ∷ xs) few are short =
     all_append IsLegal (packets_of x) (packets_in xs) (exchange_legal size x few are.0 short.0) (exchanges_legal size xs few are.1 short.1)
@@ -123,7 +125,8 @@ module _ (f : DescriptorFile) (are : AreBytes (file_bytes f)) (kept_table : IsTa
       }))
 
   pub enumeration_legal : (limits : LimitView) (speed : Speed) (choice : Choice) (earlier : List Pair) (n : ℕ) (last : Pair) → limits.address < 128
-      → RunsAt (answer f) f.device.packet list (chosen_pair limits speed choice) earlier n last → AllByRecursion IsLegal (packets_in (exchanges f list earlier n))
+      → RunsAt (answer f) f.device.packet list (chosen_pair limits speed choice) earlier n last
+      → AllByRecursion IsLegal (packets_in (exchanges f list earlier n))
   enumeration_legal limits speed choice earlier n last low run =
       let new = chosen_pair limits speed choice in
       exchanges_legal f.device.packet (exchanges f list earlier n) (size_few f are) (run_of_bytes new earlier n last (new_fits new.host low refl) tt run).all

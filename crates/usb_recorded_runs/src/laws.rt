@@ -8,8 +8,8 @@ pub fn a_run_of_bytes_is_a_run()
     ensures { RunsOfBytesAreRuns }
 {}
 
-/// An enumeration of a new device is such a run, where its descriptors are bytes: the host sends requests whose fields have their
-/// widths, to addresses of 7 bits, and the device answers with bytes, in packets no longer than 255 bytes.
+/// An enumeration of a new device is such a run, where its descriptors are bytes. The host sends requests whose fields are within
+/// their widths, to addresses of 7 bits, and the device answers with bytes, in packets that are no longer than bMaxPacketSize0.
 pub fn an_enumeration_is_a_run()
     ensures { EnumerationsAreRuns }
 {
