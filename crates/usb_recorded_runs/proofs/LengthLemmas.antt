@@ -31,7 +31,7 @@ use Rattle.usb_recorded_runs.proofs.RunLemmas.{all_append, here_fits}
 
 -- ---- packets of a data stage
 
-all_drop : (P : List ℕ → Type 0) (k : ℕ) (ps : List (List ℕ)) → AllByRecursion P ps → AllByRecursion P (drop k ps)
+pub all_drop : (P : List ℕ → Type 0) (k : ℕ) (ps : List (List ℕ)) → AllByRecursion P ps → AllByRecursion P (drop k ps)
 all_drop P zero ps each = each
 all_drop P (suc k) [] each = tt
 all_drop P (suc k) (p ∷ ps) each = all_drop P k ps each.1

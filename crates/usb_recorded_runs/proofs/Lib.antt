@@ -18,3 +18,6 @@ pub mod AnswerLemmas
 pub mod TransferLemmas
 pub mod PlaceLemmas
 pub mod EndedLemmas
+pub mod ByteLemmas
+pub mod FieldLemmas
+pub mod LegalLemmas

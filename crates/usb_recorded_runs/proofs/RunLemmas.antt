@@ -168,7 +168,7 @@ legal_arriving lost bits None received is = tt
 legal_arriving true bits (Some p) received is = tt
 legal_arriving false bits (Some p) received is = (is.0, tt)
 
-legal_ack : (lost : Bool) (reply : Reply) → AllByRecursion IsLegal (arriving lost (ack_packet reply))
+pub legal_ack : (lost : Bool) (reply : Reply) → AllByRecursion IsLegal (arriving lost (ack_packet reply))
 legal_ack true (DataReply toggle bytes) = tt
 legal_ack false (DataReply toggle bytes) = (tt, tt)
 legal_ack lost reply = tt

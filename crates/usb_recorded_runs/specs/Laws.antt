@@ -1,8 +1,10 @@
 -- What holds of a recording of a host and a device that enumerate over a bus that loses packets.
-use Rattle.std.specs.Prelude.{◌≡◌, ◌⊎◌, ℕ, true, false, List, [], Option, None}
+use Rattle.std.specs.Prelude.{◌≡◌, ◌⊎◌, ◌<◌, ℕ, true, false, List, [], Option, None}
 use Rattle.std.specs.List.{AllByRecursion}
 use Rattle.usb_wire.specs.Packets.{IsLegal}
 use Rattle.usb_file_data.specs.declared.file.DescriptorFile.{DescriptorFile}
+use Rattle.usb_file_data.specs.File.{file_bytes}
+use Rattle.usb_fields.specs.Bytes.{AreBytes}
 use Rattle.usb_fields.specs.declared.packet.Speed.{Speed}
 use Rattle.usb_host.specs.declared.choice.Choice.{Choice}
 use Rattle.usb_host.specs.Limits.{LimitView}
@@ -37,6 +39,13 @@ abbrev pub RunsOfBytesAreRuns : Type 0
 RunsOfBytesAreRuns =
     (f : DescriptorFile) (fates : List Fate) (new : Pair) (earlier : List Pair) (n : ℕ) (last : Pair) →
     DamagedRunsAt (answer f) f.device.packet fates [] new earlier n last → IsRun f fates new earlier n last
+
+-- And so is every enumeration of a new device whose descriptors are bytes, by a host that gives it an address of 7 bits (8.3.2.1).
+abbrev pub EnumerationsAreRuns : Type 0
+EnumerationsAreRuns =
+    (f : DescriptorFile) (fates : List Fate) (limits : LimitView) (speed : Speed) (choice : Choice) (earlier : List Pair) (n : ℕ) (last : Pair) →
+    AreBytes (file_bytes f) → limits.address < 128 → Runs f fates (chosen_pair limits speed choice) earlier n last →
+    IsRun f fates (chosen_pair limits speed choice) earlier n last
 
 -- The packets that arrive, read one by one as the program reads frames, are the transactions of the run, each with what of it arrives.
 abbrev pub RecordedRunsAreRead : Type 0

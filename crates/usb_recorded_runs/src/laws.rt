@@ -1,5 +1,5 @@
 //! The functions of these laws do nothing: their contracts are the laws.
-ghost use Rattle.usb_recorded_runs.specs.Laws.{CapturedRunsAreRead, DescriptorsHaveTypes, HandshakesAreLost, NoDescriptorChanges, NoLongPacketIsFound, NoPacketIsDamaged, NoPacketIsLong, NoShortPacketLacks, NoToggleIsWrong, NoTransferHasMore, RecordedRunsAreRead, RunsOfBytesAreRuns, SetupsAreTaken, TransfersEndRight};
+ghost use Rattle.usb_recorded_runs.specs.Laws.{CapturedRunsAreRead, DescriptorsHaveTypes, EnumerationsAreRuns, HandshakesAreLost, NoDescriptorChanges, NoLongPacketIsFound, NoPacketIsDamaged, NoPacketIsLong, NoShortPacketLacks, NoToggleIsWrong, NoTransferHasMore, RecordedRunsAreRead, RunsOfBytesAreRuns, SetupsAreTaken, TransfersEndRight};
 
 use usb_bus::laws::a_device_keeps_its_table;
 
@@ -7,6 +7,14 @@ use usb_bus::laws::a_device_keeps_its_table;
 pub fn a_run_of_bytes_is_a_run()
     ensures { RunsOfBytesAreRuns }
 {}
+
+/// An enumeration of a new device is such a run, where its descriptors are bytes. The host sends requests whose fields are within
+/// their widths, to addresses of 7 bits, and the device answers with bytes, in packets that are no longer than bMaxPacketSize0.
+pub fn an_enumeration_is_a_run()
+    ensures { EnumerationsAreRuns }
+{
+    a_device_keeps_its_table();
+}
 
 /// The packets of a run that arrive are read back to the transactions of the run: of one whose token is lost there is nothing,
 /// and of another its token, its data and its handshake, as far as each arrives.
