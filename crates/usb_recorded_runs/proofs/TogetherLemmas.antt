@@ -46,6 +46,24 @@ at_place (suc k) (x ∷ xs) p at = at_place k xs p at
 first_of : (p b : List ℕ) (xs rest : List (List ℕ)) → p ∷ xs ≡ b ∷ rest → p ≡ b
 first_of p b xs rest e = cc
 
+-- ---- tests
+
+pub or_cases : (a b : Bool) → (a || b) ≡ true → (a ≡ true) ⊎ (b ≡ true)
+or_cases true b e = inl refl
+or_cases false b e = inr e
+
+pub less_so : (m n : ℕ) → nat_lt m n ≡ true → m < n
+less_so m n e = grind (arith, nat_tests)
+
+pub not_less : (m n : ℕ) → nat_lt m n ≡ false → n ≤ m
+not_less m n e = grind (arith, nat_tests)
+
+pub same_so : (m n : ℕ) → (m == n) ≡ true → m ≡ n
+same_so m n e = grind (arith, nat_tests)
+
+pub not_same : (m n : ℕ) → (m == n) ≡ false → m ≡ n → ⊥
+not_same m n e is = grind (arith, nat_tests)
+
 -- ---- how a transfer has ended
 
 module _ (table : State → Setup → Outcome) where
@@ -86,6 +104,10 @@ module _ (table : State → Setup → Outcome) where
 -- ---- both ends
 
 module _ (table : State → Setup → Outcome) (cut : ℕ) where
+  -- a device after its answer, where the host's ACK of it may reach it
+  abbrev pub after_answer : Fate → Served → DeviceView
+  after_answer fate r = if acknowledges fate r.reply then acked table cut r.device else r.device
+
   -- In the data stage so many whole packets of the answer have come to the host, which awaits more. The device counts as many as
   -- acknowledged, or one fewer.
   pub record InStep (asked : Setup) (awaited : Toggle) (kept : ℕ) (q : Setup) (all : List ℕ) (k : ℕ) : Type 0 where
@@ -271,22 +293,6 @@ module _ (table : State → Setup → Outcome) (cut : ℕ) where
     or_parts false false e = (refl, refl)
     or_parts a b e = absurd (let w : ⊥ = cc in w)
 
-    or_cases : (a b : Bool) → (a || b) ≡ true → (a ≡ true) ⊎ (b ≡ true)
-    or_cases true b e = inl refl
-    or_cases false b e = inr e
-
-    less_so : (m n : ℕ) → nat_lt m n ≡ true → m < n
-    less_so m n e = grind (arith, nat_tests)
-
-    not_less : (m n : ℕ) → nat_lt m n ≡ false → n ≤ m
-    not_less m n e = grind (arith, nat_tests)
-
-    same_so : (m n : ℕ) → (m == n) ≡ true → m ≡ n
-    same_so m n e = grind (arith, nat_tests)
-
-    not_same : (m n : ℕ) → (m == n) ≡ false → m ≡ n → ⊥
-    not_same m n e is = grind (arith, nat_tests)
-
     -- Where the host leaves the data stage, it has all of the answer.
     all_came : (address packet : ℕ) (asked q : Setup) (all : List ℕ) (kept n : ℕ) → SizeIsKnown cut address packet asked → q ≡ sent_setup asked → length all ≤ q.length
         → kept ≤ length all → n ≡ min cut (length all - kept) → (n < packet) ⊎ (kept + n ≡ asked.length) → kept + n ≡ length all
@@ -405,9 +411,6 @@ module _ (table : State → Setup → Outcome) (cut : ℕ) where
 
     -- ---- a transaction
 
-    abbrev after_answer : Fate → Served → DeviceView
-    after_answer fate r = if acknowledges fate r.reply then acked table cut r.device else r.device
-
     -- an IN, of which a packet comes so
     in_after : (P : DeviceStage → Type 0) (Q : Toggle → List ℕ → DeviceStage → Type 0) (asked : Setup) (fate : Fate) (old : DeviceStage) (reply : Reply) (new : DeviceView)
         → is_lost_down fate ≡ false → AtIn P asked (record { reply = reply; device = new }) → IsSent table cut old new reply
@@ -422,11 +425,11 @@ module _ (table : State → Setup → Outcome) (cut : ℕ) where
         (subst (Q toggle bytes) (sym (acked_so table cut new sent.waits)) (takes toggle bytes false sent), data_stall toggle bytes)
     in_after P Q asked fate old reply new kept at sent takes = (at.holds, at.refuses)
 
-    pub data_in : (t : TransferView) (d : DeviceView) (fate : Fate) (ready : Bool) → is_lost_down fate ≡ false → SizeIsKnown cut t.address t.packet t.request
+    pub data_together : (t : TransferView) (d : DeviceView) (fate : Fate) (ready : Bool) → is_lost_down fate ≡ false → SizeIsKnown cut t.address t.packet t.request
         → TogetherIn t.request t.awaited t.kept d.stage
         → (let r = served table cut d (record { address = t.address; token = InToken }) ready in
         IsSent table cut d.stage r.device r.reply → StaysTogether stages.DataIn (brought fate r.reply) (after_answer fate r).stage t)
-    data_in t d fate ready kept size_is both sent =
+    data_together t d fate ready kept size_is both sent =
         let P = TogetherIn t.request t.awaited t.kept in
         let r = served table cut d (record { address = t.address; token = InToken }) ready in
         let after = in_after P (λ toggle bytes stage. Took toggle bytes t.packet t.awaited t.kept t.request stage) t.request fate d.stage r.reply r.device kept
@@ -434,10 +437,10 @@ module _ (table : State → Setup → Outcome) (cut : ℕ) where
         (λ toggle bytes lost. took_packet t.address t.packet t.request t.awaited t.kept d.stage r.device toggle bytes lost size_is both) in
         record { together = after.0; refuses = after.1 }
 
-    pub status_in : (t : TransferView) (d : DeviceView) (fate : Fate) (ready : Bool) → is_lost_down fate ≡ false → CarriesOut t.request d.stage
+    pub status_in_together : (t : TransferView) (d : DeviceView) (fate : Fate) (ready : Bool) → is_lost_down fate ≡ false → CarriesOut t.request d.stage
         → (let r = served table cut d (record { address = t.address; token = InToken }) ready in
         IsSent table cut d.stage r.device r.reply → StaysTogether stages.StatusIn (brought fate r.reply) (after_answer fate r).stage t)
-    status_in t d fate ready kept both sent =
+    status_in_together t d fate ready kept both sent =
         let P = CarriesOut t.request in
         let r = served table cut d (record { address = t.address; token = InToken }) ready in
         let after = in_after P (λ toggle bytes stage. toggle ≡ Data1) t.request fate d.stage r.reply r.device kept
@@ -483,21 +486,15 @@ module _ (table : State → Setup → Outcome) (cut : ℕ) where
     out_after fate NakReply new kept holds quiet = (holds, nak_stall)
     out_after fate NoReply new kept holds quiet = (holds, none_stall)
 
-    pub status_out : (t : TransferView) (d : DeviceView) (fate : Fate) (ready : Bool) → is_lost_down fate ≡ false → HasSent d.stage × IsWhole table (sent_setup t.request) t.kept
+    pub status_out_together : (t : TransferView) (d : DeviceView) (fate : Fate) (ready : Bool) → is_lost_down fate ≡ false → HasSent d.stage × IsWhole table (sent_setup t.request) t.kept
         → (let r = served table cut d (record { address = t.address; token = OutToken Data1 [] }) ready in StaysTogether stages.StatusOut (brought fate r.reply) (after_answer fate r).stage t)
-    status_out t d fate ready kept both =
+    status_out_together t d fate ready kept both =
         let r = served table cut d (record { address = t.address; token = OutToken Data1 [] }) ready in
         let held = served_at_out d t.address ready both.0 in
         let after = out_after {A = IsRefused table (sent_setup t.request)} fate r.reply r.device kept held.holds held.quiet in
         record { together = (after.0, both.1); refuses = after.1 }
 
     -- ---- a SETUP that the device has taken
-
-    same_count : (q : Setup) → (q.length == 0) ≡ true → q.length ≡ 0
-    same_count q e = grind (arith, nat_tests)
-
-    some_count : (q : Setup) → (q.length == 0) ≡ false → q.length ≡ 0 → ⊥
-    some_count q e none = grind (arith, nat_tests)
 
     pub begun_together : (q : Setup) (s : State) (stage : DeviceStage) → IsAsked q → stage ≡ device.begun (sent_setup q) (table s (sent_setup q))
         → TogetherBy (stage_after_setup q) q Data1 0 stage
@@ -536,6 +533,6 @@ module _ (table : State → Setup → Outcome) (cut : ℕ) where
 
         of : (none : Bool) → (q.length == 0) ≡ none → (direction_of q.request_type ≡ directions.In) ⊎ (q.length ≡ 0) → (o : Outcome) → table s r ≡ o
             → TogetherBy (if none then stages.StatusIn else data_stage (direction_of q.request_type)) q Data1 0 (device.begun r o)
-        of true z brings o e = carries (same_count q z) o e
-        of false z (inl way) o e = subst (λ w. TogetherBy (data_stage w) q Data1 0 (device.begun r o)) (sym way) (reads (some_count q z) way o e)
-        of false z (inr none) o e = absurd (some_count q z none)
+        of true z brings o e = carries (same_so q.length 0 z) o e
+        of false z (inl way) o e = subst (λ w. TogetherBy (data_stage w) q Data1 0 (device.begun r o)) (sym way) (reads (not_same q.length 0 z) way o e)
+        of false z (inr none) o e = absurd (not_same q.length 0 z none)
