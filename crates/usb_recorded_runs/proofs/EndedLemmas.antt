@@ -45,8 +45,8 @@ all_ended : (f : DescriptorFile) (ts : List ControlTransfer) → AllByRecursion 
 all_ended f [] each = tt
 all_ended f (t ∷ ts) each = (ended_so f t each.0, all_ended f ts each.1)
 
-pub transfers_ended : (f : DescriptorFile) (speed : Speed) (fates : List Fate) (limits : LimitView) (choice : Choice) (earlier : List Pair) (n : ℕ) (last : Pair)
-    (times : ℕ → Option ℕ) → IsTable (answer f) → Accepted f speed → IsRun f fates (chosen_pair limits speed choice) earlier n last
+pub transfers_ended : (f : DescriptorFile) (speed : Speed) (fates : List Fate) (limits : LimitView) (choice : Choice) (earlier : List Pair) (n : ℕ)
+    (last : Pair) (times : ℕ → Option ℕ) → IsTable (answer f) → Accepted f speed → IsRun f fates (chosen_pair limits speed choice) earlier n last
     → AllByRecursion (IsEnded f) (transfers_in (received times 1 (exchanges f fates earlier n)))
 transfers_ended f speed fates limits choice earlier n last times is_table accepted run =
     let new = chosen_pair limits speed choice in

@@ -43,8 +43,8 @@ use Rattle.usb_recorded_runs.proofs.AnswerLemmas.{all_fronts, described_by}
 use Rattle.usb_recorded_runs.proofs.ReceivedLemmas.{received_in}
 use Rattle.usb_recorded_runs.proofs.LengthLemmas.{IsShortIn, one_not_long}
 use Rattle.usb_recorded_runs.proofs.SizeLemmas.{Fronts, IfOver, IsSound, all_says, own_size}
-use Rattle.usb_recorded_runs.proofs.TogetherLemmas.{HasEnded, nothing_after}
-use Rattle.usb_recorded_runs.proofs.StepLemmas.{Agree, IsOver, after_answer, after_none, fresh_agrees, step, taken_agrees}
+use Rattle.usb_recorded_runs.proofs.TogetherLemmas.{HasEnded, after_answer, nothing_after}
+use Rattle.usb_recorded_runs.proofs.StepLemmas.{Agree, IsOver, after_none, fresh_agrees, step, taken_agrees}
 
 -- ---- lists
 
@@ -129,7 +129,7 @@ module _ (f : DescriptorFile) (kept_table : IsTable (answer f)) (list : List Fat
   made_of d sent fate = record { fate = fate; sent = sent; address = d.state.address; answered = answered f d sent fate }
 
   carried_kept : (d : DeviceView) (sent : Sent) (fate : Fate) → is_lost_down fate ≡ false
-      → carried table cut d sent fate ≡ (let r = served table cut d sent (is_ready fate) in record { reply = brought fate r.reply; device = after_answer table cut described tells kept_table fate r })
+      → carried table cut d sent fate ≡ (let r = served table cut d sent (is_ready fate) in record { reply = brought fate r.reply; device = after_answer table cut fate r })
   carried_kept d sent fates.Pass kept = refl
   carried_kept d sent fates.Busy kept = refl
   carried_kept d sent fates.LostUp kept = refl
@@ -217,7 +217,7 @@ module _ (f : DescriptorFile) (kept_table : IsTable (answer f)) (list : List Fat
       after : pipes_in (ts ++ T ∷ []) ≡ pipes_after T (pipes_in ts)
       after = after_push pipes_after transfer_over none_open ts T
 
-      comes : carried table cut d made.sent fate ≡ (let r = served table cut d made.sent (is_ready fate) in record { reply = brought fate r.reply; device = after_answer table cut described tells kept_table fate r })
+      comes : carried table cut d made.sent fate ≡ (let r = served table cut d made.sent (is_ready fate) in record { reply = brought fate r.reply; device = after_answer table cut fate r })
       comes = carried_kept d made.sent fate kept
 
       of : (phase : HostPhase) → wanted phase ≡ WantsSent made.sent → TakesIn x.host phase (carried table cut d made.sent fate).reply last.host → Known d.stage (pipes_in ts) phase
@@ -236,9 +236,9 @@ module _ (f : DescriptorFile) (kept_table : IsTable (answer f)) (list : List Fat
           let received_is : T ≡ received_in number (times number) t.address token (is_lost_ack fate) (brought fate r.reply) =
           ap (λ s. transaction_of number (times number) (made_of d s fate)) sent_is
           ∙ ap (λ a. received_in number (times number) t.address token (is_lost_ack fate) (brought fate a)) (answered_kept d (record { address = t.address; token = token }) fate kept) in
-          let served_is : carried table cut d made.sent fate ≡ record { reply = brought fate r.reply; device = after_answer table cut described tells kept_table fate r } =
+          let served_is : carried table cut d made.sent fate ≡ record { reply = brought fate r.reply; device = after_answer table cut fate r } =
           ap (λ s. carried table cut d s fate) sent_is ∙ carried_kept d (record { address = t.address; token = token }) fate kept in
-          let device_is : last.device ≡ after_answer table cut described tells kept_table fate r = made.device ∙ ap (λ c. c.device) served_is in
+          let device_is : last.device ≡ after_answer table cut fate r = made.device ∙ ap (λ c. c.device) served_is in
           let pipes_is : pipes_in (ts ++ T ∷ []) ≡ pipes_after (received_in number (times number) t.address token (is_lost_ack fate) (brought fate r.reply)) (pipes_in ts) =
           after ∙ ap (λ u. pipes_after u (pipes_in ts)) received_is in
           let over = subst (λ u. IfOver (IsOver table cut described tells kept_table) (transfer_over u (pipes_in ts))) (sym received_is) stepped.2.over in
@@ -257,8 +257,8 @@ module _ (f : DescriptorFile) (kept_table : IsTable (answer f)) (list : List Fat
             known =
                 subst (λ p. Known last.device.stage p last.host.phase) (sym pipes_is)
                 (subst (λ v. Known v.stage (pipes_after (received_in number (times number) t.address token (is_lost_ack fate) (brought fate r.reply)) (pipes_in ts)) last.host.phase) (sym device_is)
-                (takes_works cut (Agree table cut described tells kept_table (after_answer table cut described tells kept_table fate r).stage (pipes_after (received_in number (times number) t.address token (is_lost_ack fate) (brought fate r.reply)) (pipes_in ts)))
-                (fresh_agrees table cut described tells kept_table (after_answer table cut described tells kept_table fate r).stage (pipes_after (received_in number (times number) t.address token (is_lost_ack fate) (brought fate r.reply)) (pipes_in ts)))
+                (takes_works cut (Agree table cut described tells kept_table (after_answer table cut fate r).stage (pipes_after (received_in number (times number) t.address token (is_lost_ack fate) (brought fate r.reply)) (pipes_in ts)))
+                (fresh_agrees table cut described tells kept_table (after_answer table cut fate r).stage (pipes_after (received_in number (times number) t.address token (is_lost_ack fate) (brought fate r.reply)) (pipes_in ts)))
                 x.host last.host place t k (brought fate r.reply) stepped.2.agrees known.knows known.first
                 (λ first at. stepped.2.may_come at (known.first first).request_is)
                 (subst (λ c. TakesIn x.host (Reading place t k) c.reply last.host) served_is takes)));

@@ -54,6 +54,7 @@ pub record IsSound (size : ℕ) (described : Setup → List ℕ) (transfer : Con
   pub few : is_answered transfer.ending ≡ true → transfer.length ≤ transfer.setup.length
   pub asked : is_stall transfer.ending ≡ true → reads_status transfer.setup ≡ false
 
+-- This holds of the transfer that is over, if one is.
 abbrev pub IfOver : (ControlTransfer → Type 0) → Option ControlTransfer → Type 0
 IfOver P None = Unit {0}
 IfOver P (Some transfer) = P transfer

@@ -1,7 +1,6 @@
 -- The step of a run that is a transaction: what is known of the transfer that is open, before it and after it.
 use Rattle.std.proofs.Common.{◌≡◌, ◌⊎◌, inl, inr, ◌==◌, ◌||◌, ◌<◌, ◌≤◌, ◌+◌, ◌/◌, nat_lt, ℕ, suc, Bool, true, false, if◌then◌else◌, List, [], ◌∷◌, ◌++◌, length, take, drop, refl, sym, ◌∙◌, ap, subst, arith, length-append}
 use Rattle.std.specs.Prelude.{Option, Some, slice_index}
-use Rattle.std.proofs.lemmas.Bool.Decides.{nat_tests}
 use Rattle.std.proofs.lemmas.List.{append-nil}
 use Rattle.usb_fields.specs.declared.packet.Toggle.{Toggle}
 use Rattle.usb_fields.specs.declared.packet.Toggle.TheVariants.{Data0, Data1}
@@ -43,18 +42,15 @@ use Rattle.usb_recorded_runs.proofs.DeviceLemmas.{Follows, IsElsewhere, IsEmpty,
 use Rattle.usb_recorded_runs.proofs.FrontLemmas.{front_more}
 use Rattle.usb_recorded_runs.proofs.ReceivedLemmas.{EndsWhole, Goes, IsNoData, NotEarly, Right, bytes_cases, bytes_count, bytes_cut, bytes_keep, bytes_total, received_in, packet_in, quiet_in, right_at, setup_right, status_in, status_out, with_again, with_next}
 use Rattle.usb_recorded_runs.proofs.SizeLemmas.{Fronts, IfOver, IsSound, Tells, Reported, nothing_tells, reported_over, unseen_over}
-use Rattle.usb_recorded_runs.proofs.TogetherLemmas.{HasEnded, IsRefused, IsWhole, TogetherAfter, TogetherBy, Took, begun_together, data_in, done_ended, sent_length, sent_setup, stall_ended, status_in as status_in_together, status_out as status_out_together, unseen_ended}
+use Rattle.usb_recorded_runs.proofs.TogetherLemmas.{HasEnded, IsRefused, IsWhole, TogetherAfter, TogetherBy, Took, after_answer, begun_together, data_together, done_ended, less_so, not_less, not_same, or_cases, same_so, sent_length, sent_setup, stall_ended, status_in_together, status_out_together, unseen_ended}
 
 -- which way data go by the request that was recorded
-recorded_length : (q : Setup) → (setup_at (setup_bytes q) 0).length ≡ q.length
-recorded_length q = omega arith
-
 none_way : (q : Setup) → q.length ≡ 0 → data_direction (setup_at (setup_bytes q) 0) ≡ directions.Out
-none_way q none = ap (λ n. if n == 0 then directions.Out else direction_of q.request_type) (recorded_length q ∙ none)
+none_way q none = ap (λ n. if n == 0 then directions.Out else direction_of q.request_type) (sent_length q ∙ none)
 
 some_way : (q : Setup) → (q.length == 0) ≡ false → direction_of q.request_type ≡ directions.In → data_direction (setup_at (setup_bytes q) 0) ≡ directions.In
 some_way q some way =
-    ap (λ n. if n == 0 then directions.Out else direction_of q.request_type) (recorded_length q)
+    ap (λ n. if n == 0 then directions.Out else direction_of q.request_type) (sent_length q)
     ∙ ap (λ c. if c then directions.Out else direction_of q.request_type) some ∙ way
 
 -- a transfer that has just begun: its request, the toggle that it awaits, and how many bytes have come
@@ -391,19 +387,6 @@ module _ (table : State → Setup → Outcome) (cut : ℕ) (described : Setup �
   fresh_agrees d pipes address packet naks q asked size_is =
       record { may_be = record { asked = asked; awaits = refl; none = refl }; size_is = size_is; same = tt; both = λ some. tt; fits = λ transfer is. tt }
 
-  or_cases : (a b : Bool) → (a || b) ≡ true → (a ≡ true) ⊎ (b ≡ true)
-  or_cases true b e = inl refl
-  or_cases false b e = inr e
-
-  less_so : (m n : ℕ) → nat_lt m n ≡ true → m < n
-  less_so m n e = grind (arith, nat_tests)
-
-  not_less_so : (m n : ℕ) → nat_lt m n ≡ false → n ≤ m
-  not_less_so m n e = grind (arith, nat_tests)
-
-  same_so : (m n : ℕ) → (m == n) ≡ true → m ≡ n
-  same_so m n e = grind (arith, nat_tests)
-
   module _ (d : DeviceStage) (pipes : Pipes) (t : TransferView) (size_is : SizeIsKnown cut t.address t.packet t.request) where
     failed_agrees : (why : Why) → Agree d pipes (failed t why).transfer
     failed_agrees why = record { may_be = tt; size_is = size_is; same = tt; both = λ some. tt; fits = λ transfer is. tt }
@@ -458,9 +441,9 @@ module _ (table : State → Setup → Outcome) (cut : ℕ) (described : Setup �
           may_be = may_after last (flipped t.awaited) (t.kept + length bytes);
           size_is = size_is;
           same = same_after last same;
-          both = λ some. (took some).next_so is (not_less_so t.request.length (t.kept + length bytes) few) last refl;
+          both = λ some. (took some).next_so is (not_less t.request.length (t.kept + length bytes) few) last refl;
           fits = λ transfer found. after_data (length bytes) last (record { transfer = transfer; toggle = toggle_at t.address pipes }) refl
-              ((after transfer found).took is (not_less_so t.request.length (t.kept + length bytes) few));
+              ((after transfer found).took is (not_less t.request.length (t.kept + length bytes) few));
         }
 
     data_agrees : (toggle : Toggle) (bytes : List ℕ) → t.stage ≡ stages.DataIn → AsksSame stages.DataIn t.request d
@@ -529,10 +512,6 @@ module _ (table : State → Setup → Outcome) (cut : ℕ) (described : Setup �
   taken_agrees d pipes t size_is stages.Completed came at may same both after acks = still_so d pipes t size_is stages.Completed at may same both after
   taken_agrees d pipes t size_is (stages.Failed why) came at may same both after acks = still_so d pipes t size_is (stages.Failed why) at may same both after
 
-  -- a device after its answer, where the host's ACK of it may reach it
-  abbrev pub after_answer : Fate → Served → DeviceView
-  after_answer fate r = if acknowledges fate r.reply then acked table cut r.device else r.device
-
   module _ (number : ℕ) (time : Option ℕ) (address : ℕ) (small : address < 256) (pipes : Pipes) (sound : Sound pipes) where
     -- an IN of the data stage
     module _ (t : TransferView) where
@@ -590,7 +569,7 @@ module _ (table : State → Setup → Outcome) (cut : ℕ) (described : Setup �
         → (new.stage ≡ old) ⊎ IsElsewhere new.stage → IsSent table cut old new reply → OpenAt address (InData old t.awaited t.kept t.request) pipes
         → (8 ≤ cut → brought fate reply ≡ StallReply → IsRefused table (sent_setup t.request))
         → Right cut IsOver (received_in number time address InToken (is_lost_ack fate) (brought fate reply))
-        (AfterData (brought fate reply) (after_answer fate (record { reply = reply; device = new })).stage t) pipes
+        (AfterData (brought fate reply) (after_answer table cut fate (record { reply = reply; device = new })).stage t) pipes
     data_step t fate old reply new kept follows stays_so sent opens refuses = of fate reply kept sent refuses
       where
         Before : Going → Type 0
@@ -636,7 +615,7 @@ module _ (table : State → Setup → Outcome) (cut : ℕ) (described : Setup �
 
         of : (fate : Fate) (reply : Reply) → is_lost_down fate ≡ false → IsSent table cut old new reply → (8 ≤ cut → brought fate reply ≡ StallReply → IsRefused table (sent_setup t.request))
             → Right cut IsOver (received_in number time address InToken (is_lost_ack fate) (brought fate reply))
-            (AfterData (brought fate reply) (after_answer fate (record { reply = reply; device = new })).stage t) pipes
+            (AfterData (brought fate reply) (after_answer table cut fate (record { reply = reply; device = new })).stage t) pipes
         of fates.LostDown reply kept sent refused = absurd (let w : ⊥ = cc in w)
         of fates.LostUp reply kept sent refused = quiet false NoReply tt refused
         of fates.LostAck (DataReply toggle bytes) kept sent refused = unreceived toggle bytes sent
@@ -659,7 +638,7 @@ module _ (table : State → Setup → Outcome) (cut : ℕ) (described : Setup �
     status_step : (q : Setup) (fate : Fate) (old : DeviceStage) (reply : Reply) (new : DeviceView) → is_lost_down fate ≡ false → Follows old new.stage → (new.stage ≡ old) ⊎ IsElsewhere new.stage
         → IsSent table cut old new reply
         → OpenAt address (InStatusIn old q) pipes → (8 ≤ cut → brought fate reply ≡ StallReply → IsRefused table (sent_setup q))
-        → Right cut IsOver (received_in number time address InToken (is_lost_ack fate) (brought fate reply)) (InStatusIn (after_answer fate (record { reply = reply; device = new })).stage q) pipes
+        → Right cut IsOver (received_in number time address InToken (is_lost_ack fate) (brought fate reply)) (InStatusIn (after_answer table cut fate (record { reply = reply; device = new })).stage q) pipes
     status_step q fate old reply new kept follows stays_so sent opens refuses = of fate reply kept sent refuses
       where
         P : Going → Type 0
@@ -684,7 +663,7 @@ module _ (table : State → Setup → Outcome) (cut : ℕ) (described : Setup �
         packet lost Data0 bytes Q sent = right_at cut IsOver (received_in number time address InToken lost (DataReply Data0 bytes)) P Q pipes sound refl opens (λ going unended h. absurd (zero_one (h.first Data0 sent.was)))
 
         of : (fate : Fate) (reply : Reply) → is_lost_down fate ≡ false → IsSent table cut old new reply → (8 ≤ cut → brought fate reply ≡ StallReply → IsRefused table (sent_setup q))
-            → Right cut IsOver (received_in number time address InToken (is_lost_ack fate) (brought fate reply)) (InStatusIn (after_answer fate (record { reply = reply; device = new })).stage q) pipes
+            → Right cut IsOver (received_in number time address InToken (is_lost_ack fate) (brought fate reply)) (InStatusIn (after_answer table cut fate (record { reply = reply; device = new })).stage q) pipes
         of fates.LostDown reply kept sent refused = absurd (let w : ⊥ = cc in w)
         of fates.LostUp reply kept sent refused = quiet false NoReply tt refused
         of fates.LostAck (DataReply toggle bytes) kept sent refused = packet true toggle bytes (InStatusIn new.stage q) sent
@@ -706,12 +685,12 @@ module _ (table : State → Setup → Outcome) (cut : ℕ) (described : Setup �
   -- After the ACK of a SETUP that came, a device has begun its transfer.
   setup_stage : (d : DeviceView) (q : Setup) (address : ℕ) (fate : Fate) → is_lost_down fate ≡ false
       → (let r = served table cut d (record { address = address; token = SetupToken (setup_bytes q) }) (is_ready fate) in
-      brought fate r.reply ≡ AckReply → (after_answer fate r).stage ≡ device.begun (setup_of (setup_bytes q)) (table d.state (setup_of (setup_bytes q))))
+      brought fate r.reply ≡ AckReply → (after_answer table cut fate r).stage ≡ device.begun (setup_of (setup_bytes q)) (table d.state (setup_of (setup_bytes q))))
   setup_stage d q address fate kept = of fate (address == d.state.address) kept
     where
       of : (fate : Fate) (here : Bool) → is_lost_down fate ≡ false
           → (let r = if here then served_here table cut d (SetupToken (setup_bytes q)) (is_ready fate) else replies NoReply d.state d.stage false in
-          brought fate r.reply ≡ AckReply → (after_answer fate r).stage ≡ device.begun (setup_of (setup_bytes q)) (table d.state (setup_of (setup_bytes q))))
+          brought fate r.reply ≡ AckReply → (after_answer table cut fate r).stage ≡ device.begun (setup_of (setup_bytes q)) (table d.state (setup_of (setup_bytes q))))
       of fates.Pass true kept acks = refl
       of fates.Busy true kept acks = refl
       of fates.LostAck true kept acks = refl
@@ -734,12 +713,6 @@ module _ (table : State → Setup → Outcome) (cut : ℕ) (described : Setup �
   begun_content s q (Done next) t other e = begun_reported q t other
   begun_content s q Refused t other e = begun_reported q t other
   begun_content s q (Takes judge) t other e = begun_reported q t other
-
-  same_count : (q : Setup) → (q.length == 0) ≡ true → q.length ≡ 0
-  same_count q e = grind (arith, nat_tests)
-
-  some_count : (q : Setup) → (q.length == 0) ≡ false → q.length ≡ 0 → ⊥
-  some_count q e none = grind (arith, nat_tests)
 
   -- what is open then, and at which stage the host's transfer is
   pub record AfterSetup (tv : TransferView) (at : TransferStage) (stage : DeviceStage) (going : Going) : Type 0 where
@@ -782,11 +755,11 @@ module _ (table : State → Setup → Outcome) (cut : ℕ) (described : Setup �
         may_be = tt;
         same = tt;
         fits = record {
-          way = none_way q (same_count q e);
+          way = none_way q (same_so q.length 0 e);
           first = first;
           report = begun_reported (setup_at (setup_bytes q) 0) t begins.asked.other;
           setup_is = refl;
-          none = same_count q e;
+          none = same_so q.length 0 e;
         };
       }
       of false e (inl way) = subst (λ w. AfterSetup tv (data_stage w) stage begun_so) (sym way) (record {
@@ -802,7 +775,7 @@ module _ (table : State → Setup → Outcome) (cut : ℕ) (described : Setup �
           low = low;
         };
       })
-      of false e (inr none) = absurd (some_count q e none)
+      of false e (inr none) = absurd (not_same q.length 0 e none)
 
   -- a device that answers the same request after the ACK of a packet
   next_same : (q : Setup) (all : List ℕ) (k : ℕ) (left : List (List ℕ)) (r : Setup) (more : List ℕ) (m : ℕ) → next_stage q all k left ≡ Sending r more m → (r ≡ q) × (more ≡ all)
@@ -882,7 +855,7 @@ module _ (table : State → Setup → Outcome) (cut : ℕ) (described : Setup �
     received_of token = received_in number time t.address token (is_lost_ack fate) (brought fate (answer_to token).reply)
 
     abbrev later : Token → DeviceStage
-    later token = (after_answer fate (answer_to token)).stage
+    later token = (after_answer table cut fate (answer_to token)).stage
 
     pub record Steps (stage : TransferStage) (token : Token) : Type 0 where
       pub right : has_wrong_toggle (received_of token) pipes ≡ false
@@ -943,7 +916,7 @@ module _ (table : State → Setup → Outcome) (cut : ℕ) (described : Setup �
         let sends = served_sends table cut d t.address (is_ready fate) in
         let r = answer_to InToken in
         let still = stays_same t.request d.stage r.device.stage sends.stays agrees.same in
-        let both = λ (some : 8 ≤ cut). data_in table cut is_table some t d fate (is_ready fate) kept agrees.size_is (agrees.both some) sends.sent in (
+        let both = λ (some : 8 ≤ cut). data_together table cut is_table some t d fate (is_ready fate) kept agrees.size_is (agrees.both some) sends.sent in (
           InToken,
           same_sent _ sent due,
           step_at stages.DataIn InToken at (λ e. let w : ⊥ = cc in w) agrees.size_is tt (answer_same t.request (acknowledges fate r.reply) r.device still) (λ some. (both some).together)

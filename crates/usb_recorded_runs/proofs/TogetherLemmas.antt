@@ -46,6 +46,24 @@ at_place (suc k) (x ∷ xs) p at = at_place k xs p at
 first_of : (p b : List ℕ) (xs rest : List (List ℕ)) → p ∷ xs ≡ b ∷ rest → p ≡ b
 first_of p b xs rest e = cc
 
+-- ---- tests
+
+pub or_cases : (a b : Bool) → (a || b) ≡ true → (a ≡ true) ⊎ (b ≡ true)
+or_cases true b e = inl refl
+or_cases false b e = inr e
+
+pub less_so : (m n : ℕ) → nat_lt m n ≡ true → m < n
+less_so m n e = grind (arith, nat_tests)
+
+pub not_less : (m n : ℕ) → nat_lt m n ≡ false → n ≤ m
+not_less m n e = grind (arith, nat_tests)
+
+pub same_so : (m n : ℕ) → (m == n) ≡ true → m ≡ n
+same_so m n e = grind (arith, nat_tests)
+
+pub not_same : (m n : ℕ) → (m == n) ≡ false → m ≡ n → ⊥
+not_same m n e is = grind (arith, nat_tests)
+
 -- ---- how a transfer has ended
 
 module _ (table : State → Setup → Outcome) where
@@ -76,8 +94,8 @@ module _ (table : State → Setup → Outcome) where
   pub stall_ended : (t : Transaction) (transfer : ControlTransfer) → IsRefused transfer.setup → HasEnded (ended_so t endings.Stall transfer)
   stall_ended t transfer refused = record { refused = λ e. refused; whole = stall_done }
 
-  pub done_ended : (t : Transaction) (transfer : ControlTransfer) → ((transfer.setup.length ≡ 0) × (transfer.length ≡ 0)) ⊎ IsWhole transfer.setup transfer.length
-      → HasEnded (ended_so t endings.Done transfer)
+  pub done_ended : (t : Transaction) (transfer : ControlTransfer)
+      → ((transfer.setup.length ≡ 0) × (transfer.length ≡ 0)) ⊎ IsWhole transfer.setup transfer.length → HasEnded (ended_so t endings.Done transfer)
   done_ended t transfer whole = record { refused = λ e. stall_done (sym e); whole = λ e. whole }
 
   pub unseen_ended : (transfer : ControlTransfer) → transfer.ending ≡ endings.Unseen → HasEnded transfer
@@ -86,6 +104,10 @@ module _ (table : State → Setup → Outcome) where
 -- ---- both ends
 
 module _ (table : State → Setup → Outcome) (cut : ℕ) where
+  -- a device after its answer, where the host's ACK of it may reach it
+  abbrev pub after_answer : Fate → Served → DeviceView
+  after_answer fate r = if acknowledges fate r.reply then acked table cut r.device else r.device
+
   -- In the data stage so many whole packets of the answer have come to the host, which awaits more. The device counts as many as
   -- acknowledged, or one fewer.
   pub record InStep (asked : Setup) (awaited : Toggle) (kept : ℕ) (q : Setup) (all : List ℕ) (k : ℕ) : Type 0 where
@@ -148,7 +170,8 @@ module _ (table : State → Setup → Outcome) (cut : ℕ) where
     pub together : TogetherAfter stage came d t
     pub refuses : came ≡ StallReply → IsRefused table (sent_setup t.request)
 
-  pub nothing_after : (stage : TransferStage) (d : DeviceStage) (t : TransferView) → TogetherBy stage t.request t.awaited t.kept d → TogetherAfter stage NoReply d t
+  pub nothing_after : (stage : TransferStage) (d : DeviceStage) (t : TransferView) → TogetherBy stage t.request t.awaited t.kept d
+      → TogetherAfter stage NoReply d t
   nothing_after stages.DataIn d t h = h
   nothing_after stages.StatusOut d t h = h
   nothing_after stages.StatusIn d t h = h
@@ -157,22 +180,29 @@ module _ (table : State → Setup → Outcome) (cut : ℕ) where
   module _ (is_table : IsTable table) (some : 8 ≤ cut) where
     -- ---- what the device does at an IN
 
+    -- a packet that comes after whole ones
+    abbrev packet_at : List ℕ → ℕ → List ℕ
+    packet_at all k = take cut (drop (k * cut) all)
+
+    abbrev IsThere : Setup → List ℕ → ℕ → Type 0
+    IsThere q all k = slice_get (packets all cut q.length) k ≡ Some (packet_at all k)
+
     -- the packet that the host awaits
     next_there : (asked : Setup) (awaited : Toggle) (kept : ℕ) (q : Setup) (all : List ℕ) (k : ℕ) (step : InStep asked awaited kept q all k)
-        → slice_get (packets all cut q.length) step.count ≡ Some (take cut (drop (step.count * cut) all))
+        → IsThere q all step.count
     next_there asked awaited kept q all k step =
-        packets-at all cut q.length step.count (omega (arith, some)) (subst (λ n. n ≤ length all) step.kept_is step.within) (subst (λ n. n < q.length) step.kept_is step.more)
+        packets-at all cut q.length step.count (omega (arith, some)) (subst (λ n. n ≤ length all) step.kept_is step.within)
+        (subst (λ n. n < q.length) step.kept_is step.more)
 
     fewer : (k : ℕ) → k * cut ≤ suc k * cut
     fewer k = grind arith
 
     -- and the one that the device sends
-    sent_there : (asked : Setup) (awaited : Toggle) (kept : ℕ) (q : Setup) (all : List ℕ) (k : ℕ) → InStep asked awaited kept q all k
-        → slice_get (packets all cut q.length) k ≡ Some (take cut (drop (k * cut) all))
+    sent_there : (asked : Setup) (awaited : Toggle) (kept : ℕ) (q : Setup) (all : List ℕ) (k : ℕ) → InStep asked awaited kept q all k → IsThere q all k
     sent_there asked awaited kept q all k step = of step.counted
       where
-        of : (step.count ≡ k) ⊎ (step.count ≡ suc k) → slice_get (packets all cut q.length) k ≡ Some (take cut (drop (k * cut) all))
-        of (inl same) = subst (λ n. slice_get (packets all cut q.length) n ≡ Some (take cut (drop (n * cut) all))) same (next_there asked awaited kept q all k step)
+        of : (step.count ≡ k) ⊎ (step.count ≡ suc k) → IsThere q all k
+        of (inl same) = subst (IsThere q all) same (next_there asked awaited kept q all k step)
         of (inr ahead) =
             let place : kept ≡ suc k * cut = step.kept_is ∙ ap (λ n. n * cut) ahead in
             packets-at all cut q.length k (omega (arith, some)) (omega (arith, fewer k, place, step.within)) (omega (arith, fewer k, place, step.more))
@@ -201,9 +231,9 @@ module _ (table : State → Setup → Outcome) (cut : ℕ) where
     stage_in_data : (asked : Setup) (awaited : Toggle) (kept : ℕ) (s : State) (stage : DeviceStage) → TogetherIn asked awaited kept stage
         → AtIn (TogetherIn asked awaited kept) asked (served_in table cut s stage)
     stage_in_data asked awaited kept s (Sending q all k) step =
-        let there = at_place k (packets all cut q.length) (take cut (drop (k * cut) all)) (sent_there asked awaited kept q all k step) in
+        let there = at_place k (packets all cut q.length) (packet_at all k) (sent_there asked awaited kept q all k step) in
         subst (λ left. AtIn (TogetherIn asked awaited kept) asked (next_packet s (Sending q all k) k left)) (sym there)
-        (record { holds = step; refuses = data_stall (toggle_of k) (take cut (drop (k * cut) all)) })
+        (record { holds = step; refuses = data_stall (toggle_of k) (packet_at all k) })
     stage_in_data asked awaited kept s (device.Halted refused) step = record { holds = step; refuses = λ e. step }
     stage_in_data asked awaited kept s stage step = absurd step
 
@@ -238,12 +268,13 @@ module _ (table : State → Setup → Outcome) (cut : ℕ) where
     sent_later false q all k = sent_left q all k (drop (suc k) (packets all cut q.length))
 
     -- the host has one packet more than the device counted before
-    ahead_later : (lost : Bool) (asked : Setup) (awaited : Toggle) (kept : ℕ) (q : Setup) (all : List ℕ) (k : ℕ) (step : InStep asked awaited kept q all k) → step.count ≡ suc k
-        → TogetherIn asked awaited kept (later_stage lost (Sending q all k))
+    ahead_later : (lost : Bool) (asked : Setup) (awaited : Toggle) (kept : ℕ) (q : Setup) (all : List ℕ) (k : ℕ)
+        (step : InStep asked awaited kept q all k) → step.count ≡ suc k → TogetherIn asked awaited kept (later_stage lost (Sending q all k))
     ahead_later true asked awaited kept q all k step ahead = step
     ahead_later false asked awaited kept q all k step ahead =
-        let there = subst (λ n. slice_get (packets all cut q.length) n ≡ Some (take cut (drop (n * cut) all))) ahead (next_there asked awaited kept q all k step) in
-        subst (λ left. TogetherIn asked awaited kept (next_stage q all k left)) (sym (at_place (suc k) (packets all cut q.length) (take cut (drop (suc k * cut) all)) there))
+        let there = subst (IsThere q all) ahead (next_there asked awaited kept q all k step) in
+        subst (λ left. TogetherIn asked awaited kept (next_stage q all k left))
+        (sym (at_place (suc k) (packets all cut q.length) (packet_at all (suc k)) there))
         (record {
           same = step.same;
           state = step.state;
@@ -271,25 +302,9 @@ module _ (table : State → Setup → Outcome) (cut : ℕ) where
     or_parts false false e = (refl, refl)
     or_parts a b e = absurd (let w : ⊥ = cc in w)
 
-    or_cases : (a b : Bool) → (a || b) ≡ true → (a ≡ true) ⊎ (b ≡ true)
-    or_cases true b e = inl refl
-    or_cases false b e = inr e
-
-    less_so : (m n : ℕ) → nat_lt m n ≡ true → m < n
-    less_so m n e = grind (arith, nat_tests)
-
-    not_less : (m n : ℕ) → nat_lt m n ≡ false → n ≤ m
-    not_less m n e = grind (arith, nat_tests)
-
-    same_so : (m n : ℕ) → (m == n) ≡ true → m ≡ n
-    same_so m n e = grind (arith, nat_tests)
-
-    not_same : (m n : ℕ) → (m == n) ≡ false → m ≡ n → ⊥
-    not_same m n e is = grind (arith, nat_tests)
-
     -- Where the host leaves the data stage, it has all of the answer.
-    all_came : (address packet : ℕ) (asked q : Setup) (all : List ℕ) (kept n : ℕ) → SizeIsKnown cut address packet asked → q ≡ sent_setup asked → length all ≤ q.length
-        → kept ≤ length all → n ≡ min cut (length all - kept) → (n < packet) ⊎ (kept + n ≡ asked.length) → kept + n ≡ length all
+    all_came : (address packet : ℕ) (asked q : Setup) (all : List ℕ) (kept n : ℕ) → SizeIsKnown cut address packet asked → q ≡ sent_setup asked
+        → length all ≤ q.length → kept ≤ length all → n ≡ min cut (length all - kept) → (n < packet) ⊎ (kept + n ≡ asked.length) → kept + n ≡ length all
     all_came address packet asked q all kept n (inl few) same fits within n_is last =
         omega (arith, some, few.1, ap (λ r. r.length) same, sent_length asked, fits, within, n_is)
     all_came address packet asked q all kept n (inr own) same fits within n_is (inl short) = omega (arith, own, short, within, n_is)
@@ -305,13 +320,13 @@ module _ (table : State → Setup → Outcome) (cut : ℕ) where
     one_more : (k : ℕ) → suc k * cut ≡ k * cut + cut
     one_more k = grind arith
 
-    took_next : (address packet : ℕ) (asked : Setup) (awaited : Toggle) (kept : ℕ) (q : Setup) (all : List ℕ) (k : ℕ) (lost : Bool) (toggle : Toggle) (bytes : List ℕ) (rest : List (List ℕ))
-        → SizeIsKnown cut address packet asked → InStep asked awaited kept q all k → toggle ≡ toggle_of k → drop k (packets all cut q.length) ≡ bytes ∷ rest
+    took_next : (address packet : ℕ) (asked : Setup) (awaited : Toggle) (kept : ℕ) (q : Setup) (all : List ℕ) (k : ℕ) (lost : Bool) (toggle : Toggle)
+        (bytes : List ℕ) (rest : List (List ℕ)) → SizeIsKnown cut address packet asked → InStep asked awaited kept q all k → toggle ≡ toggle_of k → drop k (packets all cut q.length) ≡ bytes ∷ rest
         → Took toggle bytes packet awaited kept asked (later_stage lost (Sending q all k))
     took_next address packet asked awaited kept q all k lost toggle bytes rest size_is step is due = of step.counted
       where
         place : List ℕ
-        place = take cut (drop (k * cut) all)
+        place = packet_at all k
 
         bytes_are : place ≡ bytes
         bytes_are =
@@ -330,7 +345,8 @@ module _ (table : State → Setup → Outcome) (cut : ℕ) where
         of : (step.count ≡ k) ⊎ (step.count ≡ suc k) → Took toggle bytes packet awaited kept asked (later_stage lost (Sending q all k))
         of (inl same) = record {
           next_so = next;
-          again_so = λ other. true_false (is_same_toggle toggle awaited) (ap (is_same_toggle toggle) (step.awaits ∙ ap toggle_of same ∙ sym is) ∙ own_same toggle) other;
+          again_so = λ other.
+              true_false (is_same_toggle toggle awaited) (ap (is_same_toggle toggle) (step.awaits ∙ ap toggle_of same ∙ sym is) ∙ own_same toggle) other;
         }
           where
             kept_is : kept ≡ k * cut
@@ -347,7 +363,8 @@ module _ (table : State → Setup → Outcome) (cut : ℕ) where
                 state = step.state;
                 all = all;
                 answers = ap (table step.state) (sym step.same) ∙ step.answers;
-                count_is = all_came address packet asked q all kept n size_is step.same fits step.within size (left (or_cases (nat_lt n packet) (kept + n == asked.length) e));
+                count_is = all_came address packet asked q all kept n size_is step.same fits step.within size
+                    (left (or_cases (nat_lt n packet) (kept + n == asked.length) e));
               },
             )
               where
@@ -380,18 +397,19 @@ module _ (table : State → Setup → Outcome) (cut : ℕ) where
             }
 
     -- A device together with the host sends a packet of its data stage.
-    none_elsewhere : (asked : Setup) (awaited : Toggle) (kept : ℕ) (old new : DeviceStage) (toggle : Toggle) (bytes : List ℕ) → IsEmpty table cut old new bytes → in_toggle old ≡ Some toggle
-        → TogetherIn asked awaited kept old → ⊥
+    none_elsewhere : (asked : Setup) (awaited : Toggle) (kept : ℕ) (old new : DeviceStage) (toggle : Toggle) (bytes : List ℕ)
+        → IsEmpty table cut old new bytes → in_toggle old ≡ Some toggle → TogetherIn asked awaited kept old → ⊥
     none_elsewhere asked awaited kept (Sending q all k) new toggle bytes empty sends step = empty.was
     none_elsewhere asked awaited kept (device.Halted refused) new toggle bytes empty sends step = none_some toggle ⊥ sends
     none_elsewhere asked awaited kept stage new toggle bytes empty sends step = step
 
-    took_packet : (address packet : ℕ) (asked : Setup) (awaited : Toggle) (kept : ℕ) (old : DeviceStage) (new : DeviceView) (toggle : Toggle) (bytes : List ℕ) (lost : Bool)
-        → SizeIsKnown cut address packet asked → TogetherIn asked awaited kept old → IsPacket table cut old new toggle bytes
+    took_packet : (address packet : ℕ) (asked : Setup) (awaited : Toggle) (kept : ℕ) (old : DeviceStage) (new : DeviceView) (toggle : Toggle)
+        (bytes : List ℕ) (lost : Bool) → SizeIsKnown cut address packet asked → TogetherIn asked awaited kept old → IsPacket table cut old new toggle bytes
         → Took toggle bytes packet awaited kept asked (later_stage lost new.stage)
     took_packet address packet asked awaited kept old new toggle bytes lost size_is together p = of p.which
       where
-        of : IsNext table cut old new.stage toggle bytes ⊎ IsEmpty table cut old new.stage bytes → Took toggle bytes packet awaited kept asked (later_stage lost new.stage)
+        of : IsNext table cut old new.stage toggle bytes ⊎ IsEmpty table cut old new.stage bytes
+            → Took toggle bytes packet awaited kept asked (later_stage lost new.stage)
         of (inl next) =
             subst (λ g. Took toggle bytes packet awaited kept asked (later_stage lost g)) (sym next.is)
             (took_next address packet asked awaited kept next.request next.all next.acked_ones lost toggle bytes next.later size_is
@@ -405,14 +423,12 @@ module _ (table : State → Setup → Outcome) (cut : ℕ) where
 
     -- ---- a transaction
 
-    abbrev after_answer : Fate → Served → DeviceView
-    after_answer fate r = if acknowledges fate r.reply then acked table cut r.device else r.device
-
     -- an IN, of which a packet comes so
-    in_after : (P : DeviceStage → Type 0) (Q : Toggle → List ℕ → DeviceStage → Type 0) (asked : Setup) (fate : Fate) (old : DeviceStage) (reply : Reply) (new : DeviceView)
-        → is_lost_down fate ≡ false → AtIn P asked (record { reply = reply; device = new }) → IsSent table cut old new reply
+    in_after : (P : DeviceStage → Type 0) (Q : Toggle → List ℕ → DeviceStage → Type 0) (asked : Setup) (fate : Fate) (old : DeviceStage)
+        (reply : Reply) (new : DeviceView) → is_lost_down fate ≡ false → AtIn P asked (record { reply = reply; device = new }) → IsSent table cut old new reply
         → ((toggle : Toggle) (bytes : List ℕ) (lost : Bool) → IsPacket table cut old new toggle bytes → Q toggle bytes (later_stage lost new.stage))
-        → AfterIn P Q (brought fate reply) (after_answer fate (record { reply = reply; device = new })).stage × (brought fate reply ≡ StallReply → IsRefused table (sent_setup asked))
+        → AfterIn P Q (brought fate reply) (after_answer fate (record { reply = reply; device = new })).stage
+        × (brought fate reply ≡ StallReply → IsRefused table (sent_setup asked))
     in_after P Q asked fates.LostDown old reply new kept at sent takes = absurd (let w : ⊥ = cc in w)
     in_after P Q asked fates.LostUp old reply new kept at sent takes = (at.holds, none_stall)
     in_after P Q asked fates.LostAck old (DataReply toggle bytes) new kept at sent takes = (takes toggle bytes true sent, data_stall toggle bytes)
@@ -422,11 +438,11 @@ module _ (table : State → Setup → Outcome) (cut : ℕ) where
         (subst (Q toggle bytes) (sym (acked_so table cut new sent.waits)) (takes toggle bytes false sent), data_stall toggle bytes)
     in_after P Q asked fate old reply new kept at sent takes = (at.holds, at.refuses)
 
-    pub data_in : (t : TransferView) (d : DeviceView) (fate : Fate) (ready : Bool) → is_lost_down fate ≡ false → SizeIsKnown cut t.address t.packet t.request
-        → TogetherIn t.request t.awaited t.kept d.stage
+    pub data_together : (t : TransferView) (d : DeviceView) (fate : Fate) (ready : Bool) → is_lost_down fate ≡ false
+        → SizeIsKnown cut t.address t.packet t.request → TogetherIn t.request t.awaited t.kept d.stage
         → (let r = served table cut d (record { address = t.address; token = InToken }) ready in
         IsSent table cut d.stage r.device r.reply → StaysTogether stages.DataIn (brought fate r.reply) (after_answer fate r).stage t)
-    data_in t d fate ready kept size_is both sent =
+    data_together t d fate ready kept size_is both sent =
         let P = TogetherIn t.request t.awaited t.kept in
         let r = served table cut d (record { address = t.address; token = InToken }) ready in
         let after = in_after P (λ toggle bytes stage. Took toggle bytes t.packet t.awaited t.kept t.request stage) t.request fate d.stage r.reply r.device kept
@@ -434,10 +450,10 @@ module _ (table : State → Setup → Outcome) (cut : ℕ) where
         (λ toggle bytes lost. took_packet t.address t.packet t.request t.awaited t.kept d.stage r.device toggle bytes lost size_is both) in
         record { together = after.0; refuses = after.1 }
 
-    pub status_in : (t : TransferView) (d : DeviceView) (fate : Fate) (ready : Bool) → is_lost_down fate ≡ false → CarriesOut t.request d.stage
+    pub status_in_together : (t : TransferView) (d : DeviceView) (fate : Fate) (ready : Bool) → is_lost_down fate ≡ false → CarriesOut t.request d.stage
         → (let r = served table cut d (record { address = t.address; token = InToken }) ready in
         IsSent table cut d.stage r.device r.reply → StaysTogether stages.StatusIn (brought fate r.reply) (after_answer fate r).stage t)
-    status_in t d fate ready kept both sent =
+    status_in_together t d fate ready kept both sent =
         let P = CarriesOut t.request in
         let r = served table cut d (record { address = t.address; token = InToken }) ready in
         let after = in_after P (λ toggle bytes stage. toggle ≡ Data1) t.request fate d.stage r.reply r.device kept
@@ -465,9 +481,11 @@ module _ (table : State → Setup → Outcome) (cut : ℕ) where
     stage_out s device.Over sent = record { holds = tt; quiet = tt }
     stage_out s stage sent = absurd sent
 
-    served_at_out : (d : DeviceView) (address : ℕ) (ready : Bool) → HasSent d.stage → AtOut (served table cut d (record { address = address; token = OutToken Data1 [] }) ready)
+    served_at_out : (d : DeviceView) (address : ℕ) (ready : Bool) → HasSent d.stage
+        → AtOut (served table cut d (record { address = address; token = OutToken Data1 [] }) ready)
     served_at_out d address ready sent =
-        either_out (address == d.state.address) (served_here table cut d (OutToken Data1 []) ready) (replies NoReply d.state d.stage false) (of ready) (record { holds = sent; quiet = tt })
+        either_out (address == d.state.address) (served_here table cut d (OutToken Data1 []) ready) (replies NoReply d.state d.stage false) (of ready)
+        (record { holds = sent; quiet = tt })
       where
         of : (ready : Bool) → AtOut (served_here table cut d (OutToken Data1 []) ready)
         of true = stage_out d.state d.stage sent
@@ -483,21 +501,17 @@ module _ (table : State → Setup → Outcome) (cut : ℕ) where
     out_after fate NakReply new kept holds quiet = (holds, nak_stall)
     out_after fate NoReply new kept holds quiet = (holds, none_stall)
 
-    pub status_out : (t : TransferView) (d : DeviceView) (fate : Fate) (ready : Bool) → is_lost_down fate ≡ false → HasSent d.stage × IsWhole table (sent_setup t.request) t.kept
-        → (let r = served table cut d (record { address = t.address; token = OutToken Data1 [] }) ready in StaysTogether stages.StatusOut (brought fate r.reply) (after_answer fate r).stage t)
-    status_out t d fate ready kept both =
+    pub status_out_together : (t : TransferView) (d : DeviceView) (fate : Fate) (ready : Bool) → is_lost_down fate ≡ false
+        → HasSent d.stage × IsWhole table (sent_setup t.request) t.kept
+        → (let r = served table cut d (record { address = t.address; token = OutToken Data1 [] }) ready in
+        StaysTogether stages.StatusOut (brought fate r.reply) (after_answer fate r).stage t)
+    status_out_together t d fate ready kept both =
         let r = served table cut d (record { address = t.address; token = OutToken Data1 [] }) ready in
         let held = served_at_out d t.address ready both.0 in
         let after = out_after {A = IsRefused table (sent_setup t.request)} fate r.reply r.device kept held.holds held.quiet in
         record { together = (after.0, both.1); refuses = after.1 }
 
     -- ---- a SETUP that the device has taken
-
-    same_count : (q : Setup) → (q.length == 0) ≡ true → q.length ≡ 0
-    same_count q e = grind (arith, nat_tests)
-
-    some_count : (q : Setup) → (q.length == 0) ≡ false → q.length ≡ 0 → ⊥
-    some_count q e none = grind (arith, nat_tests)
 
     pub begun_together : (q : Setup) (s : State) (stage : DeviceStage) → IsAsked q → stage ≡ device.begun (sent_setup q) (table s (sent_setup q))
         → TogetherBy (stage_after_setup q) q Data1 0 stage
@@ -536,6 +550,6 @@ module _ (table : State → Setup → Outcome) (cut : ℕ) where
 
         of : (none : Bool) → (q.length == 0) ≡ none → (direction_of q.request_type ≡ directions.In) ⊎ (q.length ≡ 0) → (o : Outcome) → table s r ≡ o
             → TogetherBy (if none then stages.StatusIn else data_stage (direction_of q.request_type)) q Data1 0 (device.begun r o)
-        of true z brings o e = carries (same_count q z) o e
-        of false z (inl way) o e = subst (λ w. TogetherBy (data_stage w) q Data1 0 (device.begun r o)) (sym way) (reads (some_count q z) way o e)
-        of false z (inr none) o e = absurd (some_count q z none)
+        of true z brings o e = carries (same_so q.length 0 z) o e
+        of false z (inl way) o e = subst (λ w. TogetherBy (data_stage w) q Data1 0 (device.begun r o)) (sym way) (reads (not_same q.length 0 z) way o e)
+        of false z (inr none) o e = absurd (not_same q.length 0 z none)

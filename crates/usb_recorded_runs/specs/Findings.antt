@@ -30,12 +30,12 @@ abbrev pub IsTransferFreeAfter : Finding → List ControlTransfer → List Contr
 IsTransferFreeAfter finding earlier [] = Unit {0}
 IsTransferFreeAfter finding earlier (t ∷ ts) = (holds finding (λ asked. said asked earlier) t ≡ false) × IsTransferFreeAfter finding (t ∷ earlier) ts
 
--- Of a device with these descriptors: the one that a request is for, by its type and its index in wValue and a string's language in
--- wIndex, or none (9.4.3),
+-- the descriptor that a request is for, of a device with these: by its type and index in wValue and a string's language in wIndex, or
+-- none (9.4.3)
 abbrev pub described_by : DescriptorFile → Setup → List ℕ
 described_by f q = unwrap_or (descriptor f (q.value / 256) (q.value % 256) q.index) []
 
--- and how a control transfer has ended.
+-- how a control transfer with such a device has ended
 pub record IsEnded (f : DescriptorFile) (t : ControlTransfer) : Type 0 where
   -- A STALL is the device's refusal of the request, in one of its states (9.2.7).
   pub refused : t.ending ≡ Stall → (s : State) × (answer f s t.setup ≡ Refused)
