@@ -166,6 +166,9 @@ def wrong():
         # Nine bytes, where bMaxPacketSize0 is eight, and two whole packets without an empty one after them.
         *read(7, "8006000200000900", SET[:9], 9),
         *asked(7, "800602030904ff00"), token("In", 7), sent("Data1", NAME[:8]), ACK, token("In", 7), sent("Data0", NAME[8:]), ACK, token("Out", 7), sent("Data1", b""), ACK,
+        # The status stage goes the way of the data, and then the other one: after two packets from the device, and to it without any.
+        *read(7, "8006000200000900", SET[:9])[:-3], token("In", 7), sent("Data1", b""), ACK, token("Out", 7), sent("Data1", b""), ACK,
+        *asked(7, "0009010000000000"), token("Out", 7), sent("Data1", b""), ACK, token("In", 7), sent("Data1", b""), ACK,
         setup, sent("Data1", bytes(8)), ACK, setup, sent("Data0", bytes(7)), STALL, setup, sent("Data0", bytes(8)), NAK,
         token("In", 8), FRAME, setup, packets.changed(sent("Data0", bytes(8)), [9]), setup, FRAME,
     ]

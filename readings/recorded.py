@@ -66,6 +66,7 @@ DAMAGES = {
 TRANSACTIONS = {
     "NoHandshake": "no handshake (8.5)", "NoRequest": "SETUP without eight bytes of DATA0 (8.5.3)", "SetupRefused": "NAK, STALL or NYET of SETUP (8.4.6.4)",
     "Toggle": "a wrong data toggle (8.5.3, 8.6)", "Long": "a packet over bMaxPacketSize0 (5.5.3, 9.6.1)", "NoShortPacket": "no short packet at the end (5.5.3, 8.5.3.2)",
+    "StatusDirection": "a status stage of the wrong way (8.5.3)",
 }
 
 
@@ -273,8 +274,6 @@ class Bus:
             return going
         if going is None:
             return None
-        # The host says with ACK that it has data from the device; a device that it took them, with ACK or NYET.
-        is_taken, is_of_data = token == "In" or shake in ("Ack", "Nyet"), token == ("In" if reads(going) else "Out")
         if shake == "Stall":
             going["ending"] = "stall", 0
         elif is_status(going, transaction):
@@ -283,7 +282,7 @@ class Bus:
             # Where the end has no time, that of the setup packet is left.
             going["time"] = going["time"] if time is None else time
             return going
-        if data and is_taken and is_of_data and data[0] == going["toggle"]:
+        if is_next(going, transaction):
             going["toggle"] = {"Data0": "Data1", "Data1": "Data0"}[going["toggle"]]
             going["length"] += len(data[1])
             going["last"] = len(data[1])
@@ -317,6 +316,7 @@ class Bus:
             "Long": token in ("In", "Out") and data and 0 < size < len(data[1]),
             "NoShortPacket": going and reads(going) and going["length"] < word(going["setup"], 6) and 0 < size <= going["last"]
             and shake != "Stall" and is_status(going, transaction),
+            "StatusDirection": going and is_complete(going, size) and is_next(going, transaction),
         }
         return [name for name in TRANSACTIONS if tests[name]]
 
@@ -338,6 +338,19 @@ def is_status(transfer, transaction):
     if not data or data[0] != "Data1":
         return False
     return token == "Out" and shake in ("Ack", "Nyet") if reads(transfer) else token == "In"
+
+
+def is_next(transfer, transaction):
+    """Whether a transaction brings the next packet of the data stage, which a device has to take with ACK or NYET (8.5.3, 8.6)."""
+    token, data, shake = (transaction[it] for it in ("token", "data", "handshake"))
+    if not data or data[0] != transfer["toggle"] or shake == "Stall":
+        return False
+    return token == "In" if reads(transfer) else token == "Out" and shake in ("Ack", "Nyet")
+
+
+def is_complete(transfer, size):
+    """Whether the data stage is over: with wLength bytes, or after a packet from the device that is shorter than this size (5.5.3)."""
+    return transfer["length"] >= word(transfer["setup"], 6) or (reads(transfer) and transfer["length"] > 0 and transfer["last"] < size)
 
 
 def has_wrong_toggle(transfer, token, data):
@@ -656,6 +669,9 @@ def said(data, with_data=True, brief=False, device=None, times=(None, None)):
     yield counted(recording.count, "frame") + ("" if last is None else f", {seconds(max(last - origin, 0))} seconds")
     if recording.count > recording.told:
         yield f"no transfer: {counted(recording.count - recording.told, 'frame')}"
+    replaced = sum(one["ending"][0] == "unseen" for one in recording.over)
+    if replaced:
+        yield f"another request came before the end: {counted(replaced, 'transfer')}"
     if recording.cut is not None:
         yield f"cut: {counted(len(data) - recording.cut, 'byte')} of what begins at {recording.cut}"
     kept = readings_of(recording.over)

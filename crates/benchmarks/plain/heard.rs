@@ -29,13 +29,14 @@ pub const DAMAGES: [&str; 6] = [
     "a wrong 5-bit CRC (8.3.5.1)",
     "a wrong 16-bit CRC (8.3.5.2)",
 ];
-pub const TRANSACTIONS: [&str; 6] = [
+pub const TRANSACTIONS: [&str; 7] = [
     "no handshake (8.5)",
     "SETUP without eight bytes of DATA0 (8.5.3)",
     "NAK, STALL or NYET of SETUP (8.4.6.4)",
     "a wrong data toggle (8.5.3, 8.6)",
     "a packet over bMaxPacketSize0 (5.5.3, 9.6.1)",
     "no short packet at the end (5.5.3, 8.5.3.2)",
+    "a status stage of the wrong way (8.5.3)",
 ];
 const DATA0: u8 = 0b0011;
 const DATA1: u8 = 0b1011;
@@ -166,11 +167,24 @@ impl Going {
         }
     }
 
-    fn takes(&mut self, it: &Transaction) {
-        let Some((kind, bytes)) = &it.data else { return };
+    /// Whether it brings the next packet of the data stage.
+    fn is_next(&self, it: &Transaction) -> bool {
         let is_of_data =
             (it.token == Token::In && self.reads()) || (it.token == Token::Out && !self.reads() && it.is_accepted());
-        if is_of_data && *kind == self.toggle {
+        let has_toggle = it.data.as_ref().is_some_and(|(kind, _)| *kind == self.toggle);
+        is_of_data && has_toggle && it.handshake != Some(STALL)
+    }
+
+    /// Whether the data stage is over, where whole packets have this size.
+    fn is_complete(&self, size: usize) -> bool {
+        let is_short = self.reads() && self.transfer.length > 0 && self.last < size;
+        is_short || self.transfer.length >= self.transfer.asked().into()
+    }
+
+    fn takes(&mut self, it: &Transaction) {
+        let is_next = self.is_next(it);
+        let Some((_, bytes)) = &it.data else { return };
+        if is_next {
             self.toggle ^= DATA0 ^ DATA1;
             self.transfer.length += bytes.len() as u32;
             self.last = bytes.len();
@@ -240,12 +254,14 @@ impl Bus {
             let is_short = going.reads() && going.transfer.length < going.transfer.asked().into();
             is_short && size > 0 && size <= going.last && it.handshake != Some(STALL) && going.is_status(it)
         });
+        let is_misdirected = going.is_some_and(|going| going.is_complete(size) && going.is_next(it));
         u8::from(it.handshake.is_none())
             | u8::from(it.token == Token::Setup && !is_request) << 1
             | u8::from(it.token == Token::Setup && it.handshake.is_some_and(|shake| shake != ACK)) << 2
             | u8::from(going.is_some_and(|going| going.has_wrong_toggle(it))) << 3
             | u8::from(is_long) << 4
             | u8::from(is_early) << 5
+            | u8::from(is_misdirected) << 6
     }
 
     /// The transfer that is over with a transaction.

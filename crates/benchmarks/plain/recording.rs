@@ -108,6 +108,7 @@ struct Recording {
     text: Text,
     count: u64,
     told: u64,
+    replaced: u64,
     origin: u64,
     last: Option<u64>,
     open: Vec<(u64, Transfer)>,
@@ -209,6 +210,7 @@ impl Recording {
     }
 
     fn end(&mut self, it: Transfer) {
+        self.replaced += u64::from(matches!(it.ending, Ending::Unseen));
         let found = self.conversations.take(&it);
         self.saw(Some(it.device), found.count_ones().into());
         transfer_line(&mut self.text, &it, self.origin);
@@ -257,6 +259,11 @@ impl Recording {
             self.text.count((self.count - self.told) as usize, "frame");
             self.text.end();
         }
+        if self.replaced > 0 {
+            self.text.put("another request came before the end: ");
+            self.text.count(self.replaced as usize, "transfer");
+            self.text.end();
+        }
         if left > 0 {
             self.text.put("cut: ");
             self.text.count(left, "byte");
@@ -276,6 +283,7 @@ pub fn tell(bytes: &[u8], piece: usize) -> Result<(Vec<u8>, bool), Fault> {
         text: Text(Vec::new()),
         count: 0,
         told: 0,
+        replaced: 0,
         origin: 0,
         last: None,
         open: Vec::new(),

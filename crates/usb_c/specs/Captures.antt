@@ -98,6 +98,7 @@ packet_number packets.SetupRefused = 9
 packet_number packets.Toggle = 10
 packet_number packets.Long = 11
 packet_number packets.NoShortPacket = 12
+packet_number packets.StatusDirection = 13
 
 abbrev pub packet_numbers : BusFinding → NzgRecorded
 packet_numbers found = record no_numbers {

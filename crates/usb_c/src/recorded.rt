@@ -168,5 +168,6 @@ fn packet_number(finding: PacketFinding) -> u8
         PacketFinding::Toggle => 10,
         PacketFinding::Long => 11,
         PacketFinding::NoShortPacket => 12,
+        PacketFinding::StatusDirection => 13,
     }
 }

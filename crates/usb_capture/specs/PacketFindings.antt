@@ -1,5 +1,5 @@
 -- What chapter 8 of USB 2.0 forbids, in packets and in transactions with endpoint zero.
-use Rattle.std.specs.Prelude.{ℕ, ◌==◌, ◌&&◌, nat_le, nat_lt, Bool, true, false, not, List, Option, Some, None, is_some, Result, Ok, Err}
+use Rattle.std.specs.Prelude.{ℕ, ◌==◌, ◌&&◌, ◌||◌, nat_le, nat_lt, Bool, true, false, not, List, Option, Some, None, is_some, Result, Ok, Err}
 use Rattle.usb_fields.specs.declared.setup.Direction.{Direction}
 use Rattle.usb_fields.specs.declared.setup.Direction.TheVariants.{In, Out}
 use Rattle.usb_fields.specs.declared.setup.Setup.{Setup}
@@ -13,10 +13,10 @@ use Rattle.usb_capture.specs.declared.bus_packet.PacketFault.TheVariants as faul
 use Rattle.usb_capture.specs.declared.control_transfer.ControlTransfer.{ControlTransfer}
 use Rattle.usb_capture.specs.declared.data_toggle.DataToggle.{DataToggle}
 use Rattle.usb_capture.specs.declared.data_toggle.Part.{Part}
-use Rattle.usb_capture.specs.declared.data_toggle.Part.TheVariants.{Status}
+use Rattle.usb_capture.specs.declared.data_toggle.Part.TheVariants.{Data, Status}
 use Rattle.usb_capture.specs.declared.ending.Ending.TheVariants.{Done}
 use Rattle.usb_capture.specs.declared.packet_finding.PacketFinding.{PacketFinding}
-use Rattle.usb_capture.specs.declared.packet_finding.PacketFinding.TheVariants.{Damaged, NoHandshake, NoRequest, SetupRefused, Toggle, Long, NoShortPacket}
+use Rattle.usb_capture.specs.declared.packet_finding.PacketFinding.TheVariants.{Damaged, NoHandshake, NoRequest, SetupRefused, Toggle, Long, NoShortPacket, StatusDirection}
 use Rattle.usb_capture.specs.declared.transaction.Transaction.{Transaction}
 use Rattle.usb_capture.specs.BusTransfers.{Pipes, data_direction, is_wrong_in, part_in, pipes_in, request_of, toggle_at, transfers_in}
 use Rattle.usb_capture.specs.PacketSizes.{is_long, size_at, sizes_in}
@@ -85,6 +85,30 @@ is_early_at None (Some transfer) size transaction pipes = is_early_in transfer (
 abbrev pub is_early : ℕ → Transaction → Pipes → Bool
 is_early size transaction pipes = is_early_at (request_of transaction) (open_with transaction.to.address pipes.held) size transaction pipes
 
+-- The status stage goes the way of the data stage, and not back (8.5.3): one more packet of it is the next one, though all bytes
+-- went that were asked for, or the last packet from the device was shorter than a whole one, which ends a data stage (5.5.3).
+abbrev pub is_data_part : Part → Bool
+is_data_part Data = true
+is_data_part part = false
+
+abbrev pub is_complete_in : ControlTransfer → DataToggle → ℕ → Bool
+is_complete_in transfer toggle size =
+    nat_le transfer.setup.length transfer.length
+    || (is_reading_data (data_direction transfer.setup) && nat_lt 0 transfer.length && nat_lt toggle.last size)
+
+abbrev pub is_misdirected_in : ControlTransfer → DataToggle → ℕ → Transaction → Bool
+is_misdirected_in transfer toggle size transaction =
+    is_complete_in transfer toggle size && is_data_part (part_in (data_direction transfer.setup) toggle transaction)
+
+abbrev pub is_misdirected_at : Option Setup → Option ControlTransfer → ℕ → Transaction → Pipes → Bool
+is_misdirected_at (Some request) transfer size transaction pipes = false
+is_misdirected_at None None size transaction pipes = false
+is_misdirected_at None (Some transfer) size transaction pipes = is_misdirected_in transfer (toggle_at transaction.to.address pipes) size transaction
+
+abbrev pub is_misdirected : ℕ → Transaction → Pipes → Bool
+is_misdirected size transaction pipes =
+    is_misdirected_at (request_of transaction) (open_with transaction.to.address pipes.held) size transaction pipes
+
 -- whether this is wrong in a transaction, with these open transfers and these sizes
 abbrev pub is_found_at : PacketFinding → Pipes → List ℕ → Transaction → Bool
 is_found_at (Damaged damage) pipes sizes transaction = false
@@ -94,6 +118,7 @@ is_found_at SetupRefused pipes sizes transaction = refuses_setup transaction
 is_found_at Toggle pipes sizes transaction = has_wrong_toggle transaction pipes
 is_found_at Long pipes sizes transaction = is_long sizes transaction
 is_found_at NoShortPacket pipes sizes transaction = is_early (size_at transaction.to.address sizes) transaction pipes
+is_found_at StatusDirection pipes sizes transaction = is_misdirected (size_at transaction.to.address sizes) transaction pipes
 
 -- the same of one that comes after these transactions
 abbrev pub is_found : PacketFinding → List Transaction → Transaction → Bool

@@ -82,6 +82,10 @@ impl BusTransfers {
                 let size = self.sizes.size_at(transaction.to.address);
                 self.pipes.is_early(size, transaction)
             }
+            PacketFinding::StatusDirection => {
+                let size = self.sizes.size_at(transaction.to.address);
+                self.pipes.is_misdirected(size, transaction)
+            }
         }
     }
 }

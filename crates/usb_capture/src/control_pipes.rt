@@ -1,7 +1,7 @@
 //! What goes on at the default control pipes of devices.
 ghost use Rattle.std.specs.Prelude.{◌≡◌, ◌++◌, ◌∷◌, [], IfOk, OnOk, OnErr};
 ghost use Rattle.usb_capture.specs.BusTransfers.{first_toggles, gone_on, none_open, over_with_part, part_at, pipes_after, pipes_of, transfer_over, with_open};
-ghost use Rattle.usb_capture.specs.PacketFindings.{has_wrong_toggle, is_done_part, is_early, is_early_in};
+ghost use Rattle.usb_capture.specs.PacketFindings.{has_wrong_toggle, is_complete_in, is_data_part, is_done_part, is_early, is_early_in, is_misdirected, is_misdirected_in, is_reading_data};
 ghost use Rattle.usb_capture.specs.Transfers.{without};
 
 use crate::bus_transfer::{begin, data_direction, end, put_packet, request_of};
@@ -64,6 +64,24 @@ impl ControlPipes {
         match (request_of(transaction), self.held.get(u64::from(address))) {
             (None, Some(transfer)) => {
                 is_early_in(
+                    transfer,
+                    self.toggles[usize::from(address)],
+                    size,
+                    transaction,
+                )
+            }
+            _ => false,
+        }
+    }
+
+    /// Whether a transaction that comes next goes on with a data stage that is complete, of a device with this size.
+    pub(crate) fn is_misdirected(&self, size: u8, transaction: &Transaction) -> bool
+        ensures { result ≡ is_misdirected size transaction.now (pipes_of self.now) }
+    {
+        let address = transaction.to.address;
+        match (request_of(transaction), self.held.get(u64::from(address))) {
+            (None, Some(transfer)) => {
+                is_misdirected_in(
                     transfer,
                     self.toggles[usize::from(address)],
                     size,
@@ -156,15 +174,54 @@ fn is_early_in(
     ensures { result ≡ is_early_in transfer.now toggle size transaction.now }
 {
     let direction = data_direction(&transfer.setup);
-    let is_reading = match direction {
-        Direction::In => true,
-        Direction::Out => false,
-    };
-    is_reading
+    is_reading_data(direction)
         && transfer.length < u32::from(transfer.setup.length)
         && size != 0
         && toggle.last >= usize::from(size)
         && is_done_part(toggle.part_in(direction, transaction))
+}
+
+/// Whether a transaction goes on with the data stage of this transfer, which is complete.
+fn is_misdirected_in(
+    transfer: &ControlTransfer,
+    toggle: DataToggle,
+    size: u8,
+    transaction: &Transaction,
+) -> bool
+    ensures { result ≡ is_misdirected_in transfer.now toggle size transaction.now }
+{
+    let direction = data_direction(&transfer.setup);
+    is_complete_in(transfer, toggle, size) && is_data_part(toggle.part_in(direction, transaction))
+}
+
+/// Whether the data stage of a transfer is complete: with all bytes that were asked for, or with a shorter packet from the device.
+fn is_complete_in(transfer: &ControlTransfer, toggle: DataToggle, size: u8) -> bool
+    ensures { result ≡ is_complete_in transfer.now toggle size }
+{
+    transfer.length >= u32::from(transfer.setup.length)
+        || (is_reading_data(data_direction(&transfer.setup))
+            && transfer.length > 0
+            && toggle.last < usize::from(size))
+}
+
+/// Whether the data of a transfer come from the device.
+fn is_reading_data(direction: Direction) -> bool
+    ensures { result ≡ is_reading_data direction }
+{
+    match direction {
+        Direction::In => true,
+        Direction::Out => false,
+    }
+}
+
+/// Whether it is the next packet of the data stage.
+fn is_data_part(part: Part) -> bool
+    ensures { result ≡ is_data_part part }
+{
+    match part {
+        Part::Data => true,
+        _ => false,
+    }
 }
 
 /// Whether it ends a transfer whose stages were all done.

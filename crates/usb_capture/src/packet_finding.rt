@@ -26,17 +26,20 @@ pub enum PacketFinding {
     /// The status stage comes after fewer bytes than were asked for and a whole packet, where a shorter or an empty one has to come
     /// first (5.5.3, 8.5.3.2).
     NoShortPacket,
+    /// The status stage goes the way of the data stage (8.5.3): one more packet of it comes after its end.
+    StatusDirection,
 }
 
 impl PacketFinding {
     /// Those that a transaction can have, in the order in which they are reported.
-    pub const OF_TRANSACTIONS: [PacketFinding; 6] = [
+    pub const OF_TRANSACTIONS: [PacketFinding; 7] = [
         PacketFinding::NoHandshake,
         PacketFinding::NoRequest,
         PacketFinding::SetupRefused,
         PacketFinding::Toggle,
         PacketFinding::Long,
         PacketFinding::NoShortPacket,
+        PacketFinding::StatusDirection,
     ];
 
     /// What is wrong in a packet by itself.

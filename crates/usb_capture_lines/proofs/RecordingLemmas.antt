@@ -17,7 +17,7 @@ use Rattle.usb_text.specs.declared.output.OutFault.{OutFault}
 use Rattle.usb_text.specs.declared.output.OutFault.TheVariants as outs
 use Rattle.usb_text.proofs.Pages.{appends_more}
 use Rattle.usb_capture_lines.specs.Observations.{Observed, events, decoded_of, transactions}
-use Rattle.usb_capture_lines.specs.Recordings.{ended_text, finds_any, last_lines, readings_in, tally_of, reported_text}
+use Rattle.usb_capture_lines.specs.Recordings.{ended_text, finds_any, last_lines, readings_in, replaced_of, tally_of, reported_text}
 use Rattle.usb_capture_lines.specs.RecordingTellers.{Halts, HasReported, IsRecording, Recorded, RecordedUpTo, TellerReported, ReportedBroken, ReportedUpTo, ReportedWhole, fault_of_output, if_begun, tell_fault_of}
 use Rattle.usb_capture_lines.specs.Telling.{HasSaid}
 use Rattle.usb_capture_lines.specs.declared.recording_teller.RecordingTeller.{RecordingTeller}
@@ -51,7 +51,7 @@ lines_reported s first frames teller held holds t =
 -- the last lines of who reported frames
 abbrev pub lines_of_last : Teller → ℕ → ℕ → List ℕ
 lines_of_last teller place left =
-    last_lines teller.selection teller.tally teller.observer.decoded teller.observer.controls.held.items teller.observer.transfers.pipes.held.held.items teller.readings.readings.kept.items teller.devices.items place left
+    last_lines teller.selection teller.tally teller.observer.decoded teller.replaced teller.observer.controls.held.items teller.observer.transfers.pipes.held.held.items teller.readings.readings.kept.items teller.devices.items place left
 
 pub last_reported : (s : Selection) (first : ℕ) (frames : List Frame) (teller : Teller) (held holds : Held) (t : TellerReported s first frames teller held holds) (place left : ℕ)
     → lines_of_last teller place left ≡ ended_text s (reverse frames) t.observed place left
@@ -63,15 +63,18 @@ last_reported s first frames teller held holds t place left =
     let kept = teller.readings.readings.kept.items in
     let devices = teller.devices.items in
     let tally = tally_of (reverse frames) in
+    let decoded = decoded_of t.observed in
+    let replaced = replaced_of t.observed in
     let open_hosts = open_after [] (events t.observed) in
     let open_pipes = (pipes_in (transactions t.observed)).held in
-    ap (λ x. last_lines x teller.tally observer.decoded hosts pipes kept devices place left) t.selection
-    ∙ ap (λ x. last_lines s x observer.decoded hosts pipes kept devices place left) has.tally
-    ∙ ap (λ x. last_lines s tally x hosts pipes kept devices place left) has.observer.decoded
-    ∙ ap (λ x. last_lines s tally (decoded_of t.observed) x pipes kept devices place left) has.observer.taken.0
-    ∙ ap (λ (x : Pipes). last_lines s tally (decoded_of t.observed) open_hosts x.held kept devices place left) has.observer.made.0
-    ∙ ap (λ x. last_lines s tally (decoded_of t.observed) open_hosts open_pipes x devices place left) has.kept
-    ∙ ap (λ x. last_lines s tally (decoded_of t.observed) open_hosts open_pipes (readings_in t.observed) x place left) has.devices
+    ap (λ x. last_lines x teller.tally observer.decoded teller.replaced hosts pipes kept devices place left) t.selection
+    ∙ ap (λ x. last_lines s x observer.decoded teller.replaced hosts pipes kept devices place left) has.tally
+    ∙ ap (λ x. last_lines s tally x teller.replaced hosts pipes kept devices place left) has.observer.decoded
+    ∙ ap (λ x. last_lines s tally decoded x hosts pipes kept devices place left) has.replaced
+    ∙ ap (λ x. last_lines s tally decoded replaced x pipes kept devices place left) has.observer.taken.0
+    ∙ ap (λ (x : Pipes). last_lines s tally decoded replaced open_hosts x.held kept devices place left) has.observer.made.0
+    ∙ ap (λ x. last_lines s tally decoded replaced open_hosts open_pipes x devices place left) has.kept
+    ∙ ap (λ x. last_lines s tally decoded replaced open_hosts open_pipes (readings_in t.observed) x place left) has.devices
 
 -- what it keeps of readings
 pub readings_reported : (s : Selection) (first : ℕ) (frames : List Frame) (teller : Teller) (held holds : Held) (t : TellerReported s first frames teller held holds)

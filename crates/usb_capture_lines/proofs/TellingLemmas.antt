@@ -10,7 +10,7 @@ use Rattle.usb_capture.specs.DeviceReadings.{HasCurrent}
 use Rattle.usb_text.specs.Output.{Held}
 use Rattle.usb_text.proofs.Pages.{appends_more}
 use Rattle.usb_capture_lines.specs.Observations.{Completes, HasObserved, Observed, IsObserved, found_by, frame_count, one_more, over_by, overs}
-use Rattle.usb_capture_lines.specs.Recordings.{bus_lines, counted, counted_first, first_part, met, met_all, met_in, over_lines, tally_of, reported_text}
+use Rattle.usb_capture_lines.specs.Recordings.{bus_lines, counted, counted_first, first_part, met, met_all, met_in, over_lines, replaced_in, replaced_of, tally_of, reported_text}
 use Rattle.usb_capture_lines.specs.BusFindings.{device_of}
 use Rattle.usb_capture_lines.specs.declared.completed.Completed.{Completed}
 use Rattle.usb_capture_lines.specs.declared.bus_finding.BusFinding.{BusFinding}
@@ -43,12 +43,13 @@ pub said_more : (frames : List Frame) (observed : List Observed) (f : Frame) (x 
     → next.devices.items ≡ met_in (overs observed) completed.transfer mid.devices.items
     → Appends b c (over_lines mid.selection mid.tally.origin (overs observed) completed.transfer)
     → HasCurrent (reverse (overs observed) ++ option_to_list completed.transfer) next.readings
+    → next.replaced ≡ replaced_in completed.transfer mid.replaced
     → next.tally ≡ mid.tally → next.selection ≡ mid.selection → next.first ≡ mid.first
     → new ≡ record next { devices = new.devices }
     → new.devices.items ≡ met_all completed.found.items next.devices.items
     → Appends c d (bus_lines next.selection next.tally.origin completed.found.items)
     → HasSaid (f ∷ frames) (x ∷ observed) new held d
-said_more frames observed f x completed old mid next new held a b c d has mid-is head is observer completes knows next-devices lines kept tally selection first new-is devices found =
+said_more frames observed f x completed old mid next new held a b c d has mid-is head is observer completes knows next-devices lines kept replaced tally selection first new-is devices found =
     let after : mid.tally ≡ tally_of (f ∷ frames) = ap (λ (t : Teller). t.tally) mid-is ∙ ap (counted f) has.tally in
     let next-tally : next.tally ≡ tally_of (f ∷ frames) = tally ∙ after in
     let mid-selection : mid.selection ≡ new.selection = sym (ap (λ (t : Teller). t.selection) new-is ∙ selection) in
@@ -81,6 +82,8 @@ said_more frames observed f x completed old mid next new held a b c d has mid-is
           ∙ ap (met_all (found_by observed x)) (next-devices ∙ ap (λ o. met_in (overs observed) o mid.devices.items) completes.transfer
           ∙ ap (met_in (overs observed) (over_by observed x)) (ap (λ (t : Teller). t.devices.items) mid-is ∙ has.devices));
       tally = ap (λ (t : Teller). t.tally) new-is ∙ next-tally;
+      replaced = ap (λ (t : Teller). t.replaced) new-is ∙ replaced ∙ ap (λ o. replaced_in o mid.replaced) completes.transfer
+          ∙ ap (replaced_in (over_by observed x)) (ap (λ (t : Teller). t.replaced) mid-is ∙ has.replaced);
       written = appends_more held b d _ _ (appends_more held a b _ _ before begun) (appends_more b c d _ _ over packets);
     }
 

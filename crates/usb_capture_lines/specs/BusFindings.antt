@@ -3,7 +3,7 @@ use Rattle.std.specs.Prelude.{ℕ, Bool, true, false, List, [], ◌∷◌, ◌++
 use Rattle.std.specs.List.{flat_map}
 use Rattle.std.specs.Option.{option_map, option_to_list}
 use Rattle.usb_capture.specs.declared.packet_finding.PacketFinding.{PacketFinding}
-use Rattle.usb_capture.specs.declared.packet_finding.PacketFinding.TheVariants.{NoHandshake, NoRequest, SetupRefused, Toggle, Long, NoShortPacket}
+use Rattle.usb_capture.specs.declared.packet_finding.PacketFinding.TheVariants.{NoHandshake, NoRequest, SetupRefused, Toggle, Long, NoShortPacket, StatusDirection}
 use Rattle.usb_capture.specs.declared.recorded_packet.RecordedPacket.{RecordedPacket}
 use Rattle.usb_capture.specs.declared.transaction.Transaction.{Transaction}
 use Rattle.usb_capture.specs.PacketFindings.{damage_in, is_found}
@@ -37,7 +37,7 @@ abbrev pub found_one : List Transaction → Transaction → PacketFinding → Li
 found_one before t finding = found_if (is_found finding before t) t finding
 
 abbrev pub transaction_findings : List PacketFinding
-transaction_findings = NoHandshake ∷ NoRequest ∷ SetupRefused ∷ Toggle ∷ Long ∷ NoShortPacket ∷ []
+transaction_findings = NoHandshake ∷ NoRequest ∷ SetupRefused ∷ Toggle ∷ Long ∷ NoShortPacket ∷ StatusDirection ∷ []
 
 abbrev pub transaction_found : List Transaction → Option Transaction → List BusFinding
 transaction_found before None = []

@@ -8,7 +8,7 @@ use Rattle.usb_wire.specs.declared.damage.Damage.TheVariants.{Empty, Pid, Reserv
 use Rattle.usb_capture.specs.declared.finding.Finding.{Finding}
 use Rattle.usb_capture.specs.declared.finding.Finding.TheVariants.{MoreThanAsked, OtherType, OtherLength, OtherBytes, RefusesGiven, RefusesRequired, RefusesCounted, RefusesNamed, RefusesStatus, RefusesAddress, RefusesConfiguration, TakesConfiguration, OtherConfiguration, GivesUncounted}
 use Rattle.usb_capture.specs.declared.packet_finding.PacketFinding.{PacketFinding}
-use Rattle.usb_capture.specs.declared.packet_finding.PacketFinding.TheVariants.{Damaged, NoHandshake, NoRequest, SetupRefused, Toggle, Long, NoShortPacket}
+use Rattle.usb_capture.specs.declared.packet_finding.PacketFinding.TheVariants.{Damaged, NoHandshake, NoRequest, SetupRefused, Toggle, Long, NoShortPacket, StatusDirection}
 use Rattle.usb_capture_lines.specs.BusFindings.{device_of}
 use Rattle.usb_capture_lines.specs.Lines.{address_words, time_column}
 use Rattle.usb_capture_lines.specs.declared.bus_finding.BusFinding.{BusFinding}
@@ -61,6 +61,7 @@ packet_words SetupRefused = codes "NAK, STALL or NYET of SETUP (8.4.6.4)"
 packet_words Toggle = codes "a wrong data toggle (8.5.3, 8.6)"
 packet_words Long = codes "a packet over bMaxPacketSize0 (5.5.3, 9.6.1)"
 packet_words NoShortPacket = codes "no short packet at the end (5.5.3, 8.5.3.2)"
+packet_words StatusDirection = codes "a status stage of the wrong way (8.5.3)"
 
 -- in packets: when it was, whose it is, what is wrong, and which frame has the packet or the token of the transaction
 unfoldable pub bus_finding_line : ℕ → BusFinding → List ℕ

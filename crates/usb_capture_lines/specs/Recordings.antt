@@ -10,6 +10,8 @@ use Rattle.usb_text.specs.Lines.{column}
 use Rattle.usb_text.specs.Numbers.{count}
 use Rattle.usb_capture.specs.declared.asked.Asked.{Asked}
 use Rattle.usb_capture.specs.declared.control_transfer.ControlTransfer.{ControlTransfer}
+use Rattle.usb_capture.specs.declared.ending.Ending.{Ending}
+use Rattle.usb_capture.specs.declared.ending.Ending.TheVariants.{Unseen}
 use Rattle.usb_capture.specs.declared.finding.Finding.{Finding}
 use Rattle.usb_capture.specs.declared.frame.Frame.{Frame}
 use Rattle.usb_capture.specs.declared.open_transfer.OpenTransfer.{OpenTransfer}
@@ -108,6 +110,23 @@ abbrev pub tally_of : List Frame → Tally
 tally_of [] = none_counted
 tally_of (f ∷ earlier) = counted f (tally_of earlier)
 
+-- How many transfers are over without an end, since the next request came before it: a device takes a SETUP at any time (8.5.3).
+
+abbrev pub is_unseen : Ending → Bool
+is_unseen Unseen = true
+is_unseen ending = false
+
+abbrev pub replaced_with : ControlTransfer → ℕ → ℕ
+replaced_with t n = if is_unseen t.ending then one_more n else n
+
+abbrev pub replaced_in : Option ControlTransfer → ℕ → ℕ
+replaced_in None n = n
+replaced_in (Some t) n = replaced_with t n
+
+abbrev pub replaced_of : List Observed → ℕ
+replaced_of [] = 0
+replaced_of (x ∷ earlier) = replaced_in (over_by earlier x) (replaced_of earlier)
+
 -- The devices of a recording, in the order in which they are first seen, each with how many findings it has. Those of packets
 -- of which no device is known are counted together.
 
@@ -154,12 +173,16 @@ span_words origin (Some last) = codes ", " ++ seconds_words (last - origin) ++ c
 abbrev pub undecoded_part : ℕ → List ℕ
 undecoded_part n = if n == 0 then [] else codes "no transfer: " ++ count n (codes "frame") ++ codes "\n"
 
+abbrev pub replaced_part : ℕ → List ℕ
+replaced_part n = if n == 0 then [] else codes "another request came before the end: " ++ count n (codes "transfer") ++ codes "\n"
+
 unfoldable pub frames_line : ℕ → ℕ → Option ℕ → List ℕ
 frames_line n origin last = count n (codes "frame") ++ span_words origin last ++ codes "\n"
 
--- frames, and those that tell of no transfer, where this many do
-unfoldable pub counts_lines : Tally → ℕ → List ℕ
-counts_lines tally decoded = frames_line tally.frames tally.origin tally.last ++ undecoded_part (tally.frames - decoded)
+-- frames, and those that tell of no transfer, where this many do; transfers before whose end the next request came
+unfoldable pub counts_lines : Tally → ℕ → ℕ → List ℕ
+counts_lines tally decoded replaced =
+    frames_line tally.frames tally.origin tally.last ++ undecoded_part (tally.frames - decoded) ++ replaced_part replaced
 
 -- this many bytes are left of a part that isn't whole, which begins at this place
 abbrev pub cut_line : ℕ → ℕ → List ℕ
@@ -225,10 +248,10 @@ abbrev pub open_lines : Selection → ℕ → List OpenTransfer → List ℕ
 open_lines s origin opens = flat_map (λ one. lines_of s origin one.transfer []) opens
 
 -- transfers without an end, of hosts and of the bus; counts, a cut, and devices
-unfoldable pub last_lines : Selection → Tally → ℕ → List OpenTransfer → List OpenTransfer → List ControlTransfer → List SeenDevice → ℕ → ℕ → List ℕ
-last_lines s tally decoded hosts pipes kept devices place left =
+unfoldable pub last_lines : Selection → Tally → ℕ → ℕ → List OpenTransfer → List OpenTransfer → List ControlTransfer → List SeenDevice → ℕ → ℕ → List ℕ
+last_lines s tally decoded replaced hosts pipes kept devices place left =
     open_lines s tally.origin hosts ++ open_lines s tally.origin pipes
-    ++ counts_lines tally decoded ++ cut_line place left ++ device_lines s kept devices
+    ++ counts_lines tally decoded replaced ++ cut_line place left ++ device_lines s kept devices
 
 -- The whole, of frames and of what is observed in them: in these lists the last one comes first.
 
@@ -252,8 +275,8 @@ readings_in observed = current_after [] (reverse (overs observed))
 -- and at its end, where this many bytes are left of a part that isn't whole and begins at this place
 abbrev pub ended_text : Selection → List Frame → List Observed → ℕ → ℕ → List ℕ
 ended_text s frames observed place left =
-    last_lines s (tally_of frames) (decoded_of observed) (open_after [] (events observed)) (pipes_in (transactions observed)).held (readings_in observed)
-    (devices_of observed) place left
+    last_lines s (tally_of frames) (decoded_of observed) (replaced_of observed) (open_after [] (events observed)) (pipes_in (transactions observed)).held
+    (readings_in observed) (devices_of observed) place left
 
 abbrev pub capture_text : Selection → ℕ → List Frame → List Observed → ℕ → ℕ → List ℕ
 capture_text s first frames observed place left = reported_text s first frames observed ++ ended_text s frames observed place left

@@ -6,7 +6,7 @@ use Rattle.usb_capture.specs.Conversations.{Knows}
 use Rattle.usb_capture.specs.DeviceReadings.{HasCurrent}
 use Rattle.usb_text.specs.Output.{Held}
 use Rattle.usb_capture_lines.specs.Observations.{AreObserved, HasObserved, Observed, overs}
-use Rattle.usb_capture_lines.specs.Recordings.{devices_of, tally_of, reported_text}
+use Rattle.usb_capture_lines.specs.Recordings.{devices_of, replaced_of, tally_of, reported_text}
 use Rattle.usb_capture_lines.specs.declared.teller.Teller.{Teller}
 
 -- frames were taken in which this was observed, and what is to be said of them was written; the last ones come first
@@ -17,4 +17,5 @@ pub record HasSaid (frames : List Frame) (observed : List Observed) (teller : Te
   pub kept : HasCurrent (reverse (overs observed)) teller.readings
   pub devices : teller.devices.items ≡ devices_of observed
   pub tally : teller.tally ≡ tally_of frames
+  pub replaced : teller.replaced ≡ replaced_of observed
   pub written : Appends held holds (reported_text teller.selection teller.first frames observed)

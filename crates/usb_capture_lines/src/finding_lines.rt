@@ -137,6 +137,7 @@ pub fn packet_words(finding: PacketFinding) -> &'static str
         PacketFinding::Toggle => "a wrong data toggle (8.5.3, 8.6)",
         PacketFinding::Long => "a packet over bMaxPacketSize0 (5.5.3, 9.6.1)",
         PacketFinding::NoShortPacket => "no short packet at the end (5.5.3, 8.5.3.2)",
+        PacketFinding::StatusDirection => "a status stage of the wrong way (8.5.3)",
     }
 }
 

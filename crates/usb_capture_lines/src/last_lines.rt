@@ -3,7 +3,7 @@ ghost use Rattle.std.specs.Prelude.{◌≡◌, ◌++◌, find, OnOk};
 ghost use Rattle.std.specs.Option.{option_copied};
 ghost use Rattle.usb_text.specs.Lines.{column};
 ghost use Rattle.usb_capture_lines.specs.Lines.{address_words};
-ghost use Rattle.usb_capture_lines.specs.Recordings.{counts_lines, cut_line, device_line, device_lines, device_part, device_words, findings_words, finds_any, first_line, has_findings, form_words, frames_line, is_reading_of, link_words, no_device_line, product_words, seen_line, set_length_words, set_words, span_words, undecoded_part};
+ghost use Rattle.usb_capture_lines.specs.Recordings.{counts_lines, cut_line, device_line, device_lines, device_part, device_words, findings_words, finds_any, first_line, has_findings, form_words, frames_line, is_reading_of, link_words, no_device_line, product_words, replaced_part, seen_line, set_length_words, set_words, span_words, undecoded_part};
 
 use crate::seen_device::SeenDevice;
 use crate::selection::{DeviceAddress, Selection};
@@ -54,13 +54,20 @@ fn put_link(text: &mut Text, link: u16) -> Result<(), AllocError>
     }
 }
 
-/// Puts how many frames there were, in which time, and how many of them are neither an event nor a whole packet, where some are.
+/// Puts how many frames there were, in which time, and how many of them are neither an event nor a whole packet, where some are;
+/// then before the end of how many transfers the next request came, where there are any.
 #[tactic(auto, unfolding(crate::specs::Recordings::counts_lines))]
-pub(crate) fn put_counts(text: &mut Text, tally: &Tally, decoded: u64) -> Result<(), AllocError>
-    ensures { OnOk result (text.new ≡ text.old ++ counts_lines tally.now decoded) }
+pub(crate) fn put_counts(
+    text: &mut Text,
+    tally: &Tally,
+    decoded: u64,
+    replaced: u64,
+) -> Result<(), AllocError>
+    ensures { OnOk result (text.new ≡ text.old ++ counts_lines tally.now decoded replaced) }
 {
     put_frames(text, tally.frames, tally.origin, tally.last)?;
-    put_undecoded(text, tally.frames.saturating_sub(decoded))
+    put_undecoded(text, tally.frames.saturating_sub(decoded))?;
+    put_replaced(text, replaced)
 }
 
 #[tactic(auto, unfolding(crate::specs::Recordings::frames_line))]
@@ -91,6 +98,17 @@ fn put_undecoded(text: &mut Text, count: u64) -> Result<(), AllocError>
     }
     text.put("no transfer: ")?;
     put_count(text, count, "frame")?;
+    text.put("\n")
+}
+
+fn put_replaced(text: &mut Text, count: u64) -> Result<(), AllocError>
+    ensures { OnOk result (text.new ≡ text.old ++ replaced_part count) }
+{
+    if count == 0 {
+        return Ok(());
+    }
+    text.put("another request came before the end: ")?;
+    put_count(text, count, "transfer")?;
     text.put("\n")
 }
 

@@ -1,9 +1,9 @@
 //! What of a recording is counted.
 ghost use Rattle.std.specs.Prelude.{◌≡◌};
 ghost use Rattle.usb_capture_lines.specs.Observations.{one_more};
-ghost use Rattle.usb_capture_lines.specs.Recordings.{counted, none_counted};
+ghost use Rattle.usb_capture_lines.specs.Recordings.{counted, is_unseen, none_counted, replaced_with};
 
-use usb_capture::Frame;
+use usb_capture::{ControlTransfer, Ending, Frame};
 
 /// What of a recording is counted.
 #[derive(Clone, Copy, Debug, PartialEq, Eq, Hash)]
@@ -49,6 +49,27 @@ impl Tally {
                 ..self
             },
         }
+    }
+}
+
+/// How many transfers are over before whose end the next request came, with this one.
+pub(crate) fn replaced_with(transfer: &ControlTransfer, count: u64) -> u64
+    ensures { result ≡ replaced_with transfer.now count }
+{
+    if is_unseen(transfer.ending) {
+        one_more(count)
+    } else {
+        count
+    }
+}
+
+/// Whether the end of a transfer isn't in the recording.
+fn is_unseen(ending: Ending) -> bool
+    ensures { result ≡ is_unseen ending }
+{
+    match ending {
+        Ending::Unseen => true,
+        Ending::Done | Ending::Stall | Ending::Failed(_) | Ending::Refused(_) => false,
     }
 }
 

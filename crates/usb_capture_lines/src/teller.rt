@@ -10,7 +10,7 @@ ghost use Rattle.usb_capture.specs.DeviceReadings.{HasCurrent};
 ghost use Rattle.usb_capture.specs.Findings.{findings};
 ghost use Rattle.usb_text.specs.Output.{Held};
 ghost use Rattle.usb_capture_lines.specs.Observations.{Observed};
-ghost use Rattle.usb_capture_lines.specs.Recordings.{address_of, asked_at, bus_lines, counted, finds_any, first_part, last_lines, lines_of, met, met_all, met_in, open_lines, over_lines};
+ghost use Rattle.usb_capture_lines.specs.Recordings.{address_of, asked_at, bus_lines, counted, finds_any, first_part, last_lines, lines_of, met, met_all, met_in, open_lines, over_lines, replaced_in, replaced_with};
 ghost use Rattle.usb_capture_lines.specs.Telling.{HasSaid};
 
 use crate::bus_finding::BusFinding;
@@ -20,7 +20,7 @@ use crate::last_lines::{finds_any, put_counts, put_cut, put_devices, put_first_l
 use crate::observer::Observer;
 use crate::seen_device::{SeenDevice, meet, meet_all};
 use crate::selection::{DeviceAddress, Selection, time_of};
-use crate::tally::Tally;
+use crate::tally::{Tally, replaced_with};
 use crate::transfer_line::put_transfer;
 use std::alloc::{AllocError, Global};
 use std::io::Write;
@@ -53,6 +53,8 @@ pub struct Teller {
     readings: DeviceReadings,
     devices: Vec<SeenDevice>,
     tally: Tally,
+    /// How many transfers are over before whose end the next request came.
+    replaced: u64,
 }
 
 impl Teller {
@@ -71,6 +73,7 @@ impl Teller {
             readings: DeviceReadings::new(alloc),
             devices: Vec::new(alloc),
             tally: Tally::new(),
+            replaced: 0,
         }
     }
 
@@ -124,6 +127,7 @@ impl Teller {
             × (self.new.devices.items ≡ met_in earlier over self.old.devices.items)
             × Appends (W.contents w.old) (W.contents w.new) (over_lines self.old.selection self.old.tally.origin earlier over)) }
         ensures read { OnOk result ((transfers : List ControlTransfer) → HasCurrent transfers self.old.readings → HasCurrent (transfers ++ option_to_list over) self.new.readings) }
+        ensures replaced { self.new.replaced ≡ replaced_in over self.old.replaced }
         ensures observer { self.new.observer ≡ self.old.observer }
         ensures tally { self.new.tally ≡ self.old.tally }
         ensures selection { self.new.selection ≡ self.old.selection }
@@ -141,11 +145,13 @@ impl Teller {
             × (self.new.devices.items ≡ met (Some (address_of transfer)) (length (findings earlier transfer)) self.old.devices.items)
             × Appends (W.contents w.old) (W.contents w.new) (lines_of self.old.selection self.old.tally.origin transfer (findings earlier transfer))) }
         ensures read { OnOk result ((transfers : List ControlTransfer) → HasCurrent transfers self.old.readings → HasCurrent (transfers ++ transfer ∷ []) self.new.readings) }
+        ensures replaced { self.new.replaced ≡ replaced_with transfer self.old.replaced }
         ensures observer { self.new.observer ≡ self.old.observer }
         ensures tally { self.new.tally ≡ self.old.tally }
         ensures selection { self.new.selection ≡ self.old.selection }
         ensures first { self.new.first ≡ self.old.first }
     {
+        self.replaced = replaced_with(&transfer, self.replaced);
         let found = self.conversations.take(&transfer)?;
         self.say(&transfer, &found, w)?;
         let device = Some(DeviceAddress::of(&transfer));
@@ -226,7 +232,7 @@ impl Teller {
     ///
     /// Those of [`Teller::take`].
     pub fn finish<W: Write>(&self, place: u64, left: u64, w: &mut W) -> Result<(), OutFault>
-        ensures { OnOk result (Appends (W.contents w.old) (W.contents w.new) (last_lines self.now.selection self.now.tally self.now.observer.decoded self.now.observer.controls.held.items self.now.observer.transfers.pipes.held.held.items self.now.readings.readings.kept.items self.now.devices.items place left)) }
+        ensures { OnOk result (Appends (W.contents w.old) (W.contents w.new) (last_lines self.now.selection self.now.tally self.now.observer.decoded self.now.replaced self.now.observer.controls.held.items self.now.observer.transfers.pipes.held.held.items self.now.readings.readings.kept.items self.now.devices.items place left)) }
     {
         let mut text = Text::new(self.alloc);
         self.put_last_lines(&mut text, place, left)?;
@@ -235,7 +241,7 @@ impl Teller {
 
     #[tactic(auto, unfolding(crate::specs::Recordings::last_lines))]
     fn put_last_lines(&self, text: &mut Text, place: u64, left: u64) -> Result<(), AllocError>
-        ensures { OnOk result (text.new ≡ text.old ++ last_lines self.now.selection self.now.tally self.now.observer.decoded self.now.observer.controls.held.items self.now.observer.transfers.pipes.held.held.items self.now.readings.readings.kept.items self.now.devices.items place left) }
+        ensures { OnOk result (text.new ≡ text.old ++ last_lines self.now.selection self.now.tally self.now.observer.decoded self.now.replaced self.now.observer.controls.held.items self.now.observer.transfers.pipes.held.held.items self.now.readings.readings.kept.items self.now.devices.items place left) }
     {
         let origin = self.tally.origin;
         put_open(text, &self.selection, origin, self.observer.unended())?;
@@ -245,7 +251,7 @@ impl Teller {
             origin,
             self.observer.unended_on_bus(),
         )?;
-        put_counts(text, &self.tally, self.observer.decoded())?;
+        put_counts(text, &self.tally, self.observer.decoded(), self.replaced)?;
         put_cut(text, place, left)?;
         put_devices(
             text,

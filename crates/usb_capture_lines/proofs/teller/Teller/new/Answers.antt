@@ -10,5 +10,6 @@ returns-clause-said c held = record {
   kept = search rules;
   devices = search rules;
   tally = search rules;
+  replaced = search rules;
   written = appends_nothing held held (keeps_refl held);
 }

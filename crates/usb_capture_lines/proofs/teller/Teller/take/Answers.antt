@@ -19,5 +19,6 @@ returns-clause-ok g c =
       said_more frames observed c.args.frame.now observer.0 c.in_ok-completed.completed c.args.self.now c.count.new.self c.take_transfer.new.self c.take_findings.new.self held _ _ _ _ has counted
           c.in_ok-count.ensures.said observer.1 (subst (HasObserved (observer.0 ∷ observed)) (sym c.take_transfer.ensures.observer) observer.2) observer.3 report.0 report.1 report.2
           (over.read (reverse (overs observed)) (subst (HasCurrent (reverse (overs observed))) (sym (ap (λ (t : Teller). t.readings) counted)) has.kept))
+          c.take_transfer.ensures.replaced
           c.take_transfer.ensures.tally c.take_transfer.ensures.selection c.take_transfer.ensures.first c.take_findings.ensures.others (rw slice at met) (rw slice at written),
     )) c.take_findings.ensures.written c.take_findings.ensures.met
