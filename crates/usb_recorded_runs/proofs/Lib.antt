@@ -16,3 +16,6 @@ pub mod SizeLemmas
 pub mod AnswerLemmas
 pub mod TransferLemmas
 pub mod PlaceLemmas
+pub mod EndedLemmas
+pub mod RefusalLemmas
+pub mod DescriptorLengths
