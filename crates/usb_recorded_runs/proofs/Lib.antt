@@ -19,3 +19,6 @@ pub mod PlaceLemmas
 pub mod EndedLemmas
 pub mod RefusalLemmas
 pub mod DescriptorLengths
+pub mod ByteLemmas
+pub mod NamedFronts
+pub mod NamedLemmas

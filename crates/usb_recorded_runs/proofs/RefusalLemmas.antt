@@ -29,7 +29,7 @@ use Rattle.usb_recorded_runs.specs.Findings.{IsTransferFreeAfter}
 use Rattle.usb_recorded_runs.proofs.AnswerLemmas.{asked_so, described_by, table_gives}
 use Rattle.usb_recorded_runs.proofs.EndedLemmas.{IsEnded}
 use Rattle.usb_recorded_runs.proofs.SizeLemmas.{IsFront, IsSound}
-use Rattle.usb_recorded_runs.proofs.TransferLemmas.{descriptor_of, front_at, said_front}
+use Rattle.usb_recorded_runs.proofs.TransferLemmas.{descriptor_of, free_by, front_at, said_front}
 
 -- ---- a device refuses what it has not
 
@@ -59,7 +59,7 @@ is_stalled (endings.Failed status) e = absurd (let w : ⊥ = cc in w)
 is_stalled (endings.Refused status) e = absurd (let w : ⊥ = cc in w)
 
 -- A descriptor that is refused is one that the device has not.
-refused_lacks : (f : DescriptorFile) (t : ControlTransfer) → IsEnded f t → refuses_descriptor t ≡ true → descriptor_of f (asked_of t) ≡ None
+pub refused_lacks : (f : DescriptorFile) (t : ControlTransfer) → IsEnded f t → refuses_descriptor t ≡ true → descriptor_of f (asked_of t) ≡ None
 refused_lacks f t ended e =
     let parts = and_parts (reads_descriptor t.setup) (is_stall t.ending) e in
     let refusal = ended.refused (is_stalled t.ending parts.1) in
@@ -71,16 +71,21 @@ refused_lacks f t ended e =
 abbrev pub KnowsFronts : DescriptorFile → (Asked → List ℕ) → Type 0
 KnowsFronts f known = (asked : Asked) → IsFront (known asked) (unwrap_or (descriptor_of f asked) [])
 
--- what is found of no transfer, by those who know the first bytes of descriptors
+pub all_of : {P Q : ControlTransfer → Type 0} (ts : List ControlTransfer) → ((t : ControlTransfer) → P t → Q t) → AllByRecursion P ts → AllByRecursion Q ts
+all_of [] of each = tt
+all_of (t ∷ ts) of each = (of t each.0, all_of ts of each.1)
+
+pub all_both : (P Q : ControlTransfer → Type 0) (ts : List ControlTransfer) → AllByRecursion P ts → AllByRecursion Q ts → AllByRecursion (λ t. P t × Q t) ts
+all_both P Q [] first second = tt
+all_both P Q (t ∷ ts) first second = ((first.0, second.0), all_both P Q ts first.1 second.1)
+
+-- what is found in no transfer, by those who know the first bytes of descriptors
 pub free_after : (finding : Finding) (size : ℕ) (f : DescriptorFile)
     → ((t : ControlTransfer) (known : Asked → List ℕ) → IsSound size (described_by f) t → IsEnded f t → KnowsFronts f known → holds finding known t ≡ false)
-    → (earlier ts : List ControlTransfer) → AllByRecursion (IsSound size (described_by f)) earlier → AllByRecursion (IsSound size (described_by f)) ts
-    → AllByRecursion (IsEnded f) ts → IsTransferFreeAfter finding earlier ts
-free_after finding size f free earlier [] before each ended = tt
-free_after finding size f free earlier (t ∷ ts) before each ended = (
-  free t (λ asked. said asked earlier) each.0 ended.0 (λ asked. said_front size f asked earlier before),
-  free_after finding size f free (t ∷ earlier) ts (each.0, before) each.1 ended.1,
-)
+    → (ts : List ControlTransfer) → AllByRecursion (IsSound size (described_by f)) ts → AllByRecursion (IsEnded f) ts → IsTransferFreeAfter finding [] ts
+free_after finding size f free ts each ended =
+    free_by finding (λ t. IsSound size (described_by f) t × IsEnded f t) (λ t earlier is before.
+    free t (λ asked. said asked earlier) is.0 is.1 (λ asked. said_front size f asked earlier (all_of earlier (λ t is. is.0) before))) [] ts tt (all_both (IsSound size (described_by f)) (IsEnded f) ts each ended)
 
 pub none_in_front : (front : List ℕ) → IsFront front [] → length front ≡ 0
 none_in_front front is = omega (arith, length-append front is.0, ap length is.1)
@@ -105,7 +110,7 @@ given_right f t known ended knows = nothing_given (refuses_descriptor t) (length
 
 pub none_refuses_given : (size : ℕ) (f : DescriptorFile) (ts : List ControlTransfer) → AllByRecursion (IsSound size (described_by f)) ts
     → AllByRecursion (IsEnded f) ts → IsTransferFreeAfter RefusesGiven [] ts
-none_refuses_given size f ts each ended = free_after RefusesGiven size f (λ t known is ends knows. given_right f t known ends knows) [] ts tt each ended
+none_refuses_given size f ts each ended = free_after RefusesGiven size f (λ t known is ends knows. given_right f t known ends knows) ts each ended
 
 -- A refusal of a descriptor of which nothing was said is none of these, if the device has them all.
 pub unsaid_right : (refuses unsaid has : Bool) → (refuses ≡ true → has ≡ false) → ((refuses && unsaid) && has) ≡ false
@@ -134,7 +139,7 @@ not_required f asked right none = false_from_ne_true (is_required asked) (λ e.
 pub none_refuses_required : (size : ℕ) (f : DescriptorFile) (ts : List ControlTransfer) → findings f ≡ [] → AllByRecursion (IsSound size (described_by f)) ts
     → AllByRecursion (IsEnded f) ts → IsTransferFreeAfter RefusesRequired [] ts
 none_refuses_required size f ts right each ended = free_after RefusesRequired size f (λ t known is ends knows.
-    unsaid_right (refuses_descriptor t) (length (known (asked_of t)) == 0) (is_required (asked_of t)) (λ e. not_required f (asked_of t) right (refused_lacks f t ends e))) [] ts tt each ended
+    unsaid_right (refuses_descriptor t) (length (known (asked_of t)) == 0) (is_required (asked_of t)) (λ e. not_required f (asked_of t) right (refused_lacks f t ends e))) ts each ended
 
 -- ---- refusals of what was counted
 
@@ -194,4 +199,4 @@ pub none_refuses_counted : (size : ℕ) (f : DescriptorFile) (ts : List ControlT
     → AllByRecursion (IsEnded f) ts → IsTransferFreeAfter RefusesCounted [] ts
 none_refuses_counted size f ts right each ended = free_after RefusesCounted size f (λ t known is ends knows.
     unsaid_right (refuses_descriptor t) (length (known (asked_of t)) == 0) (is_counted known (asked_of t)) (λ e.
-    not_counted f known (counts_right f right) knows (asked_of t) (refused_lacks f t ends e))) [] ts tt each ended
+    not_counted f known (counts_right f right) knows (asked_of t) (refused_lacks f t ends e))) ts each ended

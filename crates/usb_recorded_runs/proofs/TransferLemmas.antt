@@ -39,17 +39,19 @@ no_status false status device other = refl
 no_status true false device other = refl
 no_status true true device other = absurd (let e : true ≡ false = other refl in let w : ⊥ = cc in w)
 
--- what is found in none, whatever came before it
-all_free : (finding : Finding) (size : ℕ) (described : Setup → List ℕ) → ((t : ControlTransfer) (earlier : List ControlTransfer) → IsSound size described t → holds finding (λ asked. said asked earlier) t ≡ false)
-    → (earlier ts : List ControlTransfer) → AllByRecursion (IsSound size described) ts → IsTransferFreeAfter finding earlier ts
-all_free finding size described free earlier [] each = tt
-all_free finding size described free earlier (t ∷ ts) each = (free t earlier each.0, all_free finding size described free (t ∷ earlier) ts each.1)
+-- what is found in none, where this holds of each, and of those before it
+pub free_by : (finding : Finding) (P : ControlTransfer → Type 0)
+    → ((t : ControlTransfer) (earlier : List ControlTransfer) → P t → AllByRecursion P earlier → holds finding (λ asked. said asked earlier) t ≡ false)
+    → (earlier ts : List ControlTransfer) → AllByRecursion P earlier → AllByRecursion P ts → IsTransferFreeAfter finding earlier ts
+free_by finding P free earlier [] before each = tt
+free_by finding P free earlier (t ∷ ts) before each = (free t earlier each.0 before, free_by finding P free (t ∷ earlier) ts (each.0, before) each.1)
 
 pub none_more : (size : ℕ) (described : Setup → List ℕ) (ts : List ControlTransfer) → AllByRecursion (IsSound size described) ts → IsTransferFreeAfter MoreThanAsked [] ts
-none_more size described ts each = all_free MoreThanAsked size described (λ t earlier is. no_more (is_answered t.ending) t.setup.length t.length is.few) [] ts each
+none_more size described ts each = free_by MoreThanAsked (IsSound size described) (λ t earlier is before. no_more (is_answered t.ending) t.setup.length t.length is.few) [] ts tt each
 
 pub none_refuses_status : (size : ℕ) (described : Setup → List ℕ) (ts : List ControlTransfer) → AllByRecursion (IsSound size described) ts → IsTransferFreeAfter RefusesStatus [] ts
-none_refuses_status size described ts each = all_free RefusesStatus size described (λ t earlier is. no_status (is_stall t.ending) (reads_status t.setup) (nat_lt 0 t.device) is.asked) [] ts each
+none_refuses_status size described ts each =
+    free_by RefusesStatus (IsSound size described) (λ t earlier is before. no_status (is_stall t.ending) (reads_status t.setup) (nat_lt 0 t.device) is.asked) [] ts tt each
 
 -- ---- what a device said of a descriptor
 
@@ -154,13 +156,8 @@ module _ (size : ℕ) (f : DescriptorFile) where
           let given = parts_given t e in
           fronts_agree t.data (said (asked_of t) earlier) (is_of (asked_of t)) (is.front given.is_read given.is_ended given.is_kept) (said_front (asked_of t) earlier each)
 
-  same_after : (earlier ts : List ControlTransfer) → AllByRecursion (IsSound size (described_by f)) earlier → AllByRecursion (IsSound size (described_by f)) ts
-      → IsTransferFreeAfter OtherBytes earlier ts
-  same_after earlier [] before each = tt
-  same_after earlier (t ∷ ts) before each = (said_same t earlier each.0 before, same_after (t ∷ earlier) ts (each.0, before) each.1)
-
   pub none_changes : (ts : List ControlTransfer) → AllByRecursion (IsSound size (described_by f)) ts → IsTransferFreeAfter OtherBytes [] ts
-  none_changes ts each = same_after [] ts tt each
+  none_changes ts each = free_by OtherBytes (IsSound size (described_by f)) said_same [] ts tt each
 
 -- ---- the type of a descriptor
 
@@ -271,4 +268,4 @@ accepted_kinds f e = (or_parts (has_wrong_count f) (has_wrong_kind f) (or_parts 
 
 pub none_of_other_type : (size : ℕ) (f : DescriptorFile) (ts : List ControlTransfer) → has_wrong_sets f ≡ false → AllByRecursion (IsSound size (described_by f)) ts
     → IsTransferFreeAfter OtherType [] ts
-none_of_other_type size f ts right each = all_free OtherType size (described_by f) (λ t earlier is. type_right size f t (accepted_kinds f right) is) [] ts each
+none_of_other_type size f ts right each = free_by OtherType (IsSound size (described_by f)) (λ t earlier is before. type_right size f t (accepted_kinds f right) is) [] ts tt each
