@@ -335,7 +335,7 @@ names_one front e = of (or_cases (nat_lt 0 (slice_index front 14) || nat_lt 0 (s
     }
 
 module _ (f : DescriptorFile) (sets : has_wrong_sets f ≡ false) (strings : has_wrong_strings f ≡ false) (known : Asked → List ℕ) (knows : KnowsFronts f known) (asked : Asked)
-  (bytes : AreBytes (known (beside asked 256))) (none : descriptor_of f asked ≡ None) where
+    (bytes : AreBytes (known (beside asked 256))) (none : descriptor_of f asked ≡ None) where
   abbrev index : ℕ
   index = asked.value % 256
 

@@ -163,7 +163,7 @@ counted_parts true true true e = (refl, refl)
 counted_parts a b c e = absurd (let w : ⊥ = cc in w)
 
 module _ (f : DescriptorFile) (known : Asked → List ℕ) (right : has_wrong_count f ≡ false) (knows : KnowsFronts f known) (asked : Asked)
-  (none : descriptor_of f asked ≡ None) where
+    (none : descriptor_of f asked ≡ None) where
   abbrev n : ℕ
   n = asked.value % 256
 
