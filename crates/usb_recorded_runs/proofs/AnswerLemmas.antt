@@ -1,5 +1,5 @@
 -- A device's answer to GET_DESCRIPTOR tells its packet size.
-use Rattle.std.proofs.Common.{◌≡◌, ◌⊎◌, inl, inr, ◌<◌, ◌≤◌, ◌/◌, ◌%◌, ◌-◌, ◌==◌, ◌&&◌, ℕ, zero, suc, Bool, true, false, if◌then◌else◌, List, [], ◌∷◌, ◌++◌, append_assoc, length, take, drop, refl, sym, ◌∙◌, ap, subst, arith, length-append}
+use Rattle.std.proofs.Common.{◌≡◌, ◌⊎◌, inl, inr, ◌<◌, ◌≤◌, ◌/◌, ◌%◌, ◌-◌, ◌==◌, ◌&&◌, min, ℕ, zero, suc, Bool, true, false, if◌then◌else◌, List, [], ◌∷◌, ◌++◌, append_assoc, length, take, drop, refl, sym, ◌∙◌, ap, subst, arith, length-append}
 use Rattle.std.specs.Prelude.{Option, Some, None, unwrap_or, nat_lt, slice_index}
 use Rattle.std.proofs.lemmas.Bool.Decides.{nat_tests}
 use Rattle.std.proofs.lemmas.List.{get_or-take, get_or_append_left, length-take, take-append-drop}
@@ -14,6 +14,7 @@ use Rattle.usb_device.specs.Descriptors.{descriptor}
 use Rattle.usb_device.specs.Requests.{Bytes, Done, answer, answer_of, gives}
 use Rattle.usb_recorded_runs.proofs.FrontLemmas.{front_joins}
 use Rattle.usb_capture.specs.Readings.{is_whole, reads_descriptor}
+pub use Rattle.usb_recorded_runs.specs.Findings.{described_by}
 use Rattle.usb_recorded_runs.proofs.SizeLemmas.{Fronts, IsFront, TellsLong, TellsSize}
 
 -- ---- what the table answers
@@ -49,10 +50,6 @@ module _ (f : DescriptorFile) (s : State) where
   device_reported q bytes type request kind e =
       let same : q ≡ asked_so q.value q.index q.length = (λ i. record { request_type = type i; request = request i; value = q.value; index = q.index; length = q.length }) in
       tells_so q.value q.index q.length bytes kind (ap (answer f s) (sym same) ∙ e)
-
--- the descriptor that a request is for, or none
-abbrev pub described_by : DescriptorFile → Setup → List ℕ
-described_by f q = unwrap_or (descriptor f (q.value / 256) (q.value % 256) q.index) []
 
 module _ (f : DescriptorFile) (s : State) where
   cut_any : (size : ℕ) (all bytes : List ℕ) (none : Bool) → (if none then Done s else Bytes (take size all)) ≡ Bytes bytes → bytes ≡ take size all
@@ -137,6 +134,13 @@ nothing_front (x ∷ front) rest e = absurd (let w : ⊥ = cc in w)
 read_parts : (type request : Bool) → (type && request) ≡ true → (type ≡ true) × (request ≡ true)
 read_parts true true e = (refl, refl)
 read_parts type request e = absurd (let w : ⊥ = cc in w)
+
+-- The answer to a request for a descriptor has as many bytes as are asked for, or all.
+pub answered_length : (f : DescriptorFile) (s : State) (q : Setup) (bytes : List ℕ) → answer f s q ≡ Bytes bytes → reads_descriptor q ≡ true
+    → length bytes ≡ min q.length (length (described_by f q))
+answered_length f s q bytes e read =
+    let parts = read_parts (q.request_type == 128) (q.request == 6) read in
+    ap length (any_reported f s q bytes (same_number q.request_type 128 parts.0) (same_number q.request 6 parts.1) e) ∙ length-take q.length (described_by f q)
 
 -- So it is in the first packets of the answer to a request for the device descriptor.
 long_fronts : (f : DescriptorFile) (s : State) (q : Setup) (bytes : List ℕ) → answer f s q ≡ Bytes bytes → length bytes ≤ q.length → (m : ℕ)

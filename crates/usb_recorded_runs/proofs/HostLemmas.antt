@@ -1,5 +1,5 @@
 -- What holds of the transfers of a host holds after it has taken an answer.
-use Rattle.std.proofs.Common.{◌≡◌, ◌⊎◌, ◌==◌, ◌&&◌, ◌||◌, ◌+◌, nat_lt, ℕ, Bool, true, false, if◌then◌else◌, List, [], ◌∷◌, length, inl, inr, refl, sym, ◌∙◌, ap, subst, arith}
+use Rattle.std.proofs.Common.{◌≡◌, ◌⊎◌, ◌==◌, ◌&&◌, ◌||◌, ◌≤◌, ◌+◌, nat_lt, ℕ, Bool, true, false, if◌then◌else◌, List, [], ◌∷◌, length, inl, inr, refl, sym, ◌∙◌, ap, subst, arith}
 use Rattle.std.specs.Prelude.{Option, Some, None, Result}
 use Rattle.std.proofs.lemmas.Bool.Decides.{nat_tests}
 use Rattle.usb_fields.specs.declared.packet.Toggle.{Toggle}
@@ -35,18 +35,19 @@ pub record IsAsked (q : Setup) : Type 0 where
   pub other : reads_status (setup_at (setup_bytes q) 0) ≡ false
 
 module _ (size : ℕ) where
-  -- a packet size that is known, but where a device has no address yet
-  abbrev pub SizeIsKnown : ℕ → ℕ → Type 0
-  SizeIsKnown address packet = (address ≡ 0) ⊎ (packet ≡ size)
+  -- a packet size that is known, but where a device has no address yet, of which no more than eight bytes are asked, and no more than the
+  -- size that a host takes it to have
+  abbrev pub SizeIsKnown : ℕ → ℕ → Setup → Type 0
+  SizeIsKnown address packet q = ((address ≡ 0) × (q.length ≤ 8) × (q.length ≤ packet)) ⊎ (packet ≡ size)
 
   abbrev AllAsked : Plan → Type 0
-  AllAsked (Begin address packet q) = IsAsked q × SizeIsKnown address packet
+  AllAsked (Begin address packet q) = IsAsked q × SizeIsKnown address packet q
   AllAsked Success = Unit {0}
   AllAsked (GivesUp why) = Unit {0}
 
   asks_so : (address : ℕ) (place : Place) → KnowsSize size place → AllAsked (asks address place)
-  asks_so address First is = (record { brings = inl refl; other = refl }, inl refl)
-  asks_so address (Address first) is = (record { brings = inr refl; other = refl }, inl refl)
+  asks_so address First is = (record { brings = inl refl; other = refl }, inl (refl, omega arith, omega arith))
+  asks_so address (Address first) is = (record { brings = inr refl; other = refl }, inl (refl, omega arith, omega arith))
   asks_so address (Device first) is = (record { brings = inl refl; other = refl }, inr is)
   asks_so address (Header kind f) is = (record { brings = inl refl; other = refl }, inr is)
   asks_so address (Set kind f total) is = (record { brings = inl refl; other = refl }, inr is)
@@ -192,7 +193,7 @@ module _ (size : ℕ) where
   -- ---- a host
 
   -- for what holds of each new transfer
-  module _ (P : TransferView → Type 0) (fresh : (address packet naks : ℕ) (request : Setup) → IsAsked request → SizeIsKnown address packet → P (begun address packet naks request)) where
+  module _ (P : TransferView → Type 0) (fresh : (address packet naks : ℕ) (request : Setup) → IsAsked request → SizeIsKnown address packet request → P (begun address packet naks request)) where
     pub record Works (place : Place) (t : TransferView) (k : Kept) : Type 0 where
       pub holds : P t
       pub knows : KnowsSize size place

@@ -1,5 +1,5 @@
 -- In a run of both ends from a new pair on, no toggle is wrong, and no transfer says another packet size than the device's own.
-use Rattle.std.proofs.Common.{◌≡◌, ◌<◌, ◌+◌, ◌-◌, ◌/◌, ℕ, false, List, [], ◌∷◌, ◌++◌, append_assoc, length, take, inl, inr, refl, sym, ◌∙◌, ap, subst, arith, length-append}
+use Rattle.std.proofs.Common.{◌≡◌, ◌<◌, ◌≤◌, ◌+◌, ◌-◌, ◌/◌, ℕ, false, List, [], ◌∷◌, ◌++◌, append_assoc, length, take, inl, inr, refl, sym, ◌∙◌, ap, subst, arith, length-append}
 use Rattle.std.specs.Prelude.{Option, Some, None}
 use Rattle.std.specs.List.{AllByRecursion}
 use Rattle.std.specs.Option.{option_to_list}
@@ -43,7 +43,8 @@ use Rattle.usb_recorded_runs.proofs.AnswerLemmas.{all_fronts, described_by}
 use Rattle.usb_recorded_runs.proofs.ReceivedLemmas.{received_in}
 use Rattle.usb_recorded_runs.proofs.LengthLemmas.{IsShortIn, one_not_long}
 use Rattle.usb_recorded_runs.proofs.SizeLemmas.{Fronts, IfOver, IsSound, all_says, own_size}
-use Rattle.usb_recorded_runs.proofs.StepLemmas.{Agree, after_answer, after_none, fresh_agrees, step, taken_agrees}
+use Rattle.usb_recorded_runs.proofs.TogetherLemmas.{HasEnded, after_answer, nothing_after}
+use Rattle.usb_recorded_runs.proofs.StepLemmas.{Agree, IsOver, after_none, fresh_agrees, step, taken_agrees}
 
 -- ---- lists
 
@@ -128,7 +129,7 @@ module _ (f : DescriptorFile) (kept_table : IsTable (answer f)) (list : List Fat
   made_of d sent fate = record { fate = fate; sent = sent; address = d.state.address; answered = answered f d sent fate }
 
   carried_kept : (d : DeviceView) (sent : Sent) (fate : Fate) → is_lost_down fate ≡ false
-      → carried table cut d sent fate ≡ (let r = served table cut d sent (is_ready fate) in record { reply = brought fate r.reply; device = after_answer table cut described tells fate r })
+      → carried table cut d sent fate ≡ (let r = served table cut d sent (is_ready fate) in record { reply = brought fate r.reply; device = after_answer table cut fate r })
   carried_kept d sent fates.Pass kept = refl
   carried_kept d sent fates.Busy kept = refl
   carried_kept d sent fates.LostUp kept = refl
@@ -143,7 +144,7 @@ module _ (f : DescriptorFile) (kept_table : IsTable (answer f)) (list : List Fat
   answered_kept d sent fates.LostDown kept = absurd (let w : ⊥ = cc in w)
 
   abbrev Known : DeviceStage → Pipes → HostPhase → Type 0
-  Known d pipes phase = InWork cut (Agree table cut described tells d pipes) (fresh_agrees table cut described tells d pipes) phase
+  Known d pipes phase = InWork cut (Agree table cut described tells kept_table d pipes) (fresh_agrees table cut described tells kept_table d pipes) phase
 
   -- after these transactions
   pub record IsRight (ts : List Transaction) (last : Pair) : Type 0 where
@@ -151,16 +152,25 @@ module _ (f : DescriptorFile) (kept_table : IsTable (answer f)) (list : List Fat
     pub lengths : IsFreeAfter Long [] ts
     pub endings : IsFreeAfter NoShortPacket [] ts
     pub transfers : AllByRecursion (IsSound cut described) (transfers_in ts)
+    pub ended : 8 ≤ cut → AllByRecursion (HasEnded table) (transfers_in ts)
     pub sound : Sound (pipes_in ts)
     pub known : Known last.device.stage (pipes_in ts) last.host.phase
 
   low_small : (address : ℕ) → address < 128 → address < 256
   low_small address low = omega (arith, low)
 
-  all_over : (ts : List ControlTransfer) (o : Option ControlTransfer) → AllByRecursion (IsSound cut described) ts → IfOver cut described o → AllByRecursion (IsSound cut described) (ts ++ option_to_list o)
-  all_over [] None says over = tt
-  all_over [] (Some t) says over = (over, tt)
-  all_over (first ∷ ts) o says over = (says.0, all_over ts o says.1 over)
+  all_over : (P : ControlTransfer → Type 0) (ts : List ControlTransfer) (o : Option ControlTransfer) → AllByRecursion P ts → IfOver P o → AllByRecursion P (ts ++ option_to_list o)
+  all_over P [] None each over = tt
+  all_over P [] (Some t) each over = (over, tt)
+  all_over P (first ∷ ts) o each over = (each.0, all_over P ts o each.1 over)
+
+  over_sound : (o : Option ControlTransfer) → IfOver (IsOver table cut described tells kept_table) o → IfOver (IsSound cut described) o
+  over_sound None over = tt
+  over_sound (Some t) over = over.0
+
+  over_ended : (o : Option ControlTransfer) → IfOver (IsOver table cut described tells kept_table) o → 8 ≤ cut → IfOver (HasEnded table) o
+  over_ended None over some = tt
+  over_ended (Some t) over some = over.1 some
 
   size_zero : (address : ℕ) (sizes : List ℕ) → address ≡ 0 → size_at address sizes ≡ 0
   size_zero address sizes zero = ap (λ a. size_at a sizes) zero
@@ -207,7 +217,7 @@ module _ (f : DescriptorFile) (kept_table : IsTable (answer f)) (list : List Fat
       after : pipes_in (ts ++ T ∷ []) ≡ pipes_after T (pipes_in ts)
       after = after_push pipes_after transfer_over none_open ts T
 
-      comes : carried table cut d made.sent fate ≡ (let r = served table cut d made.sent (is_ready fate) in record { reply = brought fate r.reply; device = after_answer table cut described tells fate r })
+      comes : carried table cut d made.sent fate ≡ (let r = served table cut d made.sent (is_ready fate) in record { reply = brought fate r.reply; device = after_answer table cut fate r })
       comes = carried_kept d made.sent fate kept
 
       of : (phase : HostPhase) → wanted phase ≡ WantsSent made.sent → TakesIn x.host phase (carried table cut d made.sent fate).reply last.host → Known d.stage (pipes_in ts) phase
@@ -219,18 +229,19 @@ module _ (f : DescriptorFile) (kept_table : IsTable (answer f)) (list : List Fat
           let agrees = known.holds in
           let below : t.address < 256 = due_small t t.stage made.sent due legal.address in
           let own = own_size cut (transfers_in ts) made.sent.address (all_says cut described (transfers_in ts) right.transfers) (low_small made.sent.address legal.address) in
-          let stepped = step table cut described tells d fate kept number (times number) (pipes_in ts) right.sound t below (due_low t t.stage made.sent due legal.bytes) t.stage made.sent refl due agrees in
+          let stepped = step table cut described tells kept_table d fate kept number (times number) (pipes_in ts) right.sound t below (due_low t t.stage made.sent due legal.bytes) t.stage made.sent refl due agrees in
           let token = stepped.0 in
           let sent_is : made.sent ≡ record { address = t.address; token = token } = stepped.1 in
           let r : Served = served table cut d (record { address = t.address; token = token }) (is_ready fate) in
           let received_is : T ≡ received_in number (times number) t.address token (is_lost_ack fate) (brought fate r.reply) =
           ap (λ s. transaction_of number (times number) (made_of d s fate)) sent_is
           ∙ ap (λ a. received_in number (times number) t.address token (is_lost_ack fate) (brought fate a)) (answered_kept d (record { address = t.address; token = token }) fate kept) in
-          let served_is : carried table cut d made.sent fate ≡ record { reply = brought fate r.reply; device = after_answer table cut described tells fate r } =
+          let served_is : carried table cut d made.sent fate ≡ record { reply = brought fate r.reply; device = after_answer table cut fate r } =
           ap (λ s. carried table cut d s fate) sent_is ∙ carried_kept d (record { address = t.address; token = token }) fate kept in
-          let device_is : last.device ≡ after_answer table cut described tells fate r = made.device ∙ ap (λ c. c.device) served_is in
+          let device_is : last.device ≡ after_answer table cut fate r = made.device ∙ ap (λ c. c.device) served_is in
           let pipes_is : pipes_in (ts ++ T ∷ []) ≡ pipes_after (received_in number (times number) t.address token (is_lost_ack fate) (brought fate r.reply)) (pipes_in ts) =
           after ∙ ap (λ u. pipes_after u (pipes_in ts)) received_is in
+          let over = subst (λ u. IfOver (IsOver table cut described tells kept_table) (transfer_over u (pipes_in ts))) (sym received_is) stepped.2.over in
           record {
             toggles = free_push Toggle [] ts T right.toggles (ap (λ u. has_wrong_toggle u (pipes_in ts)) received_is ∙ stepped.2.right);
             lengths = free_push Long [] ts T right.lengths (one_not_long cut number (times number) (made_of d made.sent fate) short (sizes_in (transfers_in ts)) own);
@@ -239,13 +250,15 @@ module _ (f : DescriptorFile) (kept_table : IsTable (answer f)) (list : List Fat
                 ∙ stepped.2.not_early (size_at made.sent.address (sizes_in (transfers_in ts))) own
                 (λ zero. size_zero made.sent.address (sizes_in (transfers_in ts)) (ap (λ s. s.address) sent_is ∙ zero)));
             transfers = subst (AllByRecursion (IsSound cut described)) (sym (given_push pipes_after transfer_over none_open ts T))
-                (all_over (transfers_in ts) (transfer_over T (pipes_in ts)) right.transfers (subst (λ u. IfOver cut described (transfer_over u (pipes_in ts))) (sym received_is) stepped.2.over));
+                (all_over (IsSound cut described) (transfers_in ts) (transfer_over T (pipes_in ts)) right.transfers (over_sound (transfer_over T (pipes_in ts)) over));
+            ended = λ some. subst (AllByRecursion (HasEnded table)) (sym (given_push pipes_after transfer_over none_open ts T))
+                (all_over (HasEnded table) (transfers_in ts) (transfer_over T (pipes_in ts)) (right.ended some) (over_ended (transfer_over T (pipes_in ts)) over some));
             sound = subst Sound (sym pipes_is) stepped.2.sound_then;
             known =
                 subst (λ p. Known last.device.stage p last.host.phase) (sym pipes_is)
                 (subst (λ v. Known v.stage (pipes_after (received_in number (times number) t.address token (is_lost_ack fate) (brought fate r.reply)) (pipes_in ts)) last.host.phase) (sym device_is)
-                (takes_works cut (Agree table cut described tells (after_answer table cut described tells fate r).stage (pipes_after (received_in number (times number) t.address token (is_lost_ack fate) (brought fate r.reply)) (pipes_in ts)))
-                (fresh_agrees table cut described tells (after_answer table cut described tells fate r).stage (pipes_after (received_in number (times number) t.address token (is_lost_ack fate) (brought fate r.reply)) (pipes_in ts)))
+                (takes_works cut (Agree table cut described tells kept_table (after_answer table cut fate r).stage (pipes_after (received_in number (times number) t.address token (is_lost_ack fate) (brought fate r.reply)) (pipes_in ts)))
+                (fresh_agrees table cut described tells kept_table (after_answer table cut fate r).stage (pipes_after (received_in number (times number) t.address token (is_lost_ack fate) (brought fate r.reply)) (pipes_in ts)))
                 x.host last.host place t k (brought fate r.reply) stepped.2.agrees known.knows known.first
                 (λ first at. stepped.2.may_come at (known.first first).request_is)
                 (subst (λ c. TakesIn x.host (Reading place t k) c.reply last.host) served_is takes)));
@@ -253,7 +266,7 @@ module _ (f : DescriptorFile) (kept_table : IsTable (answer f)) (list : List Fat
 
   -- and one whose token is lost
   lost_right : (x last : Pair) (made : IsTransactionAt table cut fates.LostDown x last) (ts : List Transaction) → IsRight ts x → IsRight (ts ++ []) last
-  lost_right x last made ts right = subst (λ us. IsRight us last) (sym (append-nil ts)) (record { toggles = right.toggles; lengths = right.lengths; endings = right.endings; transfers = right.transfers; sound = right.sound; known = of x.host.phase made.due made.host right.known })
+  lost_right x last made ts right = subst (λ us. IsRight us last) (sym (append-nil ts)) (record { toggles = right.toggles; lengths = right.lengths; endings = right.endings; transfers = right.transfers; ended = right.ended; sound = right.sound; known = of x.host.phase made.due made.host right.known })
     where
       of : (phase : HostPhase) → wanted phase ≡ WantsSent made.sent → TakesIn x.host phase NoReply last.host → Known x.device.stage (pipes_in ts) phase
           → Known last.device.stage (pipes_in ts) last.host.phase
@@ -261,9 +274,9 @@ module _ (f : DescriptorFile) (kept_table : IsTable (answer f)) (list : List Fat
       of (Ended place) due takes known = absurd (let w : ⊥ = cc in w)
       of (Reading place t k) due takes known =
           subst (λ v. Known v.stage (pipes_in ts) last.host.phase) (sym made.device)
-          (takes_works cut (Agree table cut described tells x.device.stage (pipes_in ts)) (fresh_agrees table cut described tells x.device.stage (pipes_in ts)) x.host last.host place t k NoReply
-          (taken_agrees table cut described tells x.device.stage (pipes_in ts) t known.holds.size_is t.stage NoReply refl known.holds.may_be known.holds.same
-          (λ transfer is. after_none table cut described tells t.stage x.device.stage t (record { transfer = transfer; toggle = toggle_at t.address (pipes_in ts) }) (known.holds.fits transfer is))
+          (takes_works cut (Agree table cut described tells kept_table x.device.stage (pipes_in ts)) (fresh_agrees table cut described tells kept_table x.device.stage (pipes_in ts)) x.host last.host place t k NoReply
+          (taken_agrees table cut described tells kept_table x.device.stage (pipes_in ts) t known.holds.size_is t.stage NoReply refl known.holds.may_be known.holds.same (λ some. nothing_after table cut t.stage x.device.stage t (known.holds.both some))
+          (λ transfer is. after_none table cut described tells kept_table t.stage x.device.stage t (record { transfer = transfer; toggle = toggle_at t.address (pipes_in ts) }) (known.holds.fits transfer is))
           (λ is none. absurd (let w : ⊥ = cc in w)))
           known.knows known.first (λ first at. tt) takes)
 
@@ -282,6 +295,7 @@ module _ (f : DescriptorFile) (kept_table : IsTable (answer f)) (list : List Fat
     lengths = tt;
     endings = tt;
     transfers = tt;
+    ended = λ some. tt;
     sound = sound_first;
     known = subst (λ y. Known y.device.stage none_open y.host.phase) (sym same) (subst (λ p. Known new.device.stage none_open p) (sym due) tt);
   }
@@ -297,8 +311,9 @@ module _ (f : DescriptorFile) (kept_table : IsTable (answer f)) (list : List Fat
         lengths = before.lengths;
         endings = before.endings;
         transfers = before.transfers;
+        ended = before.ended;
         sound = before.sound;
-        known = reset_works cut (Agree table cut described tells last.device.stage (pipes_in ts)) (fresh_agrees table cut described tells last.device.stage (pipes_in ts)) x.host last.host reset.due reset.host;
+        known = reset_works cut (Agree table cut described tells kept_table last.device.stage (pipes_in ts)) (fresh_agrees table cut described tells kept_table last.device.stage (pipes_in ts)) x.host last.host reset.due reset.host;
       }))
   run_right new (x ∷ earlier) n last due (inr (m, same, made, run)) small short =
       let back : n - 1 ≡ m = omega (arith, same) in

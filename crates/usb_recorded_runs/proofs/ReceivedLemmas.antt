@@ -18,13 +18,13 @@ use Rattle.usb_capture.specs.declared.ending.Ending.{Ending}
 use Rattle.usb_capture.specs.declared.ending.Ending.TheVariants as endings
 use Rattle.usb_capture.specs.declared.ending.Ending.TheVariants.{Unseen}
 use Rattle.usb_capture.specs.declared.transaction.Transaction.{Transaction}
-use Rattle.usb_capture.specs.BusTransfers.{Going, Pipes, begun_by, closed, data_direction, first_toggle, has_toggle, is_acknowledged, is_wrong_in, over_by, over_with_part, part_by, part_in, pipes_after, pipes_with, request_of, toggle_after, toggle_at, transfer_over, with_bytes}
+use Rattle.usb_capture.specs.BusTransfers.{Going, Pipes, begun_by, closed, data_direction, ended_so, first_toggle, has_toggle, is_acknowledged, is_wrong_in, over_by, over_with_part, part_by, part_in, pipes_after, pipes_with, request_of, toggle_after, toggle_at, transfer_over, with_bytes}
 use Rattle.usb_capture.specs.Events.{setup_at}
 use Rattle.usb_capture.specs.PacketFindings.{has_wrong_toggle, is_done_part, is_early, is_early_at, is_reading_data, is_wrong_at}
 use Rattle.usb_capture.specs.Transfers.{open_with}
 use Rattle.usb_recorded_runs.specs.Exchanges.{data_received, handshake_received}
 use Rattle.usb_recorded_runs.proofs.PipeLemmas.{Holds, OpenAt, Sound, again, begins_at, ended_at, found_unseen, goes_at}
-use Rattle.usb_recorded_runs.proofs.SizeLemmas.{IfOver, Reported, reported_over, unseen_over}
+use Rattle.usb_recorded_runs.proofs.SizeLemmas.{IfOver}
 
 abbrev pub Goes : Direction → Going → Type 0
 Goes direction going = data_direction going.transfer.setup ≡ direction
@@ -124,9 +124,10 @@ with_again lost going = record {
 abbrev pub NotEarly : ℕ → ℕ → (ℕ → Bool) → Type 0
 NotEarly size address early = (known : ℕ) → (known ≡ 0) ⊎ (known ≡ size) → (address ≡ 0 → known ≡ 0) → early known ≡ false
 
-abbrev pub Right : ℕ → (Setup → List ℕ) → Transaction → (Going → Type 0) → Pipes → Type 0
-Right size described t Q pipes =
-    (has_wrong_toggle t pipes ≡ false) × IfOver size described (transfer_over t pipes) × NotEarly size t.to.address (λ known. is_early known t pipes)
+-- This is known of what is over.
+abbrev pub Right : ℕ → (ControlTransfer → Type 0) → Transaction → (Going → Type 0) → Pipes → Type 0
+Right size Over t Q pipes =
+    (has_wrong_toggle t pipes ≡ false) × IfOver Over (transfer_over t pipes) × NotEarly size t.to.address (λ known. is_early known t pipes)
     × Holds t.to.address Q (pipes_after t pipes)
 
 -- the same of transfers whose data go this way
@@ -135,14 +136,14 @@ early_way t way going known =
     is_reading_data way && nat_lt going.transfer.length going.transfer.setup.length && not (known == 0) && nat_le known going.toggle.last
     && is_done_part (part_in way going.toggle t)
 
-abbrev pub RightWay : ℕ → (Setup → List ℕ) → Transaction → (Going → Type 0) → Pipes → Direction → Going → Type 0
-RightWay size described t Q pipes way going =
+abbrev pub RightWay : ℕ → (ControlTransfer → Type 0) → Transaction → (Going → Type 0) → Pipes → Direction → Going → Type 0
+RightWay size Over t Q pipes way going =
     let part = part_in way going.toggle t in
-    (is_wrong_in way going.toggle t ≡ false) × IfOver size described (over_with_part part t going.transfer) × NotEarly size t.to.address (early_way t way going)
+    (is_wrong_in way going.toggle t ≡ false) × IfOver Over (over_with_part part t going.transfer) × NotEarly size t.to.address (early_way t way going)
     × Holds t.to.address Q (pipes_with part t going.transfer (toggle_after part t going.toggle) (closed t.to.address pipes))
 
-abbrev RightIn : ℕ → (Setup → List ℕ) → Transaction → (Going → Type 0) → Pipes → Going → Type 0
-RightIn size described t Q pipes going = RightWay size described t Q pipes (data_direction going.transfer.setup) going
+abbrev RightIn : ℕ → (ControlTransfer → Type 0) → Transaction → (Going → Type 0) → Pipes → Going → Type 0
+RightIn size Over t Q pipes going = RightWay size Over t Q pipes (data_direction going.transfer.setup) going
 
 -- a part that ends no transfer
 pub never_early : (a b c d : Bool) → (a && b && c && d && false) ≡ false
@@ -161,11 +162,11 @@ not_done way going known =
 abbrev pub EndsWhole : ℕ → ℕ → Going → Type 0
 EndsWhole size address going = (address ≡ 0) ⊎ ((going.toggle.last < size) ⊎ (going.transfer.setup.length ≤ going.transfer.length))
 
-pub right_at : (size : ℕ) (described : Setup → List ℕ) (t : Transaction) (P Q : Going → Type 0) (pipes : Pipes) → Sound pipes → request_of t ≡ None → OpenAt t.to.address P pipes
-    → ((going : Going) → going.transfer.ending ≡ Unseen → P going → RightIn size described t Q pipes going) → Right size described t Q pipes
-right_at size described t P Q pipes sound no_request opens each = (
+pub right_at : (size : ℕ) (Over : ControlTransfer → Type 0) (t : Transaction) (P Q : Going → Type 0) (pipes : Pipes) → Sound pipes → request_of t ≡ None → OpenAt t.to.address P pipes
+    → ((going : Going) → going.transfer.ending ≡ Unseen → P going → RightIn size Over t Q pipes going) → Right size Over t Q pipes
+right_at size Over t P Q pipes sound no_request opens each = (
   ap (λ r. is_wrong_at r (open_with t.to.address pipes.held) t pipes) no_request ∙ of (open_with t.to.address pipes.held) refl,
-  subst (λ r. IfOver size described (over_by r (open_with t.to.address pipes.held) t pipes)) (sym no_request) (over (open_with t.to.address pipes.held) refl),
+  subst (λ r. IfOver Over (over_by r (open_with t.to.address pipes.held) t pipes)) (sym no_request) (over (open_with t.to.address pipes.held) refl),
   subst (λ r. NotEarly size t.to.address (λ known. is_early_at r (open_with t.to.address pipes.held) known t pipes)) (sym no_request) (early (open_with t.to.address pipes.held) refl),
   goes_at t P Q pipes sound no_request opens (λ going unended holds. (each going unended holds).3),
 )
@@ -180,29 +181,30 @@ right_at size described t P Q pipes sound no_request opens each = (
     of (Some transfer) e =
         (each (record { transfer = transfer; toggle = toggle_at t.to.address pipes }) (found_unseen t.to.address pipes.held transfer sound.unseen e) (opens transfer e)).0
 
-    over : (o : Option ControlTransfer) → open_with t.to.address pipes.held ≡ o → IfOver size described (over_by None o t pipes)
+    over : (o : Option ControlTransfer) → open_with t.to.address pipes.held ≡ o → IfOver Over (over_by None o t pipes)
     over None e = tt
     over (Some transfer) e =
         (each (record { transfer = transfer; toggle = toggle_at t.to.address pipes }) (found_unseen t.to.address pipes.held transfer sound.unseen e) (opens transfer e)).1
 
-right_way : (size : ℕ) (described : Setup → List ℕ) (t : Transaction) (P Q : Going → Type 0) (pipes : Pipes) (way : Direction) → Sound pipes → request_of t ≡ None → OpenAt t.to.address P pipes
-    → ((going : Going) → P going → Goes way going) → ((going : Going) → going.transfer.ending ≡ Unseen → P going → RightWay size described t Q pipes way going)
-    → Right size described t Q pipes
-right_way size described t P Q pipes way sound no_request opens ways each =
-    right_at size described t P Q pipes sound no_request opens (λ going unended holds. subst (λ w. RightWay size described t Q pipes w going) (sym (ways going holds)) (each going unended holds))
+right_way : (size : ℕ) (Over : ControlTransfer → Type 0) (t : Transaction) (P Q : Going → Type 0) (pipes : Pipes) (way : Direction) → Sound pipes → request_of t ≡ None → OpenAt t.to.address P pipes
+    → ((going : Going) → P going → Goes way going) → ((going : Going) → going.transfer.ending ≡ Unseen → P going → RightWay size Over t Q pipes way going)
+    → Right size Over t Q pipes
+right_way size Over t P Q pipes way sound no_request opens ways each =
+    right_at size Over t P Q pipes sound no_request opens (λ going unended holds. subst (λ w. RightWay size Over t Q pipes w going) (sym (ways going holds)) (each going unended holds))
 
-module _ (size : ℕ) (described : Setup → List ℕ) (number : ℕ) (time : Option ℕ) (address : ℕ) (small : address < 256) (pipes : Pipes) (sound : Sound pipes) where
+module _ (size : ℕ) (Over : ControlTransfer → Type 0) (number : ℕ) (time : Option ℕ) (address : ℕ) (small : address < 256) (pipes : Pipes) (sound : Sound pipes) where
   abbrev received_here : Token → Bool → Reply → Transaction
   received_here token lost came = received_in number time address token lost came
 
   -- an IN without data
-  pub quiet_in : (P Q : Going → Type 0) (lost : Bool) (came : Reply) → IsNoData came → OpenAt address P pipes → ((going : Going) → P going → Reported size described going.transfer)
-      → ((going : Going) → P going → Q going) → Right size described (received_here InToken lost came) Q pipes
-  quiet_in P Q lost AckReply none opens report keeps = right_at size described (received_here InToken lost AckReply) P Q pipes sound refl opens (λ going unended holds. (refl, tt, (λ known own none. not_done (data_direction going.transfer.setup) going known), again address going Q pipes small sound unended (keeps going holds)))
-  quiet_in P Q lost NakReply none opens report keeps = right_at size described (received_here InToken lost NakReply) P Q pipes sound refl opens (λ going unended holds. (refl, tt, (λ known own none. not_done (data_direction going.transfer.setup) going known), again address going Q pipes small sound unended (keeps going holds)))
-  quiet_in P Q lost StallReply none opens report keeps = right_at size described (received_here InToken lost StallReply) P Q pipes sound refl opens (λ going unended holds. (refl, reported_over size described (received_here InToken lost StallReply) endings.Stall going.transfer (report going holds), (λ known own none. not_done (data_direction going.transfer.setup) going known), ended_at address going Q pipes sound))
-  quiet_in P Q lost NoReply none opens report keeps = right_at size described (received_here InToken lost NoReply) P Q pipes sound refl opens (λ going unended holds. (refl, tt, (λ known own none. not_done (data_direction going.transfer.setup) going known), again address going Q pipes small sound unended (keeps going holds)))
-  quiet_in P Q lost (DataReply toggle bytes) none opens report keeps = absurd none
+  pub quiet_in : (P Q : Going → Type 0) (lost : Bool) (came : Reply) → IsNoData came → OpenAt address P pipes
+      → ((t : Transaction) (going : Going) → P going → came ≡ StallReply → Over (ended_so t endings.Stall going.transfer))
+      → ((going : Going) → P going → Q going) → Right size Over (received_here InToken lost came) Q pipes
+  quiet_in P Q lost AckReply none opens stalls keeps = right_at size Over (received_here InToken lost AckReply) P Q pipes sound refl opens (λ going unended holds. (refl, tt, (λ known own none. not_done (data_direction going.transfer.setup) going known), again address going Q pipes small sound unended (keeps going holds)))
+  quiet_in P Q lost NakReply none opens stalls keeps = right_at size Over (received_here InToken lost NakReply) P Q pipes sound refl opens (λ going unended holds. (refl, tt, (λ known own none. not_done (data_direction going.transfer.setup) going known), again address going Q pipes small sound unended (keeps going holds)))
+  quiet_in P Q lost StallReply none opens stalls keeps = right_at size Over (received_here InToken lost StallReply) P Q pipes sound refl opens (λ going unended holds. (refl, stalls (received_here InToken lost StallReply) going holds refl, (λ known own none. not_done (data_direction going.transfer.setup) going known), ended_at address going Q pipes sound))
+  quiet_in P Q lost NoReply none opens stalls keeps = right_at size Over (received_here InToken lost NoReply) P Q pipes sound refl opens (λ going unended holds. (refl, tt, (λ known own none. not_done (data_direction going.transfer.setup) going known), again address going Q pipes small sound unended (keeps going holds)))
+  quiet_in P Q lost (DataReply toggle bytes) none opens stalls keeps = absurd none
 
   -- an IN with a packet of the data stage, which is the next one or came again
   module _ (toggle : Toggle) (bytes : List ℕ) (P Q : Going → Type 0) (opens : OpenAt address P pipes) (ways : (going : Going) → P going → Goes directions.In going)
@@ -230,39 +232,39 @@ module _ (size : ℕ) (described : Setup → List ℕ) (number : ℕ) (time : Op
     -- by whether it is the next one
     first_time : (going : Going) (is_next is_data1 : Bool) → going.transfer.ending ≡ Unseen → (is_next ≡ true → Q (with_next bytes false going)) → (is_next ≡ false → Q (with_again false going))
         → (let t = received_here InToken false (DataReply toggle bytes) in let part = part_by directions.In tokens.In is_next is_data1 true in
-        IfOver size described (over_with_part part t going.transfer) × NotEarly size address (λ known. is_reading_data directions.In
+        IfOver Over (over_with_part part t going.transfer) × NotEarly size address (λ known. is_reading_data directions.In
         && nat_lt going.transfer.length going.transfer.setup.length && not (known == 0) && nat_le known going.toggle.last && is_done_part part) × Holds address Q (pipes_with part t going.transfer (toggle_after part t going.toggle) (closed address pipes)))
     first_time going true is_data1 unended next other = (tt, (λ known own none. not_done directions.In going known), again address (with_next bytes false going) Q pipes small sound (bytes_unended bytes going.transfer ∙ unended) (next refl))
     first_time going false is_data1 unended next other = (tt, (λ known own none. not_done directions.In going known), again address (with_again false going) Q pipes small sound unended (other refl))
 
     not_received : (going : Going) (is_next is_data1 : Bool) → going.transfer.ending ≡ Unseen → (is_next ≡ true → Q (with_next bytes true going)) → (is_next ≡ false → Q (with_again true going))
         → (let t = received_here InToken true (DataReply toggle bytes) in let part = part_by directions.In tokens.In is_next is_data1 false in
-        IfOver size described (over_with_part part t going.transfer) × NotEarly size address (λ known. is_reading_data directions.In
+        IfOver Over (over_with_part part t going.transfer) × NotEarly size address (λ known. is_reading_data directions.In
         && nat_lt going.transfer.length going.transfer.setup.length && not (known == 0) && nat_le known going.toggle.last && is_done_part part) × Holds address Q (pipes_with part t going.transfer (toggle_after part t going.toggle) (closed address pipes)))
     not_received going true is_data1 unended next other = (tt, (λ known own none. not_done directions.In going known), again address (with_next bytes true going) Q pipes small sound (bytes_unended bytes going.transfer ∙ unended) (next refl))
     not_received going false is_data1 unended next other = (tt, (λ known own none. not_done directions.In going known), again address (with_again true going) Q pipes small sound unended (other refl))
 
-    pub packet_in : (lost : Bool) → NextKnown lost → Right size described (received_here InToken lost (DataReply toggle bytes)) Q pipes
-    packet_in true each = right_way size described (received_here InToken true (DataReply toggle bytes)) P Q pipes directions.In sound refl opens ways (λ going unended holds.
+    pub packet_in : (lost : Bool) → NextKnown lost → Right size Over (received_here InToken lost (DataReply toggle bytes)) Q pipes
+    packet_in true each = right_way size Over (received_here InToken true (DataReply toggle bytes)) P Q pipes directions.In sound refl opens ways (λ going unended holds.
         let rest = not_received going (has_toggle (data_kind toggle) going.toggle.next) (has_toggle (data_kind toggle) Data1) unended (each going holds).0 (each going holds).1 in
         (is_right going (known going holds), rest.0, rest.1, rest.2))
-    packet_in false each = right_way size described (received_here InToken false (DataReply toggle bytes)) P Q pipes directions.In sound refl opens ways (λ going unended holds.
+    packet_in false each = right_way size Over (received_here InToken false (DataReply toggle bytes)) P Q pipes directions.In sound refl opens ways (λ going unended holds.
         let rest = first_time going (has_toggle (data_kind toggle) going.toggle.next) (has_toggle (data_kind toggle) Data1) unended (each going holds).0 (each going holds).1 in
         (is_right going (known going holds), rest.0, rest.1, rest.2))
 
   -- an IN with the packet of the status stage
   pub status_in : (P Q : Going → Type 0) (lost : Bool) (bytes : List ℕ) → OpenAt address P pipes → ((going : Going) → P going → Goes directions.Out going)
-      → ((going : Going) → P going → Reported size described going.transfer) → Right size described (received_here InToken lost (DataReply Data1 bytes)) Q pipes
-  status_in P Q true bytes opens ways report =
-      right_way size described (received_here InToken true (DataReply Data1 bytes)) P Q pipes directions.Out sound refl opens ways
-      (λ going unended holds. (refl, reported_over size described (received_here InToken true (DataReply Data1 bytes)) endings.Done going.transfer (report going holds), (λ known own none. refl), ended_at address (with_again true going) Q pipes sound))
-  status_in P Q false bytes opens ways report =
-      right_way size described (received_here InToken false (DataReply Data1 bytes)) P Q pipes directions.Out sound refl opens ways
-      (λ going unended holds. (refl, reported_over size described (received_here InToken false (DataReply Data1 bytes)) endings.Done going.transfer (report going holds), (λ known own none. refl), ended_at address (with_again false going) Q pipes sound))
+      → ((t : Transaction) (going : Going) → P going → Over (ended_so t endings.Done going.transfer)) → Right size Over (received_here InToken lost (DataReply Data1 bytes)) Q pipes
+  status_in P Q true bytes opens ways ends =
+      right_way size Over (received_here InToken true (DataReply Data1 bytes)) P Q pipes directions.Out sound refl opens ways
+      (λ going unended holds. (refl, ends (received_here InToken true (DataReply Data1 bytes)) going holds, (λ known own none. refl), ended_at address (with_again true going) Q pipes sound))
+  status_in P Q false bytes opens ways ends =
+      right_way size Over (received_here InToken false (DataReply Data1 bytes)) P Q pipes directions.Out sound refl opens ways
+      (λ going unended holds. (refl, ends (received_here InToken false (DataReply Data1 bytes)) going holds, (λ known own none. refl), ended_at address (with_again false going) Q pipes sound))
 
   -- the empty OUT of the status stage, which ends the transfer where it is accepted
   module _ (P Q : Going → Type 0) (opens : OpenAt address P pipes) (ways : (going : Going) → P going → Goes directions.In going)
-      (report : (going : Going) → P going → Reported size described going.transfer) (whole : (going : Going) → P going → EndsWhole size address going) (stays : (going : Going) → P going → Q (with_again true going)) where
+      (ends : (t : Transaction) (going : Going) → P going → Over (ended_so t endings.Done going.transfer)) (whole : (going : Going) → P going → EndsWhole size address going) (stays : (going : Going) → P going → Q (with_again true going)) where
     whole_end : (going : Going) → EndsWhole size address going → (known : ℕ) → (known ≡ 0) ⊎ (known ≡ size) → (address ≡ 0 → known ≡ 0)
         → (nat_lt going.transfer.length going.transfer.setup.length && not (known == 0) && nat_le known going.toggle.last && true) ≡ false
     whole_end going whole known (inl none) at_zero = grind (arith, nat_tests)
@@ -270,37 +272,38 @@ module _ (size : ℕ) (described : Setup → List ℕ) (number : ℕ) (time : Op
     whole_end going (inr (inl short)) known (inr own) at_zero = grind (arith, nat_tests)
     whole_end going (inr (inr all)) known (inr own) at_zero = grind (arith, nat_tests)
 
-    pub status_out : (lost : Bool) (came : Reply) → Right size described (received_here (OutToken Data1 []) lost came) Q pipes
-    status_out lost AckReply =
-        right_way size described (received_here (OutToken Data1 []) lost AckReply) P Q pipes directions.In sound refl opens ways
-        (λ going unended holds. (refl, reported_over size described (received_here (OutToken Data1 []) lost AckReply) endings.Done going.transfer (report going holds), whole_end going (whole going holds), ended_at address (with_again false going) Q pipes sound))
-    status_out lost NakReply =
-        right_way size described (received_here (OutToken Data1 []) lost NakReply) P Q pipes directions.In sound refl opens ways
+    pub status_out : (lost : Bool) (came : Reply) → ((t : Transaction) (going : Going) → P going → came ≡ StallReply → Over (ended_so t endings.Stall going.transfer))
+        → Right size Over (received_here (OutToken Data1 []) lost came) Q pipes
+    status_out lost AckReply stalls =
+        right_way size Over (received_here (OutToken Data1 []) lost AckReply) P Q pipes directions.In sound refl opens ways
+        (λ going unended holds. (refl, ends (received_here (OutToken Data1 []) lost AckReply) going holds, whole_end going (whole going holds), ended_at address (with_again false going) Q pipes sound))
+    status_out lost NakReply stalls =
+        right_way size Over (received_here (OutToken Data1 []) lost NakReply) P Q pipes directions.In sound refl opens ways
         (λ going unended holds. (refl, tt, (λ known own none. not_done directions.In going known), again address (with_again true going) Q pipes small sound unended (stays going holds)))
-    status_out lost StallReply =
-        right_way size described (received_here (OutToken Data1 []) lost StallReply) P Q pipes directions.In sound refl opens ways
-        (λ going unended holds. (refl, reported_over size described (received_here (OutToken Data1 []) lost StallReply) endings.Stall going.transfer (report going holds), (λ known own none. not_done directions.In going known), ended_at address (with_again true going) Q pipes sound))
-    status_out lost NoReply =
-        right_way size described (received_here (OutToken Data1 []) lost NoReply) P Q pipes directions.In sound refl opens ways
+    status_out lost StallReply stalls =
+        right_way size Over (received_here (OutToken Data1 []) lost StallReply) P Q pipes directions.In sound refl opens ways
+        (λ going unended holds. (refl, stalls (received_here (OutToken Data1 []) lost StallReply) going holds refl, (λ known own none. not_done directions.In going known), ended_at address (with_again true going) Q pipes sound))
+    status_out lost NoReply stalls =
+        right_way size Over (received_here (OutToken Data1 []) lost NoReply) P Q pipes directions.In sound refl opens ways
         (λ going unended holds. (refl, tt, (λ known own none. not_done directions.In going known), again address (with_again true going) Q pipes small sound unended (stays going holds)))
-    status_out true (DataReply toggle bytes) =
-        right_way size described (received_here (OutToken Data1 []) true (DataReply toggle bytes)) P Q pipes directions.In sound refl opens ways
+    status_out true (DataReply toggle bytes) stalls =
+        right_way size Over (received_here (OutToken Data1 []) true (DataReply toggle bytes)) P Q pipes directions.In sound refl opens ways
         (λ going unended holds. (refl, tt, (λ known own none. not_done directions.In going known), again address (with_again true going) Q pipes small sound unended (stays going holds)))
-    status_out false (DataReply toggle bytes) =
-        right_way size described (received_here (OutToken Data1 []) false (DataReply toggle bytes)) P Q pipes directions.In sound refl opens ways
-        (λ going unended holds. (refl, reported_over size described (received_here (OutToken Data1 []) false (DataReply toggle bytes)) endings.Done going.transfer (report going holds), whole_end going (whole going holds), ended_at address (with_again false going) Q pipes sound))
+    status_out false (DataReply toggle bytes) stalls =
+        right_way size Over (received_here (OutToken Data1 []) false (DataReply toggle bytes)) P Q pipes directions.In sound refl opens ways
+        (λ going unended holds. (refl, ends (received_here (OutToken Data1 []) false (DataReply toggle bytes)) going holds, whole_end going (whole going holds), ended_at address (with_again false going) Q pipes sound))
 
   -- a SETUP with its request
-  pub setup_right : (q : Setup) (lost : Bool) (came : Reply) (Q : Going → Type 0)
+  pub setup_right : (q : Setup) (lost : Bool) (came : Reply) (Q : Going → Type 0) → ((transfer : ControlTransfer) → transfer.ending ≡ Unseen → Over transfer)
       → Q (record { transfer = begun_by (received_here (SetupToken (setup_bytes q)) lost came) (setup_at (setup_bytes q) 0); toggle = first_toggle })
-      → Right size described (received_here (SetupToken (setup_bytes q)) lost came) Q pipes
-  setup_right q lost came Q holds = (
+      → Right size Over (received_here (SetupToken (setup_bytes q)) lost came) Q pipes
+  setup_right q lost came Q unseen holds = (
     refl,
     over (open_with address pipes.held) refl,
     λ known own none. refl,
     begins_at (received_here (SetupToken (setup_bytes q)) lost came) (setup_at (setup_bytes q) 0) Q pipes small sound refl holds,
   )
     where
-      over : (o : Option ControlTransfer) → open_with address pipes.held ≡ o → IfOver size described o
+      over : (o : Option ControlTransfer) → open_with address pipes.held ≡ o → IfOver Over o
       over None e = tt
-      over (Some transfer) e = unseen_over size described transfer (found_unseen address pipes.held transfer sound.unseen e)
+      over (Some transfer) e = unseen transfer (found_unseen address pipes.held transfer sound.unseen e)

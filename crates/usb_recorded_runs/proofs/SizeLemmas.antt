@@ -54,9 +54,9 @@ pub record IsSound (size : ℕ) (described : Setup → List ℕ) (transfer : Con
   pub few : is_answered transfer.ending ≡ true → transfer.length ≤ transfer.setup.length
   pub asked : is_stall transfer.ending ≡ true → reads_status transfer.setup ≡ false
 
-abbrev pub IfOver : ℕ → (Setup → List ℕ) → Option ControlTransfer → Type 0
-IfOver size described None = Unit {0}
-IfOver size described (Some transfer) = IsSound size described transfer
+abbrev pub IfOver : (ControlTransfer → Type 0) → Option ControlTransfer → Type 0
+IfOver P None = Unit {0}
+IfOver P (Some transfer) = P transfer
 
 record SaysParts (reads done kept whole device : Bool) : Type 0 where
   is_read : reads ≡ true

@@ -1,7 +1,6 @@
 -- The step of a run that is a transaction: what is known of the transfer that is open, before it and after it.
 use Rattle.std.proofs.Common.{◌≡◌, ◌⊎◌, inl, inr, ◌==◌, ◌||◌, ◌<◌, ◌≤◌, ◌+◌, ◌/◌, nat_lt, ℕ, suc, Bool, true, false, if◌then◌else◌, List, [], ◌∷◌, ◌++◌, length, take, drop, refl, sym, ◌∙◌, ap, subst, arith, length-append}
 use Rattle.std.specs.Prelude.{Option, Some, slice_index}
-use Rattle.std.proofs.lemmas.Bool.Decides.{nat_tests}
 use Rattle.std.proofs.lemmas.List.{append-nil}
 use Rattle.usb_fields.specs.declared.packet.Toggle.{Toggle}
 use Rattle.usb_fields.specs.declared.packet.Toggle.TheVariants.{Data0, Data1}
@@ -19,6 +18,7 @@ use Rattle.usb_device.specs.declared.state.State.{State}
 use Rattle.usb_device.specs.Requests.{Bytes, Done, Outcome, Refused, Takes}
 use Rattle.usb_device.specs.Step.{DeviceStage, DeviceView, Sending, Served, StatusIn, acked, acked_stage, acked_state, next_stage, replies, served, served_here}
 use Rattle.usb_device.specs.Step as device
+use Rattle.usb_bus.specs.Beside.{IsTable}
 use Rattle.usb_bus.specs.declared.fate.Fate.{Fate}
 use Rattle.usb_bus.specs.declared.fate.Fate.TheVariants as fates
 use Rattle.usb_bus.specs.Bus.{acknowledges, brought}
@@ -26,8 +26,10 @@ use Rattle.usb_bus.specs.Damaged.{is_ready}
 use Rattle.usb_bus.specs.Exchanges.{is_lost_ack, is_lost_down}
 use Rattle.usb_bus.specs.Wire.{data_kind}
 use Rattle.usb_capture.specs.declared.control_transfer.ControlTransfer.{ControlTransfer}
+use Rattle.usb_capture.specs.declared.ending.Ending.TheVariants as endings
+use Rattle.usb_capture.specs.declared.ending.Ending.TheVariants.{Unseen}
 use Rattle.usb_capture.specs.declared.transaction.Transaction.{Transaction}
-use Rattle.usb_capture.specs.BusTransfers.{Going, Pipes, begun_by, data_direction, first_toggle, has_toggle, pipes_after, toggle_at, transfer_over, with_bytes}
+use Rattle.usb_capture.specs.BusTransfers.{Going, Pipes, begun_by, data_direction, ended_so, first_toggle, has_toggle, pipes_after, toggle_at, transfer_over, with_bytes}
 use Rattle.usb_capture.specs.Events.{setup_at}
 use Rattle.usb_capture.specs.Findings.{reads_status}
 use Rattle.usb_capture.specs.PacketFindings.{has_wrong_toggle, is_early}
@@ -39,18 +41,16 @@ use Rattle.usb_recorded_runs.proofs.PlaceLemmas.{FirstTells}
 use Rattle.usb_recorded_runs.proofs.DeviceLemmas.{Follows, IsElsewhere, IsEmpty, IsNext, IsSent, acked_flips, acked_so, in_toggle, none_some, served_sends}
 use Rattle.usb_recorded_runs.proofs.FrontLemmas.{front_more}
 use Rattle.usb_recorded_runs.proofs.ReceivedLemmas.{EndsWhole, Goes, IsNoData, NotEarly, Right, bytes_cases, bytes_count, bytes_cut, bytes_keep, bytes_total, received_in, packet_in, quiet_in, right_at, setup_right, status_in, status_out, with_again, with_next}
-use Rattle.usb_recorded_runs.proofs.SizeLemmas.{Fronts, IfOver, Tells, Reported, nothing_tells}
+use Rattle.usb_recorded_runs.proofs.SizeLemmas.{Fronts, IfOver, IsSound, Tells, Reported, nothing_tells, reported_over, unseen_over}
+use Rattle.usb_recorded_runs.proofs.TogetherLemmas.{HasEnded, IsRefused, IsWhole, TogetherAfter, TogetherBy, Took, after_answer, begun_together, data_together, done_ended, less_so, not_less, not_same, or_cases, same_so, sent_length, sent_setup, stall_ended, status_in_together, status_out_together, unseen_ended}
 
 -- which way data go by the request that was recorded
-recorded_length : (q : Setup) → (setup_at (setup_bytes q) 0).length ≡ q.length
-recorded_length q = omega arith
-
 none_way : (q : Setup) → q.length ≡ 0 → data_direction (setup_at (setup_bytes q) 0) ≡ directions.Out
-none_way q none = ap (λ n. if n == 0 then directions.Out else direction_of q.request_type) (recorded_length q ∙ none)
+none_way q none = ap (λ n. if n == 0 then directions.Out else direction_of q.request_type) (sent_length q ∙ none)
 
 some_way : (q : Setup) → (q.length == 0) ≡ false → direction_of q.request_type ≡ directions.In → data_direction (setup_at (setup_bytes q) 0) ≡ directions.In
 some_way q some way =
-    ap (λ n. if n == 0 then directions.Out else direction_of q.request_type) (recorded_length q)
+    ap (λ n. if n == 0 then directions.Out else direction_of q.request_type) (sent_length q)
     ∙ ap (λ c. if c then directions.Out else direction_of q.request_type) some ∙ way
 
 -- a transfer that has just begun: its request, the toggle that it awaits, and how many bytes have come
@@ -96,7 +96,22 @@ flips_again Data1 Data1 is = absurd (let w : ⊥ = cc in w)
 
 module _ (table : State → Setup → Outcome) (cut : ℕ) (described : Setup → List ℕ)
     (fronts : (s : State) (q : Setup) (bytes : List ℕ) → table s q ≡ Bytes bytes → (m : ℕ) →
-    Fronts cut described q (joined (take m (packets bytes cut q.length)))) where
+    Fronts cut described q (joined (take m (packets bytes cut q.length)))) (is_table : IsTable table) where
+  -- what is known of a transfer that is over, of a device whose packets have eight bytes at least
+  abbrev pub IsOver : ControlTransfer → Type 0
+  IsOver transfer = IsSound cut described transfer × (8 ≤ cut → HasEnded table transfer)
+
+  stall_over : (t : Transaction) (transfer : ControlTransfer) → Reported cut described transfer → (8 ≤ cut → IsRefused table transfer.setup)
+      → IsOver (ended_so t endings.Stall transfer)
+  stall_over t transfer report refused = (reported_over cut described t endings.Stall transfer report, λ some. stall_ended table t transfer (refused some))
+
+  done_over : (t : Transaction) (transfer : ControlTransfer) → Reported cut described transfer
+      → (8 ≤ cut → ((transfer.setup.length ≡ 0) × (transfer.length ≡ 0)) ⊎ IsWhole table transfer.setup transfer.length) → IsOver (ended_so t endings.Done transfer)
+  done_over t transfer report whole = (reported_over cut described t endings.Done transfer report, λ some. done_ended table t transfer (whole some))
+
+  not_seen : (transfer : ControlTransfer) → transfer.ending ≡ Unseen → IsOver transfer
+  not_seen transfer unseen = (unseen_over cut described transfer unseen, λ some. unseen_ended table transfer unseen)
+
   -- ---- what a recorder has of the bytes
 
   -- this many packets of the answer to this request
@@ -291,26 +306,30 @@ module _ (table : State → Setup → Outcome) (cut : ℕ) (described : Setup �
     pub content : Content stage going
     pub next_is : going.toggle.next ≡ awaited
     pub count_is : going.transfer.length ≡ kept
-    pub length_is : going.transfer.setup.length ≡ q.length
+    pub setup_is : going.transfer.setup ≡ sent_setup q
     pub low : q.length < 65536
 
-  pub record InStatusOut (address : ℕ) (going : Going) : Type 0 where
+  pub record InStatusOut (address : ℕ) (kept : ℕ) (q : Setup) (going : Going) : Type 0 where
     pub way : Goes directions.In going
     pub report : Reported cut described going.transfer
     pub whole : EndsWhole cut address going
+    pub count_is : going.transfer.length ≡ kept
+    pub setup_is : going.transfer.setup ≡ sent_setup q
 
-  pub record InStatusIn (stage : DeviceStage) (going : Going) : Type 0 where
+  pub record InStatusIn (stage : DeviceStage) (q : Setup) (going : Going) : Type 0 where
     pub way : Goes directions.Out going
     pub first : (toggle : Toggle) → in_toggle stage ≡ Some toggle → toggle ≡ Data1
     pub report : Reported cut described going.transfer
+    pub setup_is : going.transfer.setup ≡ sent_setup q
+    pub none : q.length ≡ 0
 
   -- by the stage of a transfer, with its address, the toggle that it awaits, how many bytes have come, and its request
   abbrev pub FitsBy : TransferStage → DeviceStage → ℕ → Toggle → ℕ → Setup → Going → Type 0
   FitsBy stages.Setup stage address awaited kept q going = Unit {0}
   FitsBy stages.DataIn stage address awaited kept q going = InData stage awaited kept q going
   FitsBy stages.DataOut stage address awaited kept q going = Unit {0}
-  FitsBy stages.StatusOut stage address awaited kept q going = InStatusOut address going
-  FitsBy stages.StatusIn stage address awaited kept q going = InStatusIn stage going
+  FitsBy stages.StatusOut stage address awaited kept q going = InStatusOut address kept q going
+  FitsBy stages.StatusIn stage address awaited kept q going = InStatusIn stage q going
   FitsBy stages.Completed stage address awaited kept q going = Unit {0}
   FitsBy (stages.Failed why) stage address awaited kept q going = Unit {0}
 
@@ -332,8 +351,8 @@ module _ (table : State → Setup → Outcome) (cut : ℕ) (described : Setup �
   AfterReply stages.DataIn reply stage t going = AfterData reply stage t going
   AfterReply stages.Setup reply stage t going = Unit {0}
   AfterReply stages.DataOut reply stage t going = Unit {0}
-  AfterReply stages.StatusOut reply stage t going = InStatusOut t.address going
-  AfterReply stages.StatusIn reply stage t going = InStatusIn stage going
+  AfterReply stages.StatusOut reply stage t going = InStatusOut t.address t.kept t.request going
+  AfterReply stages.StatusIn reply stage t going = InStatusIn stage t.request going
   AfterReply stages.Completed reply stage t going = Unit {0}
   AfterReply (stages.Failed why) reply stage t going = Unit {0}
 
@@ -355,34 +374,22 @@ module _ (table : State → Setup → Outcome) (cut : ℕ) (described : Setup �
   -- a host's transfer, the stage of a device, and what is open at the transfer's address
   pub record Agrees (stage : TransferStage) (t : TransferView) (d : DeviceStage) (pipes : Pipes) : Type 0 where
     pub may_be : MayBe stage t
-    pub size_is : SizeIsKnown cut t.address t.packet
+    pub size_is : SizeIsKnown cut t.address t.packet t.request
     pub same : AsksSame stage t.request d
+    pub both : 8 ≤ cut → TogetherBy table cut stage t.request t.awaited t.kept d
     pub fits : OpenAt t.address (Fits stage d t) pipes
 
   abbrev pub Agree : DeviceStage → Pipes → TransferView → Type 0
   Agree d pipes t = Agrees t.stage t d pipes
 
-  pub fresh_agrees : (d : DeviceStage) (pipes : Pipes) (address packet naks : ℕ) (q : Setup) → IsAsked q → SizeIsKnown cut address packet
+  pub fresh_agrees : (d : DeviceStage) (pipes : Pipes) (address packet naks : ℕ) (q : Setup) → IsAsked q → SizeIsKnown cut address packet q
       → Agree d pipes (begun address packet naks q)
   fresh_agrees d pipes address packet naks q asked size_is =
-      record { may_be = record { asked = asked; awaits = refl; none = refl }; size_is = size_is; same = tt; fits = λ transfer is. tt }
+      record { may_be = record { asked = asked; awaits = refl; none = refl }; size_is = size_is; same = tt; both = λ some. tt; fits = λ transfer is. tt }
 
-  or_cases : (a b : Bool) → (a || b) ≡ true → (a ≡ true) ⊎ (b ≡ true)
-  or_cases true b e = inl refl
-  or_cases false b e = inr e
-
-  less_so : (m n : ℕ) → nat_lt m n ≡ true → m < n
-  less_so m n e = grind (arith, nat_tests)
-
-  not_less_so : (m n : ℕ) → nat_lt m n ≡ false → n ≤ m
-  not_less_so m n e = grind (arith, nat_tests)
-
-  same_so : (m n : ℕ) → (m == n) ≡ true → m ≡ n
-  same_so m n e = grind (arith, nat_tests)
-
-  module _ (d : DeviceStage) (pipes : Pipes) (t : TransferView) (size_is : SizeIsKnown cut t.address t.packet) where
+  module _ (d : DeviceStage) (pipes : Pipes) (t : TransferView) (size_is : SizeIsKnown cut t.address t.packet t.request) where
     failed_agrees : (why : Why) → Agree d pipes (failed t why).transfer
-    failed_agrees why = record { may_be = tt; size_is = size_is; same = tt; fits = λ transfer is. tt }
+    failed_agrees why = record { may_be = tt; size_is = size_is; same = tt; both = λ some. tt; fits = λ transfer is. tt }
 
     either_agrees : (c : Bool) (x y : Taken) → (c ≡ true → Agree d pipes x.transfer) → (c ≡ false → Agree d pipes y.transfer) → Agree d pipes (if c then x else y).transfer
     either_agrees true x y p q = p refl
@@ -391,21 +398,21 @@ module _ (table : State → Setup → Outcome) (cut : ℕ) (described : Setup �
     module _ (still : Agrees t.stage t d pipes) where
       struck_agrees : Agree d pipes (struck t).transfer
       struck_agrees = either_agrees (nat_lt t.strikes 2) _ (failed t whys.NoAnswer)
-          (λ c. record { may_be = still.may_be; size_is = size_is; same = still.same; fits = still.fits }) (λ c. failed_agrees whys.NoAnswer)
+          (λ c. record { may_be = still.may_be; size_is = size_is; same = still.same; both = still.both; fits = still.fits }) (λ c. failed_agrees whys.NoAnswer)
 
       delayed_agrees : Agree d pipes (delayed t).transfer
       delayed_agrees = either_agrees (nat_lt t.nak_count t.naks) _ (failed t whys.Busy)
-          (λ c. record { may_be = still.may_be; size_is = size_is; same = still.same; fits = still.fits }) (λ c. failed_agrees whys.Busy)
+          (λ c. record { may_be = still.may_be; size_is = size_is; same = still.same; both = still.both; fits = still.fits }) (λ c. failed_agrees whys.Busy)
 
     -- The data stage ends with all bytes, or with a packet that is shorter than a whole one.
     ends_whole : (n : ℕ) (going : Going) → InData d (flipped t.awaited) (t.kept + n) t.request going → going.toggle.last ≡ n
         → (nat_lt n t.packet ≡ true) ⊎ ((t.kept + n == t.request.length) ≡ true) → EndsWhole cut t.address going
     ends_whole n going h last (inl short) = of size_is
       where
-        of : SizeIsKnown cut t.address t.packet → EndsWhole cut t.address going
-        of (inl zero) = inl zero
+        of : SizeIsKnown cut t.address t.packet t.request → EndsWhole cut t.address going
+        of (inl few) = inl few.0
         of (inr own) = inr (inl (omega (arith, less_so n t.packet short, own, last)))
-    ends_whole n going h last (inr all) = inr (inr (omega (arith, same_so (t.kept + n) t.request.length all, h.count_is, h.length_is)))
+    ends_whole n going h last (inr all) = inr (inr (omega (arith, same_so (t.kept + n) t.request.length all, h.count_is, ap (λ q. q.length) h.setup_is, sent_length t.request)))
 
     after_data : (n : ℕ) (last : Bool) (going : Going) → (nat_lt n t.packet || (t.kept + n == t.request.length)) ≡ last
         → InData d (flipped t.awaited) (t.kept + n) t.request going × (going.toggle.last ≡ n) → Fits (if last then stages.StatusOut else stages.DataIn) d (with_packet t n) going
@@ -413,6 +420,8 @@ module _ (table : State → Setup → Outcome) (cut : ℕ) (described : Setup �
       way = h.0.way;
       report = content_reported d going h.0.content;
       whole = ends_whole n going h.0 h.1 (or_cases (nat_lt n t.packet) (t.kept + n == t.request.length) e);
+      count_is = h.0.count_is;
+      setup_is = h.0.setup_is;
     }
     after_data n false going e h = h.0
 
@@ -424,85 +433,84 @@ module _ (table : State → Setup → Outcome) (cut : ℕ) (described : Setup �
     same_after true same = tt
     same_after false same = same
 
-    kept_agrees : (toggle : Toggle) (bytes : List ℕ) → AsksSame stages.DataIn t.request d → OpenAt t.address (AfterPacket toggle bytes d t.awaited t.kept t.request) pipes → is_same_toggle toggle t.awaited ≡ true
+    kept_agrees : (toggle : Toggle) (bytes : List ℕ) → AsksSame stages.DataIn t.request d → (8 ≤ cut → Took table cut toggle bytes t.packet t.awaited t.kept t.request d) → OpenAt t.address (AfterPacket toggle bytes d t.awaited t.kept t.request) pipes → is_same_toggle toggle t.awaited ≡ true
         → nat_lt t.request.length (t.kept + length bytes) ≡ false → Agree d pipes (kept_packet t bytes).transfer
-    kept_agrees toggle bytes same after is few =
+    kept_agrees toggle bytes same took after is few =
         let last = nat_lt (length bytes) t.packet || (t.kept + length bytes == t.request.length) in
         record {
           may_be = may_after last (flipped t.awaited) (t.kept + length bytes);
           size_is = size_is;
           same = same_after last same;
+          both = λ some. (took some).next_so is (not_less t.request.length (t.kept + length bytes) few) last refl;
           fits = λ transfer found. after_data (length bytes) last (record { transfer = transfer; toggle = toggle_at t.address pipes }) refl
-              ((after transfer found).took is (not_less_so t.request.length (t.kept + length bytes) few));
+              ((after transfer found).took is (not_less t.request.length (t.kept + length bytes) few));
         }
 
-    data_agrees : (toggle : Toggle) (bytes : List ℕ) → t.stage ≡ stages.DataIn → AsksSame stages.DataIn t.request d → OpenAt t.address (AfterPacket toggle bytes d t.awaited t.kept t.request) pipes
+    data_agrees : (toggle : Toggle) (bytes : List ℕ) → t.stage ≡ stages.DataIn → AsksSame stages.DataIn t.request d
+        → (8 ≤ cut → Took table cut toggle bytes t.packet t.awaited t.kept t.request d) → OpenAt t.address (AfterPacket toggle bytes d t.awaited t.kept t.request) pipes
         → Agree d pipes (taken_data t toggle bytes).transfer
-    data_agrees toggle bytes at same after =
+    data_agrees toggle bytes at same took after =
         either_agrees (nat_lt t.packet (length bytes)) (failed t whys.TooLong) _ (λ c. failed_agrees whys.TooLong)
         (λ c. either_agrees (is_same_toggle toggle t.awaited) _ (struck t)
         (λ is. either_agrees (nat_lt t.request.length (t.kept + length bytes)) (failed t whys.TooLong) (kept_packet t bytes) (λ many. failed_agrees whys.TooLong)
-        (λ few. kept_agrees toggle bytes same after is few))
+        (λ few. kept_agrees toggle bytes same took after is few))
         (λ other. struck_agrees (subst (λ s. Agrees s t d pipes) (sym at)
-        (record { may_be = tt; size_is = size_is; same = same; fits = λ transfer found. (after transfer found).again_so other }))))
+        (record { may_be = tt; size_is = size_is; same = same; both = λ some. (took some).again_so other; fits = λ transfer found. (after transfer found).again_so other }))))
 
-    status_agrees : (toggle : Toggle) (bytes : List ℕ) → Agrees t.stage t d pipes → Agree d pipes (taken_status t toggle bytes).transfer
-    status_agrees Data0 (byte ∷ bytes) still = failed_agrees whys.TooLong
-    status_agrees Data1 (byte ∷ bytes) still = failed_agrees whys.TooLong
-    status_agrees Data0 [] still = struck_agrees still
-    status_agrees Data1 [] still = record { may_be = tt; size_is = size_is; same = tt; fits = λ transfer is. tt }
+    status_agrees : (toggle : Toggle) (bytes : List ℕ) → ((8 ≤ cut → TogetherBy table cut t.stage t.request t.awaited t.kept d) → Agrees t.stage t d pipes)
+        → (8 ≤ cut → toggle ≡ Data1) → Agree d pipes (taken_status t toggle bytes).transfer
+    status_agrees Data0 (byte ∷ bytes) still first = failed_agrees whys.TooLong
+    status_agrees Data1 (byte ∷ bytes) still first = failed_agrees whys.TooLong
+    status_agrees Data0 [] still first = struck_agrees (still (λ some. absurd (let e : Data0 ≡ Data1 = first some in let w : ⊥ = cc in w)))
+    status_agrees Data1 [] still first = record { may_be = tt; size_is = size_is; same = tt; both = λ some. tt; fits = λ transfer is. tt }
 
   -- They agree after an answer, if they do where it changes nothing and after the ACK of a SETUP.
-  module _ (d : DeviceStage) (pipes : Pipes) (t : TransferView) (size_is : SizeIsKnown cut t.address t.packet) (stage : TransferStage) (at : t.stage ≡ stage)
+  module _ (d : DeviceStage) (pipes : Pipes) (t : TransferView) (size_is : SizeIsKnown cut t.address t.packet t.request) (stage : TransferStage) (at : t.stage ≡ stage)
       (may : MayBe stage t) (same : AsksSame stage t.request d) where
-    still_so : OpenAt t.address (Fits stage d t) pipes → Agree d pipes t
-    still_so fits = subst (λ s. Agrees s t d pipes) (sym at) (record { may_be = may; size_is = size_is; same = same; fits = fits })
+    still_so : (8 ≤ cut → TogetherBy table cut stage t.request t.awaited t.kept d) → OpenAt t.address (Fits stage d t) pipes → Agree d pipes t
+    still_so both fits = subst (λ s. Agrees s t d pipes) (sym at) (record { may_be = may; size_is = size_is; same = same; both = both; fits = fits })
 
     failed_so : (why : Why) → Agree d pipes (failed t why).transfer
     failed_so why = failed_agrees d pipes t size_is why
 
-    struck_so : OpenAt t.address (Fits stage d t) pipes → Agree d pipes (struck t).transfer
-    struck_so fits = struck_agrees d pipes t size_is (still_so fits)
+    struck_so : (8 ≤ cut → TogetherBy table cut stage t.request t.awaited t.kept d) → OpenAt t.address (Fits stage d t) pipes → Agree d pipes (struck t).transfer
+    struck_so both fits = struck_agrees d pipes t size_is (still_so both fits)
 
-    delayed_so : OpenAt t.address (Fits stage d t) pipes → Agree d pipes (delayed t).transfer
-    delayed_so fits = delayed_agrees d pipes t size_is (still_so fits)
+    delayed_so : (8 ≤ cut → TogetherBy table cut stage t.request t.awaited t.kept d) → OpenAt t.address (Fits stage d t) pipes → Agree d pipes (delayed t).transfer
+    delayed_so both fits = delayed_agrees d pipes t size_is (still_so both fits)
 
     completed_so : Agree d pipes (completed t).transfer
-    completed_so = record { may_be = tt; size_is = size_is; same = tt; fits = λ transfer is. tt }
+    completed_so = record { may_be = tt; size_is = size_is; same = tt; both = λ some. tt; fits = λ transfer is. tt }
 
     moved_so : Agrees (stage_after_setup t.request) t d pipes → Agree d pipes (moved t (stage_after_setup t.request)).transfer
-    moved_so next = record { may_be = next.may_be; size_is = size_is; same = next.same; fits = next.fits }
+    moved_so next = record { may_be = next.may_be; size_is = size_is; same = next.same; both = next.both; fits = next.fits }
 
-  pub taken_agrees : (d : DeviceStage) (pipes : Pipes) (t : TransferView) (size_is : SizeIsKnown cut t.address t.packet) (stage : TransferStage) (came : Reply) → t.stage ≡ stage
-      → MayBe stage t → AsksSame stage t.request d → OpenAt t.address (AfterReply stage came d t) pipes
+  pub taken_agrees : (d : DeviceStage) (pipes : Pipes) (t : TransferView) (size_is : SizeIsKnown cut t.address t.packet t.request) (stage : TransferStage) (came : Reply) → t.stage ≡ stage
+      → MayBe stage t → AsksSame stage t.request d → (8 ≤ cut → TogetherAfter table cut stage came d t) → OpenAt t.address (AfterReply stage came d t) pipes
       → (stage ≡ stages.Setup → came ≡ AckReply → Agrees (stage_after_setup t.request) t d pipes) → Agree d pipes (taken_at t stage came).transfer
-  taken_agrees d pipes t size_is stages.Setup AckReply at may same after acks = moved_so d pipes t size_is stages.Setup at may same (acks refl refl)
-  taken_agrees d pipes t size_is stages.Setup NakReply at may same after acks = failed_so d pipes t size_is stages.Setup at may same whys.Unexpected
-  taken_agrees d pipes t size_is stages.Setup StallReply at may same after acks = failed_so d pipes t size_is stages.Setup at may same whys.Unexpected
-  taken_agrees d pipes t size_is stages.Setup (DataReply toggle bytes) at may same after acks = failed_so d pipes t size_is stages.Setup at may same whys.Unexpected
-  taken_agrees d pipes t size_is stages.Setup NoReply at may same after acks = struck_so d pipes t size_is stages.Setup at may same after
-  taken_agrees d pipes t size_is stages.DataIn AckReply at may same after acks = failed_so d pipes t size_is stages.DataIn at may same whys.Unexpected
-  taken_agrees d pipes t size_is stages.DataIn NakReply at may same after acks = delayed_so d pipes t size_is stages.DataIn at may same after
-  taken_agrees d pipes t size_is stages.DataIn StallReply at may same after acks = failed_so d pipes t size_is stages.DataIn at may same whys.Stalled
-  taken_agrees d pipes t size_is stages.DataIn (DataReply toggle bytes) at may same after acks = data_agrees d pipes t size_is toggle bytes at same after
-  taken_agrees d pipes t size_is stages.DataIn NoReply at may same after acks = struck_so d pipes t size_is stages.DataIn at may same after
-  taken_agrees d pipes t size_is stages.DataOut came at may same after acks = absurd may
-  taken_agrees d pipes t size_is stages.StatusOut AckReply at may same after acks = completed_so d pipes t size_is stages.StatusOut at may same
-  taken_agrees d pipes t size_is stages.StatusOut NakReply at may same after acks = delayed_so d pipes t size_is stages.StatusOut at may same after
-  taken_agrees d pipes t size_is stages.StatusOut StallReply at may same after acks = failed_so d pipes t size_is stages.StatusOut at may same whys.Stalled
-  taken_agrees d pipes t size_is stages.StatusOut (DataReply toggle bytes) at may same after acks = failed_so d pipes t size_is stages.StatusOut at may same whys.Unexpected
-  taken_agrees d pipes t size_is stages.StatusOut NoReply at may same after acks = struck_so d pipes t size_is stages.StatusOut at may same after
-  taken_agrees d pipes t size_is stages.StatusIn AckReply at may same after acks = failed_so d pipes t size_is stages.StatusIn at may same whys.Unexpected
-  taken_agrees d pipes t size_is stages.StatusIn NakReply at may same after acks = delayed_so d pipes t size_is stages.StatusIn at may same after
-  taken_agrees d pipes t size_is stages.StatusIn StallReply at may same after acks = failed_so d pipes t size_is stages.StatusIn at may same whys.Stalled
-  taken_agrees d pipes t size_is stages.StatusIn (DataReply toggle bytes) at may same after acks = status_agrees d pipes t size_is toggle bytes (still_so d pipes t size_is stages.StatusIn at may same after)
-  taken_agrees d pipes t size_is stages.StatusIn NoReply at may same after acks = struck_so d pipes t size_is stages.StatusIn at may same after
-  taken_agrees d pipes t size_is stages.Completed came at may same after acks = still_so d pipes t size_is stages.Completed at may same after
-  taken_agrees d pipes t size_is (stages.Failed why) came at may same after acks = still_so d pipes t size_is (stages.Failed why) at may same after
-
-  -- a device after its answer, where the host's ACK of it may reach it
-  abbrev pub after_answer : Fate → Served → DeviceView
-  after_answer fate r = if acknowledges fate r.reply then acked table cut r.device else r.device
+  taken_agrees d pipes t size_is stages.Setup AckReply at may same both after acks = moved_so d pipes t size_is stages.Setup at may same (acks refl refl)
+  taken_agrees d pipes t size_is stages.Setup NakReply at may same both after acks = failed_so d pipes t size_is stages.Setup at may same whys.Unexpected
+  taken_agrees d pipes t size_is stages.Setup StallReply at may same both after acks = failed_so d pipes t size_is stages.Setup at may same whys.Unexpected
+  taken_agrees d pipes t size_is stages.Setup (DataReply toggle bytes) at may same both after acks = failed_so d pipes t size_is stages.Setup at may same whys.Unexpected
+  taken_agrees d pipes t size_is stages.Setup NoReply at may same both after acks = struck_so d pipes t size_is stages.Setup at may same both after
+  taken_agrees d pipes t size_is stages.DataIn AckReply at may same both after acks = failed_so d pipes t size_is stages.DataIn at may same whys.Unexpected
+  taken_agrees d pipes t size_is stages.DataIn NakReply at may same both after acks = delayed_so d pipes t size_is stages.DataIn at may same both after
+  taken_agrees d pipes t size_is stages.DataIn StallReply at may same both after acks = failed_so d pipes t size_is stages.DataIn at may same whys.Stalled
+  taken_agrees d pipes t size_is stages.DataIn (DataReply toggle bytes) at may same both after acks = data_agrees d pipes t size_is toggle bytes at same both after
+  taken_agrees d pipes t size_is stages.DataIn NoReply at may same both after acks = struck_so d pipes t size_is stages.DataIn at may same both after
+  taken_agrees d pipes t size_is stages.DataOut came at may same both after acks = absurd may
+  taken_agrees d pipes t size_is stages.StatusOut AckReply at may same both after acks = completed_so d pipes t size_is stages.StatusOut at may same
+  taken_agrees d pipes t size_is stages.StatusOut NakReply at may same both after acks = delayed_so d pipes t size_is stages.StatusOut at may same both after
+  taken_agrees d pipes t size_is stages.StatusOut StallReply at may same both after acks = failed_so d pipes t size_is stages.StatusOut at may same whys.Stalled
+  taken_agrees d pipes t size_is stages.StatusOut (DataReply toggle bytes) at may same both after acks = failed_so d pipes t size_is stages.StatusOut at may same whys.Unexpected
+  taken_agrees d pipes t size_is stages.StatusOut NoReply at may same both after acks = struck_so d pipes t size_is stages.StatusOut at may same both after
+  taken_agrees d pipes t size_is stages.StatusIn AckReply at may same both after acks = failed_so d pipes t size_is stages.StatusIn at may same whys.Unexpected
+  taken_agrees d pipes t size_is stages.StatusIn NakReply at may same both after acks = delayed_so d pipes t size_is stages.StatusIn at may same both after
+  taken_agrees d pipes t size_is stages.StatusIn StallReply at may same both after acks = failed_so d pipes t size_is stages.StatusIn at may same whys.Stalled
+  taken_agrees d pipes t size_is stages.StatusIn (DataReply toggle bytes) at may same both after acks = status_agrees d pipes t size_is toggle bytes (λ still. still_so d pipes t size_is stages.StatusIn at may same (λ some. subst (λ g. TogetherBy table cut g t.request t.awaited t.kept d) at (still some)) after) both
+  taken_agrees d pipes t size_is stages.StatusIn NoReply at may same both after acks = struck_so d pipes t size_is stages.StatusIn at may same both after
+  taken_agrees d pipes t size_is stages.Completed came at may same both after acks = still_so d pipes t size_is stages.Completed at may same both after
+  taken_agrees d pipes t size_is (stages.Failed why) came at may same both after acks = still_so d pipes t size_is (stages.Failed why) at may same both after
 
   module _ (number : ℕ) (time : Option ℕ) (address : ℕ) (small : address < 256) (pipes : Pipes) (sound : Sound pipes) where
     -- an IN of the data stage
@@ -533,7 +541,7 @@ module _ (table : State → Setup → Outcome) (cut : ℕ) (described : Setup �
             content = content;
             next_is = ap flipped h.next_is;
             count_is = bytes_total bytes going.transfer (omega (arith, few, h.low, h.count_is)) ∙ ap (λ n. n + length bytes) h.count_is;
-            length_is = ap (λ q. q.length) (bytes_keep bytes going.transfer) ∙ h.length_is;
+            setup_is = bytes_keep bytes going.transfer ∙ h.setup_is;
             low = h.low;
           },
           refl,
@@ -552,16 +560,17 @@ module _ (table : State → Setup → Outcome) (cut : ℕ) (described : Setup �
           content = content;
           next_is = h.next_is;
           count_is = h.count_is;
-          length_is = h.length_is;
+          setup_is = h.setup_is;
           low = h.low;
         };
       }
 
     data_step : (t : TransferView) (fate : Fate) (old : DeviceStage) (reply : Reply) (new : DeviceView) → is_lost_down fate ≡ false → Follows old new.stage
         → (new.stage ≡ old) ⊎ IsElsewhere new.stage → IsSent table cut old new reply → OpenAt address (InData old t.awaited t.kept t.request) pipes
-        → Right cut described (received_in number time address InToken (is_lost_ack fate) (brought fate reply))
-        (AfterData (brought fate reply) (after_answer fate (record { reply = reply; device = new })).stage t) pipes
-    data_step t fate old reply new kept follows stays_so sent opens = of fate reply kept sent
+        → (8 ≤ cut → brought fate reply ≡ StallReply → IsRefused table (sent_setup t.request))
+        → Right cut IsOver (received_in number time address InToken (is_lost_ack fate) (brought fate reply))
+        (AfterData (brought fate reply) (after_answer table cut fate (record { reply = reply; device = new })).stage t) pipes
+    data_step t fate old reply new kept follows stays_so sent opens refuses = of fate reply kept sent refuses
       where
         Before : Going → Type 0
         Before = InData old t.awaited t.kept t.request
@@ -573,25 +582,26 @@ module _ (table : State → Setup → Outcome) (cut : ℕ) (described : Setup �
           content = content_stays old new.stage going stays_so h.content;
           next_is = h.next_is;
           count_is = h.count_is;
-          length_is = h.length_is;
+          setup_is = h.setup_is;
           low = h.low;
         }
 
-        quiet : (lost : Bool) (came : Reply) → IsNoData came → Right cut described (received_in number time address InToken lost came) (InData new.stage t.awaited t.kept t.request) pipes
-        quiet lost came none = quiet_in cut described number time address small pipes sound Before (InData new.stage t.awaited t.kept t.request) lost came none opens
-            (λ going h. content_reported old going h.content) stays
+        quiet : (lost : Bool) (came : Reply) → IsNoData came → (8 ≤ cut → came ≡ StallReply → IsRefused table (sent_setup t.request))
+            → Right cut IsOver (received_in number time address InToken lost came) (InData new.stage t.awaited t.kept t.request) pipes
+        quiet lost came none refused = quiet_in cut IsOver number time address small pipes sound Before (InData new.stage t.awaited t.kept t.request) lost came none opens
+            (λ u going h is. stall_over u going.transfer (content_reported old going h.content) (λ some. subst (IsRefused table) (sym h.setup_is) (refused some is))) stays
 
         unreceived : (toggle : Toggle) (bytes : List ℕ) → IsSent table cut old new (DataReply toggle bytes)
-            → Right cut described (received_in number time address InToken true (DataReply toggle bytes)) (AfterPacket toggle bytes new.stage t.awaited t.kept t.request) pipes
-        unreceived toggle bytes sent = packet_in cut described number time address small pipes sound toggle bytes Before (AfterPacket toggle bytes new.stage t.awaited t.kept t.request) opens
+            → Right cut IsOver (received_in number time address InToken true (DataReply toggle bytes)) (AfterPacket toggle bytes new.stage t.awaited t.kept t.request) pipes
+        unreceived toggle bytes sent = packet_in cut IsOver number time address small pipes sound toggle bytes Before (AfterPacket toggle bytes new.stage t.awaited t.kept t.request) opens
             (λ going h. h.way) (λ going h. h.in_time toggle sent.was) true (λ going h. (
               λ e. next_packet_so t toggle bytes true old new.stage going h (λ other is. inr refl) (received_next old new.stage toggle bytes true going h.content sent.which stays_so e) e,
               λ e. again_packet_so t toggle bytes true old new.stage going h (λ other is. inr refl) (received_again old new.stage toggle bytes true going h.content sent.which stays_so e) e,
             ))
 
         received : (toggle : Toggle) (bytes : List ℕ) → IsSent table cut old new (DataReply toggle bytes)
-            → Right cut described (received_in number time address InToken false (DataReply toggle bytes)) (AfterPacket toggle bytes (acked table cut new).stage t.awaited t.kept t.request) pipes
-        received toggle bytes sent = packet_in cut described number time address small pipes sound toggle bytes Before (AfterPacket toggle bytes (acked table cut new).stage t.awaited t.kept t.request) opens
+            → Right cut IsOver (received_in number time address InToken false (DataReply toggle bytes)) (AfterPacket toggle bytes (acked table cut new).stage t.awaited t.kept t.request) pipes
+        received toggle bytes sent = packet_in cut IsOver number time address small pipes sound toggle bytes Before (AfterPacket toggle bytes (acked table cut new).stage t.awaited t.kept t.request) opens
             (λ going h. h.way) (λ going h. h.in_time toggle sent.was) false (λ going h. (
               λ e. next_packet_so t toggle bytes false old (acked table cut new).stage going h
                   (λ other is. inl (acked_flips table cut new toggle other sent.waits sent.is is ∙ flips_next toggle going.toggle.next e))
@@ -603,76 +613,84 @@ module _ (table : State → Setup → Outcome) (cut : ℕ) (described : Setup �
                   (received_again old new.stage toggle bytes false going h.content sent.which stays_so e)) e,
             ))
 
-        of : (fate : Fate) (reply : Reply) → is_lost_down fate ≡ false → IsSent table cut old new reply
-            → Right cut described (received_in number time address InToken (is_lost_ack fate) (brought fate reply))
-            (AfterData (brought fate reply) (after_answer fate (record { reply = reply; device = new })).stage t) pipes
-        of fates.LostDown reply kept sent = absurd (let w : ⊥ = cc in w)
-        of fates.LostUp reply kept sent = quiet false NoReply tt
-        of fates.LostAck (DataReply toggle bytes) kept sent = unreceived toggle bytes sent
-        of fates.LostAck AckReply kept sent = quiet true AckReply tt
-        of fates.LostAck NakReply kept sent = quiet true NakReply tt
-        of fates.LostAck StallReply kept sent = quiet true StallReply tt
-        of fates.LostAck NoReply kept sent = quiet true NoReply tt
-        of fates.Pass (DataReply toggle bytes) kept sent = received toggle bytes sent
-        of fates.Pass AckReply kept sent = quiet false AckReply tt
-        of fates.Pass NakReply kept sent = quiet false NakReply tt
-        of fates.Pass StallReply kept sent = quiet false StallReply tt
-        of fates.Pass NoReply kept sent = quiet false NoReply tt
-        of fates.Busy (DataReply toggle bytes) kept sent = received toggle bytes sent
-        of fates.Busy AckReply kept sent = quiet false AckReply tt
-        of fates.Busy NakReply kept sent = quiet false NakReply tt
-        of fates.Busy StallReply kept sent = quiet false StallReply tt
-        of fates.Busy NoReply kept sent = quiet false NoReply tt
+        of : (fate : Fate) (reply : Reply) → is_lost_down fate ≡ false → IsSent table cut old new reply → (8 ≤ cut → brought fate reply ≡ StallReply → IsRefused table (sent_setup t.request))
+            → Right cut IsOver (received_in number time address InToken (is_lost_ack fate) (brought fate reply))
+            (AfterData (brought fate reply) (after_answer table cut fate (record { reply = reply; device = new })).stage t) pipes
+        of fates.LostDown reply kept sent refused = absurd (let w : ⊥ = cc in w)
+        of fates.LostUp reply kept sent refused = quiet false NoReply tt refused
+        of fates.LostAck (DataReply toggle bytes) kept sent refused = unreceived toggle bytes sent
+        of fates.LostAck AckReply kept sent refused = quiet true AckReply tt refused
+        of fates.LostAck NakReply kept sent refused = quiet true NakReply tt refused
+        of fates.LostAck StallReply kept sent refused = quiet true StallReply tt refused
+        of fates.LostAck NoReply kept sent refused = quiet true NoReply tt refused
+        of fates.Pass (DataReply toggle bytes) kept sent refused = received toggle bytes sent
+        of fates.Pass AckReply kept sent refused = quiet false AckReply tt refused
+        of fates.Pass NakReply kept sent refused = quiet false NakReply tt refused
+        of fates.Pass StallReply kept sent refused = quiet false StallReply tt refused
+        of fates.Pass NoReply kept sent refused = quiet false NoReply tt refused
+        of fates.Busy (DataReply toggle bytes) kept sent refused = received toggle bytes sent
+        of fates.Busy AckReply kept sent refused = quiet false AckReply tt refused
+        of fates.Busy NakReply kept sent refused = quiet false NakReply tt refused
+        of fates.Busy StallReply kept sent refused = quiet false StallReply tt refused
+        of fates.Busy NoReply kept sent refused = quiet false NoReply tt refused
 
     -- an IN of the status stage
-    status_step : (fate : Fate) (old : DeviceStage) (reply : Reply) (new : DeviceView) → is_lost_down fate ≡ false → Follows old new.stage → (new.stage ≡ old) ⊎ IsElsewhere new.stage
+    status_step : (q : Setup) (fate : Fate) (old : DeviceStage) (reply : Reply) (new : DeviceView) → is_lost_down fate ≡ false → Follows old new.stage → (new.stage ≡ old) ⊎ IsElsewhere new.stage
         → IsSent table cut old new reply
-        → OpenAt address (InStatusIn old) pipes
-        → Right cut described (received_in number time address InToken (is_lost_ack fate) (brought fate reply)) (InStatusIn (after_answer fate (record { reply = reply; device = new })).stage) pipes
-    status_step fate old reply new kept follows stays_so sent opens = of fate reply kept sent
+        → OpenAt address (InStatusIn old q) pipes → (8 ≤ cut → brought fate reply ≡ StallReply → IsRefused table (sent_setup q))
+        → Right cut IsOver (received_in number time address InToken (is_lost_ack fate) (brought fate reply)) (InStatusIn (after_answer table cut fate (record { reply = reply; device = new })).stage q) pipes
+    status_step q fate old reply new kept follows stays_so sent opens refuses = of fate reply kept sent refuses
       where
         P : Going → Type 0
-        P = InStatusIn old
+        P = InStatusIn old q
 
-        quiet : (lost : Bool) (came : Reply) → IsNoData came → Right cut described (received_in number time address InToken lost came) (InStatusIn new.stage) pipes
-        quiet lost came none = quiet_in cut described number time address small pipes sound P (InStatusIn new.stage) lost came none opens (λ going h. h.report) (λ going h. record { way = h.way; first = λ toggle is. h.first toggle (follows toggle is); report = h.report })
+        quiet : (lost : Bool) (came : Reply) → IsNoData came → (8 ≤ cut → came ≡ StallReply → IsRefused table (sent_setup q))
+            → Right cut IsOver (received_in number time address InToken lost came) (InStatusIn new.stage q) pipes
+        quiet lost came none refused = quiet_in cut IsOver number time address small pipes sound P (InStatusIn new.stage q) lost came none opens
+            (λ u going h is. stall_over u going.transfer h.report (λ some. subst (IsRefused table) (sym h.setup_is) (refused some is)))
+            (λ going h. record { way = h.way; first = λ toggle is. h.first toggle (follows toggle is); report = h.report; setup_is = h.setup_is; none = h.none })
+
+        none_came : (going : Going) → P going → (going.transfer.setup.length ≡ 0) × (going.transfer.length ≡ 0)
+        none_came going h =
+            let none : going.transfer.setup.length ≡ 0 = ap (λ r. r.length) h.setup_is ∙ sent_length q ∙ h.none in
+            (none, omega (arith, none, h.report.few))
 
         zero_one : Data0 ≡ Data1 → ⊥
         zero_one e = let w : ⊥ = cc in w
 
-        packet : (lost : Bool) (toggle : Toggle) (bytes : List ℕ) (Q : Going → Type 0) → IsSent table cut old new (DataReply toggle bytes) → Right cut described (received_in number time address InToken lost (DataReply toggle bytes)) Q pipes
-        packet lost Data1 bytes Q sent = status_in cut described number time address small pipes sound P Q lost bytes opens (λ going h. h.way) (λ going h. h.report)
-        packet lost Data0 bytes Q sent = right_at cut described (received_in number time address InToken lost (DataReply Data0 bytes)) P Q pipes sound refl opens (λ going unended h. absurd (zero_one (h.first Data0 sent.was)))
+        packet : (lost : Bool) (toggle : Toggle) (bytes : List ℕ) (Q : Going → Type 0) → IsSent table cut old new (DataReply toggle bytes) → Right cut IsOver (received_in number time address InToken lost (DataReply toggle bytes)) Q pipes
+        packet lost Data1 bytes Q sent = status_in cut IsOver number time address small pipes sound P Q lost bytes opens (λ going h. h.way) (λ u going h. done_over u going.transfer h.report (λ some. inl (none_came going h)))
+        packet lost Data0 bytes Q sent = right_at cut IsOver (received_in number time address InToken lost (DataReply Data0 bytes)) P Q pipes sound refl opens (λ going unended h. absurd (zero_one (h.first Data0 sent.was)))
 
-        of : (fate : Fate) (reply : Reply) → is_lost_down fate ≡ false → IsSent table cut old new reply
-            → Right cut described (received_in number time address InToken (is_lost_ack fate) (brought fate reply)) (InStatusIn (after_answer fate (record { reply = reply; device = new })).stage) pipes
-        of fates.LostDown reply kept sent = absurd (let w : ⊥ = cc in w)
-        of fates.LostUp reply kept sent = quiet false NoReply tt
-        of fates.LostAck (DataReply toggle bytes) kept sent = packet true toggle bytes (InStatusIn new.stage) sent
-        of fates.LostAck AckReply kept sent = quiet true AckReply tt
-        of fates.LostAck NakReply kept sent = quiet true NakReply tt
-        of fates.LostAck StallReply kept sent = quiet true StallReply tt
-        of fates.LostAck NoReply kept sent = quiet true NoReply tt
-        of fates.Pass (DataReply toggle bytes) kept sent = packet false toggle bytes (InStatusIn (acked table cut new).stage) sent
-        of fates.Pass AckReply kept sent = quiet false AckReply tt
-        of fates.Pass NakReply kept sent = quiet false NakReply tt
-        of fates.Pass StallReply kept sent = quiet false StallReply tt
-        of fates.Pass NoReply kept sent = quiet false NoReply tt
-        of fates.Busy (DataReply toggle bytes) kept sent = packet false toggle bytes (InStatusIn (acked table cut new).stage) sent
-        of fates.Busy AckReply kept sent = quiet false AckReply tt
-        of fates.Busy NakReply kept sent = quiet false NakReply tt
-        of fates.Busy StallReply kept sent = quiet false StallReply tt
-        of fates.Busy NoReply kept sent = quiet false NoReply tt
+        of : (fate : Fate) (reply : Reply) → is_lost_down fate ≡ false → IsSent table cut old new reply → (8 ≤ cut → brought fate reply ≡ StallReply → IsRefused table (sent_setup q))
+            → Right cut IsOver (received_in number time address InToken (is_lost_ack fate) (brought fate reply)) (InStatusIn (after_answer table cut fate (record { reply = reply; device = new })).stage q) pipes
+        of fates.LostDown reply kept sent refused = absurd (let w : ⊥ = cc in w)
+        of fates.LostUp reply kept sent refused = quiet false NoReply tt refused
+        of fates.LostAck (DataReply toggle bytes) kept sent refused = packet true toggle bytes (InStatusIn new.stage q) sent
+        of fates.LostAck AckReply kept sent refused = quiet true AckReply tt refused
+        of fates.LostAck NakReply kept sent refused = quiet true NakReply tt refused
+        of fates.LostAck StallReply kept sent refused = quiet true StallReply tt refused
+        of fates.LostAck NoReply kept sent refused = quiet true NoReply tt refused
+        of fates.Pass (DataReply toggle bytes) kept sent refused = packet false toggle bytes (InStatusIn (acked table cut new).stage q) sent
+        of fates.Pass AckReply kept sent refused = quiet false AckReply tt refused
+        of fates.Pass NakReply kept sent refused = quiet false NakReply tt refused
+        of fates.Pass StallReply kept sent refused = quiet false StallReply tt refused
+        of fates.Pass NoReply kept sent refused = quiet false NoReply tt refused
+        of fates.Busy (DataReply toggle bytes) kept sent refused = packet false toggle bytes (InStatusIn (acked table cut new).stage q) sent
+        of fates.Busy AckReply kept sent refused = quiet false AckReply tt refused
+        of fates.Busy NakReply kept sent refused = quiet false NakReply tt refused
+        of fates.Busy StallReply kept sent refused = quiet false StallReply tt refused
+        of fates.Busy NoReply kept sent refused = quiet false NoReply tt refused
 
   -- After the ACK of a SETUP that came, a device has begun its transfer.
   setup_stage : (d : DeviceView) (q : Setup) (address : ℕ) (fate : Fate) → is_lost_down fate ≡ false
       → (let r = served table cut d (record { address = address; token = SetupToken (setup_bytes q) }) (is_ready fate) in
-      brought fate r.reply ≡ AckReply → (after_answer fate r).stage ≡ device.begun (setup_of (setup_bytes q)) (table d.state (setup_of (setup_bytes q))))
+      brought fate r.reply ≡ AckReply → (after_answer table cut fate r).stage ≡ device.begun (setup_of (setup_bytes q)) (table d.state (setup_of (setup_bytes q))))
   setup_stage d q address fate kept = of fate (address == d.state.address) kept
     where
       of : (fate : Fate) (here : Bool) → is_lost_down fate ≡ false
           → (let r = if here then served_here table cut d (SetupToken (setup_bytes q)) (is_ready fate) else replies NoReply d.state d.stage false in
-          brought fate r.reply ≡ AckReply → (after_answer fate r).stage ≡ device.begun (setup_of (setup_bytes q)) (table d.state (setup_of (setup_bytes q))))
+          brought fate r.reply ≡ AckReply → (after_answer table cut fate r).stage ≡ device.begun (setup_of (setup_bytes q)) (table d.state (setup_of (setup_bytes q))))
       of fates.Pass true kept acks = refl
       of fates.Busy true kept acks = refl
       of fates.LostAck true kept acks = refl
@@ -695,12 +713,6 @@ module _ (table : State → Setup → Outcome) (cut : ℕ) (described : Setup �
   begun_content s q (Done next) t other e = begun_reported q t other
   begun_content s q Refused t other e = begun_reported q t other
   begun_content s q (Takes judge) t other e = begun_reported q t other
-
-  same_count : (q : Setup) → (q.length == 0) ≡ true → q.length ≡ 0
-  same_count q e = grind (arith, nat_tests)
-
-  some_count : (q : Setup) → (q.length == 0) ≡ false → q.length ≡ 0 → ⊥
-  some_count q e none = grind (arith, nat_tests)
 
   -- what is open then, and at which stage the host's transfer is
   pub record AfterSetup (tv : TransferView) (at : TransferStage) (stage : DeviceStage) (going : Going) : Type 0 where
@@ -742,7 +754,13 @@ module _ (table : State → Setup → Outcome) (cut : ℕ) (described : Setup �
       of true e brings = record {
         may_be = tt;
         same = tt;
-        fits = record { way = none_way q (same_count q e); first = first; report = begun_reported (setup_at (setup_bytes q) 0) t begins.asked.other };
+        fits = record {
+          way = none_way q (same_so q.length 0 e);
+          first = first;
+          report = begun_reported (setup_at (setup_bytes q) 0) t begins.asked.other;
+          setup_is = refl;
+          none = same_so q.length 0 e;
+        };
       }
       of false e (inl way) = subst (λ w. AfterSetup tv (data_stage w) stage begun_so) (sym way) (record {
         may_be = tt;
@@ -753,11 +771,11 @@ module _ (table : State → Setup → Outcome) (cut : ℕ) (described : Setup �
           content = content;
           next_is = sym begins.awaits;
           count_is = sym begins.none;
-          length_is = recorded_length q;
+          setup_is = refl;
           low = low;
         };
       })
-      of false e (inr none) = absurd (some_count q e none)
+      of false e (inr none) = absurd (not_same q.length 0 e none)
 
   -- a device that answers the same request after the ACK of a packet
   next_same : (q : Setup) (all : List ℕ) (k : ℕ) (left : List (List ℕ)) (r : Setup) (more : List ℕ) (m : ℕ) → next_stage q all k left ≡ Sending r more m → (r ≡ q) × (more ≡ all)
@@ -837,48 +855,53 @@ module _ (table : State → Setup → Outcome) (cut : ℕ) (described : Setup �
     received_of token = received_in number time t.address token (is_lost_ack fate) (brought fate (answer_to token).reply)
 
     abbrev later : Token → DeviceStage
-    later token = (after_answer fate (answer_to token)).stage
+    later token = (after_answer table cut fate (answer_to token)).stage
 
     pub record Steps (stage : TransferStage) (token : Token) : Type 0 where
       pub right : has_wrong_toggle (received_of token) pipes ≡ false
-      pub over : IfOver cut described (transfer_over (received_of token) pipes)
+      pub over : IfOver IsOver (transfer_over (received_of token) pipes)
       pub not_early : NotEarly cut t.address (λ known. is_early known (received_of token) pipes)
       pub sound_then : Sound (pipes_after (received_of token) pipes)
       pub agrees : Agree (later token) (pipes_after (received_of token) pipes) (taken_at t stage (brought fate (answer_to token).reply)).transfer
       pub may_come : stage ≡ stages.DataIn → t.request ≡ get_descriptor 1 0 0 8 → MayCome cut (brought fate (answer_to token).reply)
 
     -- at a stage where nothing is known of an ACK
-    step_at : (stage : TransferStage) (token : Token) → t.stage ≡ stage → (stage ≡ stages.Setup → ⊥) → SizeIsKnown cut t.address t.packet → MayBe stage t
-        → AsksSame stage t.request (later token) → Right cut described (received_of token) (AfterReply stage (brought fate (answer_to token).reply) (later token) t) pipes
+    step_at : (stage : TransferStage) (token : Token) → t.stage ≡ stage → (stage ≡ stages.Setup → ⊥) → SizeIsKnown cut t.address t.packet t.request → MayBe stage t
+        → AsksSame stage t.request (later token) → (8 ≤ cut → TogetherAfter table cut stage (brought fate (answer_to token).reply) (later token) t) → Right cut IsOver (received_of token) (AfterReply stage (brought fate (answer_to token).reply) (later token) t) pipes
         → (stage ≡ stages.DataIn → t.request ≡ get_descriptor 1 0 0 8 → MayCome cut (brought fate (answer_to token).reply)) → Steps stage token
-    step_at stage token at other size_is may same right comes =
+    step_at stage token at other size_is may same both right comes =
         record {
           right = right.0;
           over = right.1;
           not_early = right.2;
           sound_then = right.3.0;
-          agrees = taken_agrees (later token) (pipes_after (received_of token) pipes) t size_is stage (brought fate (answer_to token).reply) at may same right.3.1 (λ is. absurd (other is));
+          agrees = taken_agrees (later token) (pipes_after (received_of token) pipes) t size_is stage (brought fate (answer_to token).reply) at may same both right.3.1 (λ is. absurd (other is));
           may_come = comes;
         }
 
-    setup_step : t.stage ≡ stages.Setup → SizeIsKnown cut t.address t.packet → MayBe stages.Setup t → Steps stages.Setup (SetupToken (setup_bytes t.request))
+    setup_step : t.stage ≡ stages.Setup → SizeIsKnown cut t.address t.packet t.request → MayBe stages.Setup t → Steps stages.Setup (SetupToken (setup_bytes t.request))
     setup_step at size_is may =
         let token = SetupToken (setup_bytes t.request) in
         let came = brought fate (answer_to token).reply in
-        let right : Right cut described (received_of token) (λ going. Unit {0}) pipes = setup_right cut described number time t.address small pipes sound t.request (is_lost_ack fate) came (λ going. Unit {0}) tt in
+        let right : Right cut IsOver (received_of token) (λ going. Unit {0}) pipes = setup_right cut IsOver number time t.address small pipes sound t.request (is_lost_ack fate) came (λ going. Unit {0}) not_seen tt in
         record {
           right = right.0;
           over = right.1;
           not_early = right.2;
           sound_then = right.3.0;
-          agrees = taken_agrees (later token) (pipes_after (received_of token) pipes) t size_is stages.Setup came at may tt right.3.1
+          agrees = taken_agrees (later token) (pipes_after (received_of token) pipes) t size_is stages.Setup came at may tt (λ some. tt) right.3.1
               (λ is acks.
-              let after = after_setup t d.state (later token) (received_of token) may (low at) (setup_stage d t.request t.address fate kept acks) in
+              let begun_so = setup_stage d t.request t.address fate kept acks in
+              let after = after_setup t d.state (later token) (received_of token) may (low at) begun_so in
+              let both : 8 ≤ cut → TogetherBy table cut (stage_after_setup t.request) t.request Data1 0 (later token) =
+              (λ some. begun_together table cut is_table some t.request d.state (later token) may.asked begun_so) in
               record {
                 may_be = after.may_be;
                 size_is = size_is;
                 same = after.same;
-                fits = (setup_right cut described number time t.address small pipes sound t.request (is_lost_ack fate) came (Fits (stage_after_setup t.request) (later token) t) after.fits).3.1;
+                both = λ some. subst (λ g. TogetherBy table cut (stage_after_setup t.request) t.request g t.kept (later token)) (sym may.awaits)
+                    (subst (λ n. TogetherBy table cut (stage_after_setup t.request) t.request Data1 n (later token)) (sym may.none) (both some));
+                fits = (setup_right cut IsOver number time t.address small pipes sound t.request (is_lost_ack fate) came (Fits (stage_after_setup t.request) (later token) t) not_seen after.fits).3.1;
               });
           may_come = λ e. absurd (let w : ⊥ = cc in w);
         }
@@ -892,29 +915,38 @@ module _ (table : State → Setup → Outcome) (cut : ℕ) (described : Setup �
     step stages.DataIn sent at due agrees =
         let sends = served_sends table cut d t.address (is_ready fate) in
         let r = answer_to InToken in
-        let still = stays_same t.request d.stage r.device.stage sends.stays agrees.same in (
+        let still = stays_same t.request d.stage r.device.stage sends.stays agrees.same in
+        let both = λ (some : 8 ≤ cut). data_together table cut is_table some t d fate (is_ready fate) kept agrees.size_is (agrees.both some) sends.sent in (
           InToken,
           same_sent _ sent due,
-          step_at stages.DataIn InToken at (λ e. let w : ⊥ = cc in w) agrees.size_is tt (answer_same t.request (acknowledges fate r.reply) r.device still)
-              (data_step number time t.address small pipes sound t fate d.stage r.reply r.device kept sends.follows sends.stays sends.sent agrees.fits)
+          step_at stages.DataIn InToken at (λ e. let w : ⊥ = cc in w) agrees.size_is tt (answer_same t.request (acknowledges fate r.reply) r.device still) (λ some. (both some).together)
+              (data_step number time t.address small pipes sound t fate d.stage r.reply r.device kept sends.follows sends.stays sends.sent agrees.fits (λ some. (both some).refuses))
               (λ e is. comes_tell fate d.stage r.reply r.device (subst (λ q. AsksSame stages.DataIn q d.stage) is agrees.same) sends.sent),
         )
     step stages.StatusIn sent at due agrees =
-        let sends = served_sends table cut d t.address (is_ready fate) in (
+        let sends = served_sends table cut d t.address (is_ready fate) in
+        let both = λ (some : 8 ≤ cut). status_in_together table cut is_table some t d fate (is_ready fate) kept (agrees.both some) sends.sent in (
           InToken,
           same_sent _ sent due,
-          step_at stages.StatusIn InToken at (λ e. let w : ⊥ = cc in w) agrees.size_is tt tt
-              (status_step number time t.address small pipes sound fate d.stage (answer_to InToken).reply (answer_to InToken).device kept sends.follows sends.stays sends.sent agrees.fits)
+          step_at stages.StatusIn InToken at (λ e. let w : ⊥ = cc in w) agrees.size_is tt tt (λ some. (both some).together)
+              (status_step number time t.address small pipes sound t.request fate d.stage (answer_to InToken).reply (answer_to InToken).device kept sends.follows sends.stays sends.sent agrees.fits (λ some. (both some).refuses))
               (λ e. absurd (let w : ⊥ = cc in w)),
         )
-    step stages.StatusOut sent at due agrees = (
-      OutToken Data1 [],
-      same_sent _ sent due,
-      step_at stages.StatusOut (OutToken Data1 []) at (λ e. let w : ⊥ = cc in w) agrees.size_is tt tt
-          (status_out cut described number time t.address small pipes sound (InStatusOut t.address) (InStatusOut t.address)
-          agrees.fits (λ going h. h.way) (λ going h. h.report) (λ going h. h.whole) (λ going h. record { way = h.way; report = h.report; whole = h.whole }) (is_lost_ack fate) (brought fate (answer_to (OutToken Data1 [])).reply))
-          (λ e. absurd (let w : ⊥ = cc in w)),
-    )
+    step stages.StatusOut sent at due agrees =
+        let came = brought fate (answer_to (OutToken Data1 [])).reply in
+        let Fitting = InStatusOut t.address t.kept t.request in
+        let both = λ (some : 8 ≤ cut). status_out_together table cut is_table some t d fate (is_ready fate) kept (agrees.both some) in (
+          OutToken Data1 [],
+          same_sent _ sent due,
+          step_at stages.StatusOut (OutToken Data1 []) at (λ e. let w : ⊥ = cc in w) agrees.size_is tt tt (λ some. (both some).together)
+              (status_out cut IsOver number time t.address small pipes sound Fitting Fitting agrees.fits (λ going h. h.way)
+              (λ u going h. done_over u going.transfer h.report (λ some. inr (subst (λ q. IsWhole table q going.transfer.length) (sym h.setup_is)
+              (subst (IsWhole table (sent_setup t.request)) (sym h.count_is) (agrees.both some).1))))
+              (λ going h. h.whole)
+              (λ going h. record { way = h.way; report = h.report; whole = h.whole; count_is = h.count_is; setup_is = h.setup_is }) (is_lost_ack fate) came
+              (λ u going h is. stall_over u going.transfer h.report (λ some. subst (IsRefused table) (sym h.setup_is) ((both some).refuses is))))
+              (λ e. absurd (let w : ⊥ = cc in w)),
+        )
     step stages.DataOut sent at due agrees = absurd agrees.may_be
     step stages.Completed sent at due agrees = absurd (let w : ⊥ = cc in w)
     step (stages.Failed why) sent at due agrees = absurd (let w : ⊥ = cc in w)

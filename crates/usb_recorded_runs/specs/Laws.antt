@@ -25,7 +25,7 @@ use Rattle.usb_capture.specs.Reading.{IsRead}
 use Rattle.usb_capture.specs.Recordings.{transactions_in}
 use Rattle.usb_recorded_runs.specs.Captures.{AreOfFrames, Moment, capture_of, frames, times}
 use Rattle.usb_recorded_runs.specs.Exchanges.{exchanges, received, packets_in, transaction_of}
-use Rattle.usb_recorded_runs.specs.Findings.{IsFreeAfter, IsTransferFreeAfter, LosesHandshake}
+use Rattle.usb_recorded_runs.specs.Findings.{IsEnded, IsFreeAfter, IsTransferFreeAfter, LosesHandshake}
 
 -- A run from a new pair on, of n transactions under these fates, as that of an enumeration: these are the pairs on the way, the newest
 -- first. Each packet that arrives is a legal one.
@@ -159,6 +159,14 @@ NoNamedStringIsRefused =
     (f : DescriptorFile) (fates : List Fate) (limits : LimitView) (speed : Speed) (choice : Choice) (earlier : List Pair) (n : ℕ) (last : Pair)
     (times : ℕ → Option ℕ) → Accepted f speed → IsRun f fates (chosen_pair limits speed choice) earlier n last →
     IsTransferFreeAfter RefusesNamed [] (transfers_in (received times 1 (exchanges f fates earlier n)))
+
+-- Each control transfer ends as it does with a device of these descriptors: a STALL is its refusal, and what reads a descriptor has as many
+-- bytes of it as were asked for, or all (9.2.7, 9.4.3).
+abbrev pub TransfersEndRight : Type 0
+TransfersEndRight =
+    (f : DescriptorFile) (fates : List Fate) (limits : LimitView) (speed : Speed) (choice : Choice) (earlier : List Pair) (n : ℕ) (last : Pair)
+    (times : ℕ → Option ℕ) → Accepted f speed → IsRun f fates (chosen_pair limits speed choice) earlier n last →
+    AllByRecursion (IsEnded f) (transfers_in (received times 1 (exchanges f fates earlier n)))
 
 -- A handshake lacks in a transaction whose token arrives only where it was lost, or where the device has another address (8.5).
 abbrev pub HandshakesAreLost : Type 0
