@@ -1,10 +1,9 @@
 -- No string that a recorded device has named is refused.
-use Rattle.std.proofs.Common.{◌≡◌, ◌≢◌, ◌⊎◌, inl, inr, ◌<◌, ◌≤◌, ◌+◌, ◌*◌, ◌-◌, ◌/◌, ◌%◌, ◌==◌, ◌&&◌, ◌||◌, nat_lt, ℕ, zero, suc, Bool, true, false, not, cond, if◌then◌else◌, List, [], ◌∷◌, ◌++◌, length, drop, map, get_or, refl, sym, ◌∙◌, ap, subst, arith}
+use Rattle.std.proofs.Common.{◌≡◌, ◌≢◌, ◌⊎◌, inl, inr, ◌<◌, ◌≤◌, ◌+◌, ◌*◌, ◌-◌, ◌/◌, ◌%◌, ◌==◌, ◌&&◌, ◌||◌, nat_lt, ℕ, zero, suc, Bool, true, false, not, cond, if◌then◌else◌, List, [], ◌∷◌, ◌++◌, length, drop, get_or, refl, sym, ◌∙◌, ap, subst, arith}
 use Rattle.std.specs.Prelude.{Option, Some, None, filter, option_and_then, position, slice_get, slice_index, unwrap_or}
 use Rattle.std.specs.List.{AllByRecursion, flat_map, list_any, position_or_len, range_with_len}
 use Rattle.std.specs.Option.{option_map}
-use Rattle.std.proofs.lemmas.Bool.{and_parts, cases_lt, cond-true, eq-eqb, eqb-false, eqb-true, false_from_ne_true, lt-ltb, ltb-true, not-false, or_cases, or_left, or_parts, or_right}
-use Rattle.std.proofs.lemmas.List.{append-nil}
+use Rattle.std.proofs.lemmas.Bool.{and_parts, cond-true, eq-eqb, eqb-false, eqb-true, false_from_ne_true, lt-ltb, ltb-true, not-false, or_cases, or_left, or_parts, or_right}
 use Rattle.std.proofs.lemmas.List.Folds.{list_any-append, list_any_at}
 use Rattle.std.proofs.lemmas.List.FromFn.{get_or-range_with_len, length-range_with_len}
 use Rattle.std.proofs.lemmas.Map.Views.{any-filter_same}
@@ -25,7 +24,7 @@ use Rattle.usb_file_data.specs.declared.file.Strings.{Strings}
 use Rattle.usb_file_data.specs.File.{are_wrong_strings, device_string_indices, has_no_layout, has_wrong_count, has_wrong_kind, has_wrong_layout, named_among, named_indices, other_sets, set_string_indices, string_indices, string_place, units_at, whole_set}
 use Rattle.usb_file_data.proofs.WholeSets.{no_some}
 use Rattle.usb_device.specs.Accepted.{has_wrong_sets, has_wrong_strings, repeats_language}
-use Rattle.usb_device.specs.Descriptors.{descriptor, device_of, other_set_at, qualifier_of, set_at, string_at}
+use Rattle.usb_device.specs.Descriptors.{descriptor, other_set_at, qualifier_of, set_at, string_at}
 use Rattle.usb_device.proofs.AcceptedLemmas.{texts_as_many}
 use Rattle.usb_capture.specs.declared.asked.Asked.{Asked}
 use Rattle.usb_capture.specs.declared.control_transfer.ControlTransfer.{ControlTransfer}
@@ -35,7 +34,7 @@ use Rattle.usb_recorded_runs.specs.Findings.{IsTransferFreeAfter}
 use Rattle.usb_recorded_runs.proofs.AnswerLemmas.{described_by}
 use Rattle.usb_recorded_runs.proofs.ByteLemmas.{HasBytes, said_bytes}
 use Rattle.usb_recorded_runs.proofs.EndedLemmas.{IsEnded}
-use Rattle.usb_recorded_runs.proofs.NamedFronts.{byte_or_none, named_front, names_it, plain_named, same_byte, set_named}
+use Rattle.usb_recorded_runs.proofs.NamedFronts.{byte_or_none, named_front, plain_named, same_byte, set_named}
 use Rattle.usb_recorded_runs.proofs.RefusalLemmas.{KnowsFronts, all_both, all_of, refused_lacks, unsaid_right}
 use Rattle.usb_recorded_runs.proofs.SizeLemmas.{IsFront, IsSound}
 use Rattle.usb_recorded_runs.proofs.TransferLemmas.{by_kind, descriptor_of, free_by, said_front}

@@ -1,8 +1,7 @@
 -- Which descriptors no device refuses in a recorded enumeration.
-use Rattle.std.proofs.Common.{◌≡◌, ◌⊎◌, inl, inr, ◌<◌, ◌≤◌, ◌==◌, ◌&&◌, ◌||◌, ◌/◌, ◌%◌, nat_lt, ℕ, zero, suc, Bool, true, false, not, if◌then◌else◌, List, [], ◌∷◌, ◌++◌, length, refl, sym, ◌∙◌, ap, subst, arith, length-append}
-use Rattle.std.specs.Prelude.{Option, Some, None, slice_get, slice_index, unwrap_or}
+use Rattle.std.proofs.Common.{◌≡◌, ◌⊎◌, inl, inr, ◌<◌, ◌≤◌, ◌==◌, ◌&&◌, ◌||◌, ◌/◌, ◌%◌, nat_lt, ℕ, zero, suc, Bool, true, false, not, if◌then◌else◌, List, [], ◌∷◌, length, refl, sym, ◌∙◌, ap, subst, arith, length-append}
+use Rattle.std.specs.Prelude.{Option, Some, None, slice_index, unwrap_or}
 use Rattle.std.specs.List.{AllByRecursion}
-use Rattle.std.specs.Option.{option_map}
 use Rattle.std.proofs.lemmas.Bool.{and_parts, cases_lt, eqb-true, false_from_ne_true, ltb-true, not-false, or_cases, or_parts}
 use Rattle.std.proofs.lemmas.Bool.Decides.{nat_tests}
 use Rattle.std.proofs.lemmas.List.{get_or_past}
@@ -10,11 +9,11 @@ use Rattle.usb_fields.specs.declared.setup.Setup.{Setup}
 use Rattle.usb_set.specs.declared.tree.Configuration.{Configuration}
 use Rattle.usb_file_data.specs.declared.file.DescriptorFile.{DescriptorFile}
 use Rattle.usb_file_data.specs.declared.file.Other.{Other}
-use Rattle.usb_file_data.specs.File.{has_wrong_count, has_wrong_kind, has_wrong_layout, is_other_miscounted, named_indices, whole_set}
+use Rattle.usb_file_data.specs.File.{has_wrong_count, has_wrong_kind, has_wrong_layout, is_other_miscounted}
 use Rattle.usb_file_data.specs.Findings.{findings}
 use Rattle.usb_file_data.proofs.Sorting.{FirstIsRight, first_right}
 use Rattle.usb_device.specs.Accepted.{has_wrong_sets}
-use Rattle.usb_device.specs.Descriptors.{descriptor, device_of, other_set_at, qualifier_of, set_at, string_at}
+use Rattle.usb_device.specs.Descriptors.{descriptor, other_set_at, qualifier_of, set_at}
 use Rattle.usb_device.specs.declared.state.State.{State}
 use Rattle.usb_device.specs.Requests.{Bytes, Done, Refused, answer, gives}
 use Rattle.usb_capture.specs.declared.asked.Asked.{Asked}
