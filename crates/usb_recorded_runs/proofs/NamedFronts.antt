@@ -98,16 +98,10 @@ module _ (n : ℕ) (some : 0 < n) where
       later : List ℕ
       later = flat_map descriptor_bytes ds
 
-      by : IsFront (take (length first) front) first → (list_any names_it ds ≡ true) ⊎ ((string_index (take (length first) front) == n) ≡ true)
-          → list_any names_it (d ∷ ds) ≡ true
-      by here (inl there) = or_right (names_it d) (list_any names_it ds) there
-      by here (inr e) = or_left (names_it d) (list_any names_it ds) (front_named (take (length first) front) first here e)
-
-      either : ((string_index (take (length first) front) == n) ≡ true) ⊎ (names n (drop (length first) front) ≡ true)
-          → (names n (drop (length first) front) ≡ true → list_any names_it ds ≡ true)
-          → (list_any names_it ds ≡ true) ⊎ ((string_index (take (length first) front) == n) ≡ true)
-      either (inl e) there = inr e
-      either (inr e) there = inl (there e)
+      by : IsFront (take (length first) front) first → ((string_index (take (length first) front) == n) ≡ true) ⊎ (names n (drop (length first) front) ≡ true)
+          → (names n (drop (length first) front) ≡ true → list_any names_it ds ≡ true) → list_any names_it (d ∷ ds) ≡ true
+      by here (inl e) there = or_left (names_it d) (list_any names_it ds) (front_named (take (length first) front) first here e)
+      by here (inr e) there = or_right (names_it d) (list_any names_it ds) (there e)
 
       of : (0 < length front) ⊎ (length front ≤ 0) → ((left : List ℕ) → IsFront left later → names n left ≡ true → list_any names_it ds ≡ true)
           → list_any names_it (d ∷ ds) ≡ true
@@ -118,8 +112,8 @@ module _ (n : ℕ) (some : 0 < n) where
           let both : (string_index (take (length first) front) == n || names n (drop (length first) front)) ≡ true =
           subst (λ m. (string_index (take m front) == n || names n (drop m front)) ≡ true) size (sym (names_step n front (omega (arith, says))) ∙ e) in
           let parts = parts_front first front is.0 later is.1 in
-          by parts.0 (either (or_cases (string_index (take (length first) front) == n) (names n (drop (length first) front)) both)
-          (there (drop (length first) front) parts.1))
+          by parts.0 (or_cases (string_index (take (length first) front) == n) (names n (drop (length first) front)) both)
+          (there (drop (length first) front) parts.1)
 
   alone : (b : Bool) → (b || false) ≡ true → b ≡ true
   alone true e = refl
