@@ -54,12 +54,14 @@ came_bytes fates.LostDown reply rest legal = reply_bytes reply rest legal
 came_bytes fates.LostAck reply rest legal = reply_bytes reply rest legal
 
 token_bytes : (token : Token) (fate : Fate) (reply : Reply) (rest : List PacketView)
-    → AllByRecursion IsLegal (arriving false (data_packet token) ++ (arriving (is_lost_up fate) (reply_packet reply) ++ rest)) → DataAreBytes (data_received token (brought fate reply))
+    → AllByRecursion IsLegal (arriving false (data_packet token) ++ (arriving (is_lost_up fate) (reply_packet reply) ++ rest))
+    → DataAreBytes (data_received token (brought fate reply))
 token_bytes (SetupToken bytes) fate reply rest legal = legal.0.0
 token_bytes (OutToken toggle bytes) fate reply rest legal = legal.0.0
 token_bytes InToken fate reply rest legal = came_bytes fate reply rest legal
 
-one_bytes : (x : Exchange) → is_lost_down x.fate ≡ false → AllByRecursion IsLegal (packets_of x) → DataAreBytes (data_received x.sent.token (brought x.fate x.answered))
+one_bytes : (x : Exchange) → is_lost_down x.fate ≡ false → AllByRecursion IsLegal (packets_of x)
+    → DataAreBytes (data_received x.sent.token (brought x.fate x.answered))
 one_bytes x kept legal =
     let last = arriving (is_lost_ack x.fate) (ack_packet (brought x.fate x.answered)) in
     let rest = arriving (is_lost_up x.fate) (reply_packet x.answered) ++ last in
@@ -70,7 +72,8 @@ one_bytes x kept legal =
 abbrev HasData : Transaction → Type 0
 HasData transaction = DataAreBytes transaction.data
 
-first_bytes : (lost : Bool) (t : Transaction) (ts : List Transaction) → (lost ≡ false → HasData t) → AllByRecursion HasData ts → AllByRecursion HasData (unless_lost lost t ++ ts)
+first_bytes : (lost : Bool) (t : Transaction) (ts : List Transaction) → (lost ≡ false → HasData t) → AllByRecursion HasData ts
+    → AllByRecursion HasData (unless_lost lost t ++ ts)
 first_bytes true t ts here later = later
 first_bytes false t ts here later = (here refl, later)
 
@@ -127,7 +130,8 @@ push_bytes address transfer opens has each = all_append OpenBytes opens (opened 
 
 part_bytes : (part : Part) (t : Transaction) (transfer : ControlTransfer) (toggle : DataToggle) (pipes : Pipes) → HasData t → HasBytes transfer
     → AllByRecursion OpenBytes pipes.held → AllByRecursion OpenBytes (pipes_with part t transfer toggle pipes).held
-part_bytes parts.Data t transfer toggle pipes more has each = push_bytes t.to.address (with_packet t.data transfer) pipes.held (packet_bytes t.data transfer more has) each
+part_bytes parts.Data t transfer toggle pipes more has each =
+    push_bytes t.to.address (with_packet t.data transfer) pipes.held (packet_bytes t.data transfer more has) each
 part_bytes parts.Neither t transfer toggle pipes more has each = push_bytes t.to.address transfer pipes.held has each
 part_bytes (parts.Status ending) t transfer toggle pipes more has each = each
 
@@ -141,20 +145,24 @@ by_bytes None (Some transfer) t pipes more has each =
 
 after_bytes : (t : Transaction) (pipes : Pipes) → HasData t → AllByRecursion OpenBytes pipes.held → AllByRecursion OpenBytes (pipes_after t pipes).held
 after_bytes t pipes more each =
-    by_bytes (request_of t) (open_with t.to.address pipes.held) t (closed t.to.address pipes) more (found_bytes t.to.address pipes.held each) (without_bytes t.to.address pipes.held each)
+    by_bytes (request_of t) (open_with t.to.address pipes.held) t (closed t.to.address pipes) more
+    (found_bytes t.to.address pipes.held each) (without_bytes t.to.address pipes.held each)
 
-ended_bytes : (part : Part) (t : Transaction) (transfer : ControlTransfer) → HasBytes transfer → AllByRecursion HasBytes (option_to_list (over_with_part part t transfer))
+ended_bytes : (part : Part) (t : Transaction) (transfer : ControlTransfer) → HasBytes transfer
+    → AllByRecursion HasBytes (option_to_list (over_with_part part t transfer))
 ended_bytes parts.Data t transfer has = tt
 ended_bytes parts.Neither t transfer has = tt
 ended_bytes (parts.Status ending) t transfer has = (has, tt)
 
-over_bytes : (request : Option Setup) (o : Option ControlTransfer) (t : Transaction) (pipes : Pipes) → IfBytes o → AllByRecursion HasBytes (option_to_list (over_by request o t pipes))
+over_bytes : (request : Option Setup) (o : Option ControlTransfer) (t : Transaction) (pipes : Pipes) → IfBytes o
+    → AllByRecursion HasBytes (option_to_list (over_by request o t pipes))
 over_bytes (Some setup) None t pipes has = tt
 over_bytes (Some setup) (Some transfer) t pipes has = (has, tt)
 over_bytes None None t pipes has = tt
 over_bytes None (Some transfer) t pipes has = ended_bytes (part_at t transfer pipes) t transfer has
 
-given_bytes : (pipes : Pipes) (ts : List Transaction) → AllByRecursion HasData ts → AllByRecursion OpenBytes pipes.held → AllByRecursion HasBytes (given_in pipes_after transfer_over pipes ts)
+given_bytes : (pipes : Pipes) (ts : List Transaction) → AllByRecursion HasData ts → AllByRecursion OpenBytes pipes.held
+    → AllByRecursion HasBytes (given_in pipes_after transfer_over pipes ts)
 given_bytes pipes [] each held = tt
 given_bytes pipes (t ∷ ts) each held =
     all_append HasBytes (option_to_list (transfer_over t pipes)) (given_in pipes_after transfer_over (pipes_after t pipes) ts)

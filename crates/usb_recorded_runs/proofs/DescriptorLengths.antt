@@ -1,6 +1,6 @@
 -- How long each descriptor says that it is.
-use Rattle.std.proofs.Common.{◌≡◌, ◌<◌, ◌≤◌, ◌+◌, ◌*◌, ◌==◌, ◌&&◌, ◌||◌, ◌/◌, ◌%◌, min, nat_lt, ℕ, zero, suc, Bool, true, false, not, if◌then◌else◌, List, [], ◌∷◌, length, refl, sym, ◌∙◌, ap, arith}
-use Rattle.std.specs.Prelude.{Option, Some, None, slice_get, slice_index, unwrap_or}
+use Rattle.std.proofs.Common.{◌≡◌, ◌<◌, ◌≤◌, ◌==◌, ◌&&◌, ◌||◌, ◌/◌, ◌%◌, min, nat_lt, ℕ, zero, suc, Bool, true, false, not, if◌then◌else◌, List, [], ◌∷◌, length, refl, sym, ◌∙◌, ap, arith}
+use Rattle.std.specs.Prelude.{Option, Some, None, slice_index, unwrap_or}
 use Rattle.std.specs.List.{AllByRecursion}
 use Rattle.std.specs.Option.{option_map}
 use Rattle.std.proofs.lemmas.Bool.{eq-eqb, ltb-false}
@@ -16,7 +16,7 @@ use Rattle.usb_file_data.specs.declared.file.Other.{Other}
 use Rattle.usb_file_data.specs.declared.file.Strings.{Strings}
 use Rattle.usb_file_data.specs.File.{named_indices, units_at, whole_set}
 use Rattle.usb_file_data.proofs.Units.{length-units_bytes}
-use Rattle.usb_device.specs.Descriptors.{descriptor, device_of, other_set_at, qualifier_of, set_at, string_at}
+use Rattle.usb_device.specs.Descriptors.{descriptor, other_set_at, qualifier_of, set_at, string_at}
 use Rattle.usb_capture.specs.declared.control_transfer.ControlTransfer.{ControlTransfer}
 use Rattle.usb_capture.specs.declared.ending.Ending.{Ending}
 use Rattle.usb_capture.specs.declared.ending.Ending.TheVariants as endings
@@ -77,11 +77,13 @@ other_says (Some other) index = set_says other.sets index
 
 descriptor_says : (f : DescriptorFile) (kind index language : ℕ) → LengthIs kind (descriptor f kind index language)
 descriptor_says f kind index language =
-    by_kind LengthIs f index language (device_says f (index == 0)) (set_says f.sets index) (string_says f.strings (named_indices f) index language) (qualifier_says f.other index)
+    by_kind LengthIs f index language (device_says f (index == 0)) (set_says f.sets index)
+    (string_says f.strings (named_indices f) index language) (qualifier_says f.other index)
     (other_says f.other index) (λ k. tt) kind
 
 -- Its first bytes say so too, if they are enough.
-full_front : (kind : ℕ) (front all : List ℕ) → IsFront front all → nat_lt (length front) (length_bytes kind) ≡ false → full_length kind front ≡ full_length kind all
+full_front : (kind : ℕ) (front all : List ℕ) → IsFront front all → nat_lt (length front) (length_bytes kind) ≡ false
+    → full_length kind front ≡ full_length kind all
 full_front kind front all is long = of (kind == 2 || kind == 7) (ltb-false (length front) (length_bytes kind) long)
   where
     of : (totals : Bool) → (if totals then 4 else 1) ≤ length front
@@ -101,7 +103,8 @@ has_ended endings.Stall e = absurd (let w : ⊥ = cc in w)
 has_ended (endings.Failed status) e = absurd (let w : ⊥ = cc in w)
 has_ended (endings.Refused status) e = absurd (let w : ⊥ = cc in w)
 
-no_other_length : (brings type short same first : Bool) → (brings ≡ true → short ≡ false → same ≡ true) → (brings && type && not short && not same && not first) ≡ false
+no_other_length : (brings type short same first : Bool) → (brings ≡ true → short ≡ false → same ≡ true)
+    → (brings && type && not short && not same && not first) ≡ false
 no_other_length true true false same first is = let e : same ≡ true = is refl refl in cc
 no_other_length false type short same first is = refl
 no_other_length true false short same first is = refl
@@ -110,11 +113,13 @@ no_other_length true true true same first is = refl
 length_right : (size : ℕ) (f : DescriptorFile) (t : ControlTransfer) → IsSound size (described_by f) t → IsEnded f t → has_other_length t ≡ false
 length_right size f t is ended =
     let kind = t.setup.value / 256 in
-    no_other_length (brings_descriptor t) (slice_index t.data 1 == kind) (nat_lt (length t.data) (length_bytes kind)) (t.length == min t.setup.length (full_length kind t.data))
+    no_other_length (brings_descriptor t) (slice_index t.data 1 == kind) (nat_lt (length t.data) (length_bytes kind))
+    (t.length == min t.setup.length (full_length kind t.data))
     (is_first_packet kind t) (λ e long.
     let parts = parts_brought t e in
     let front = is.front parts.is_read parts.is_ended parts.is_kept in
-    let said = front_says kind (descriptor_of f (asked_of t)) t.data (descriptor_says f kind (t.setup.value % 256) t.setup.index) front (less_so (length t.data) parts.of_type) long in
+    let said = front_says kind (descriptor_of f (asked_of t)) t.data
+    (descriptor_says f kind (t.setup.value % 256) t.setup.index) front (less_so (length t.data) parts.of_type) long in
     eq-eqb t.length (min t.setup.length (full_length kind t.data))
     (ended.whole (has_ended t.ending parts.is_ended) parts.is_read ∙ ap (λ n. min t.setup.length n) (sym said)))
 

@@ -1,6 +1,6 @@
 -- Which strings the first bytes of descriptors name that stand one after another.
-use Rattle.std.proofs.Common.{◌≡◌, ◌⊎◌, inl, inr, ◌<◌, ◌≤◌, ◌+◌, ◌==◌, ◌||◌, ℕ, zero, suc, Bool, true, false, not, if◌then◌else◌, List, [], ◌∷◌, ◌++◌, length, take, drop, map, refl, sym, ◌∙◌, ap, subst, arith}
-use Rattle.std.specs.Prelude.{Option, Some, None, is_some, slice_index}
+use Rattle.std.proofs.Common.{◌≡◌, ◌⊎◌, inl, inr, ◌<◌, ◌≤◌, ◌+◌, ◌==◌, ◌||◌, ℕ, Bool, true, false, if◌then◌else◌, List, [], ◌∷◌, ◌++◌, length, take, drop, map, refl, sym, ◌∙◌, ap, subst, arith}
+use Rattle.std.specs.Prelude.{Some, None, is_some, slice_index}
 use Rattle.std.specs.List.{flat_map, list_any}
 use Rattle.std.proofs.lemmas.Bool.{cases_lt, eqb-true, ne_eqb, or_cases, or_left, or_parts, or_right}
 use Rattle.std.proofs.lemmas.Grind.{flat_map-append}
@@ -15,7 +15,7 @@ use Rattle.usb_set.specs.declared.tree.Endpoint.{Endpoint}
 use Rattle.usb_set.specs.declared.tree.SetKind.{SetKind}
 use Rattle.usb_set.specs.declared.tree.SetKind.TheVariants as kinds
 use Rattle.usb_set.specs.declared.tree.Setting.{Setting}
-use Rattle.usb_set.specs.Descriptors.{Descriptor, configuration_descriptor, descriptor_bytes, endpoint_descriptor, extra_descriptor, interface_descriptor, raw_descriptor, type_number}
+use Rattle.usb_set.specs.Descriptors.{Descriptor, configuration_descriptor, descriptor_bytes, extra_descriptor, raw_descriptor, type_number}
 use Rattle.usb_set.specs.Layout.{endpoint_descriptors, has_typed_raw, is_typed, is_typed_raw, set_descriptors, setting_descriptors}
 use Rattle.usb_set.specs.Owners.{association_in, associations_of, setting_extras}
 use Rattle.usb_file_data.specs.File.{association_string_index, interface_string_index, set_string_indices}
@@ -57,7 +57,8 @@ module _ (n : ℕ) (some : 0 < n) where
   never_zero : (0 == n) ≡ false
   never_zero = ne_eqb 0 n (λ e. let w : ⊥ = omega (arith, some, e) in w)
 
-  chosen_by : (k kind a b c p q r : ℕ) → IsOrNone k kind → IsOrNone a p → IsOrNone b q → IsOrNone c r → (index_by k a b c == n) ≡ true → (index_by kind p q r == n) ≡ true
+  chosen_by : (k kind a b c p q r : ℕ) → IsOrNone k kind → IsOrNone a p → IsOrNone b q → IsOrNone c r → (index_by k a b c == n) ≡ true
+      → (index_by kind p q r == n) ≡ true
   chosen_by k kind a b c p q r (inl none) ia ib ic e =
       absurd (let here : (0 == n) ≡ true = subst (λ k. (index_by k a b c == n) ≡ true) none e in let w : ⊥ = omega (arith, some, eqb-true 0 n here) in w)
   chosen_by k kind a b c p q r (inr is) ia ib ic e =
@@ -66,7 +67,8 @@ module _ (n : ℕ) (some : 0 < n) where
   -- What the first bytes of a descriptor name, it names.
   front_named : (front all : List ℕ) → IsFront front all → (string_index front == n) ≡ true → (string_index all == n) ≡ true
   front_named front all is e =
-      chosen_by (slice_index front 1) (slice_index all 1) (slice_index front 6) (slice_index front 8) (slice_index front 7) (slice_index all 6) (slice_index all 8) (slice_index all 7)
+      chosen_by (slice_index front 1) (slice_index all 1) (slice_index front 6) (slice_index front 8) (slice_index front 7)
+      (slice_index all 6) (slice_index all 8) (slice_index all 7)
       (byte_or_none front all 1 is) (byte_or_none front all 6 is) (byte_or_none front all 8 is) (byte_or_none front all 7 is) e
 
   -- ---- descriptors one after another
@@ -74,7 +76,8 @@ module _ (n : ℕ) (some : 0 < n) where
   abbrev pub names_it : Descriptor → Bool
   names_it d = string_index (descriptor_bytes d) == n
 
-  parts_front : (first front rest later : List ℕ) → front ++ rest ≡ first ++ later → IsFront (take (length first) front) first × IsFront (drop (length first) front) later
+  parts_front : (first front rest later : List ℕ) → front ++ rest ≡ first ++ later
+      → IsFront (take (length first) front) first × IsFront (drop (length first) front) later
   parts_front [] front rest later e = (([], refl), (rest, e))
   parts_front (y ∷ first) [] rest later e = ((y ∷ first, refl), (later, refl))
   parts_front (y ∷ first) (x ∷ front) rest later e =
@@ -95,16 +98,13 @@ module _ (n : ℕ) (some : 0 < n) where
       later : List ℕ
       later = flat_map descriptor_bytes ds
 
-      by : IsFront (take (length first) front) first → (list_any names_it ds ≡ true) ⊎ ((string_index (take (length first) front) == n) ≡ true) → list_any names_it (d ∷ ds) ≡ true
-      by here (inl there) = or_right (names_it d) (list_any names_it ds) there
-      by here (inr e) = or_left (names_it d) (list_any names_it ds) (front_named (take (length first) front) first here e)
+      by : IsFront (take (length first) front) first → ((string_index (take (length first) front) == n) ≡ true) ⊎ (names n (drop (length first) front) ≡ true)
+          → (names n (drop (length first) front) ≡ true → list_any names_it ds ≡ true) → list_any names_it (d ∷ ds) ≡ true
+      by here (inl e) there = or_left (names_it d) (list_any names_it ds) (front_named (take (length first) front) first here e)
+      by here (inr e) there = or_right (names_it d) (list_any names_it ds) (there e)
 
-      either : ((string_index (take (length first) front) == n) ≡ true) ⊎ (names n (drop (length first) front) ≡ true)
-          → (names n (drop (length first) front) ≡ true → list_any names_it ds ≡ true) → (list_any names_it ds ≡ true) ⊎ ((string_index (take (length first) front) == n) ≡ true)
-      either (inl e) there = inr e
-      either (inr e) there = inl (there e)
-
-      of : (0 < length front) ⊎ (length front ≤ 0) → ((left : List ℕ) → IsFront left later → names n left ≡ true → list_any names_it ds ≡ true) → list_any names_it (d ∷ ds) ≡ true
+      of : (0 < length front) ⊎ (length front ≤ 0) → ((left : List ℕ) → IsFront left later → names n left ≡ true → list_any names_it ds ≡ true)
+          → list_any names_it (d ∷ ds) ≡ true
       of (inr none) there = absurd (unnamed front (omega (arith, get_or_past front 0 0 none)) e)
       of (inl low) there =
           let says : slice_index front 0 ≡ 2 + length d.body = front_at front (flat_map descriptor_bytes (d ∷ ds)) 0 is low in
@@ -112,7 +112,8 @@ module _ (n : ℕ) (some : 0 < n) where
           let both : (string_index (take (length first) front) == n || names n (drop (length first) front)) ≡ true =
           subst (λ m. (string_index (take m front) == n || names n (drop m front)) ≡ true) size (sym (names_step n front (omega (arith, says))) ∙ e) in
           let parts = parts_front first front is.0 later is.1 in
-          by parts.0 (either (or_cases (string_index (take (length first) front) == n) (names n (drop (length first) front)) both) (there (drop (length first) front) parts.1))
+          by parts.0 (or_cases (string_index (take (length first) front) == n) (names n (drop (length first) front)) both)
+          (there (drop (length first) front) parts.1)
 
   alone : (b : Bool) → (b || false) ≡ true → b ≡ true
   alone true e = refl
@@ -133,7 +134,8 @@ module _ (n : ℕ) (some : 0 < n) where
   associated a = a.text == n
 
   raw_kind : (two four five seven eleven : Bool) (a b c : ℕ)
-      → is_some {T = ℕ} (if two then Some 9 else if four then Some 9 else if five then Some 7 else if seven then Some 9 else if eleven then Some 8 else None) ≡ false
+      → is_some {T = ℕ}
+      (if two then Some 9 else if four then Some 9 else if five then Some 7 else if seven then Some 9 else if eleven then Some 8 else None) ≡ false
       → ((if two || seven then a else if four then b else if eleven then c else 0) == n) ≡ false
   raw_kind false false false false false a b c e = never_zero
   raw_kind true four five seven eleven a b c e = absurd (let w : ⊥ = cc in w)
@@ -147,7 +149,8 @@ module _ (n : ℕ) (some : 0 < n) where
       let b = descriptor_bytes (raw_descriptor r) in
       raw_kind (r.kind == 2) (r.kind == 4) (r.kind == 5) (r.kind == 7) (r.kind == 11) (slice_index b 6) (slice_index b 8) (slice_index b 7) plain
 
-  extras_named : (xs : List Extra) → list_any is_typed_raw xs ≡ false → list_any names_it (map extra_descriptor xs) ≡ list_any associated (flat_map association_in xs)
+  extras_named : (xs : List Extra) → list_any is_typed_raw xs ≡ false
+      → list_any names_it (map extra_descriptor xs) ≡ list_any associated (flat_map association_in xs)
   extras_named [] right = refl
   extras_named (extras.Raw r ∷ xs) right =
       let parts = or_parts (is_typed r.kind) (list_any is_typed_raw xs) right in
@@ -166,7 +169,8 @@ module _ (n : ℕ) (some : 0 < n) where
       ∙ ap (λ b. b || list_any names_it ds) (extras_named xs parts.0)
       ∙ ap (λ b. first || b) (later parts.1)
       ∙ turned first rest last
-      ∙ ap (λ b. rest || b) (sym (list_any-append associated (flat_map association_in xs) (flat_map association_in others)) ∙ ap (list_any associated) (sym (flat_map-append association_in xs others)))
+      ∙ ap (λ b. rest || b) (sym (list_any-append associated (flat_map association_in xs) (flat_map association_in others))
+      ∙ ap (list_any associated) (sym (flat_map-append association_in xs others)))
     where
       turned : (a b c : Bool) → (a || (b || c)) ≡ (b || (a || c))
       turned true true c = refl
@@ -181,14 +185,17 @@ module _ (n : ℕ) (some : 0 < n) where
       ∙ with_extras e.extras (flat_map (λ e. e.extras) es) (flat_map endpoint_descriptors es) false right (endpoints_named es)
 
   settings_named : (ss : List Setting) → list_any is_typed_raw (flat_map setting_extras ss) ≡ false
-      → list_any names_it (flat_map setting_descriptors ss) ≡ (list_any (λ s. s.text == n) ss || list_any associated (flat_map association_in (flat_map setting_extras ss)))
+      → list_any names_it (flat_map setting_descriptors ss)
+      ≡ (list_any (λ s. s.text == n) ss || list_any associated (flat_map association_in (flat_map setting_extras ss)))
   settings_named [] right = refl
   settings_named (s ∷ ss) right =
       let later = flat_map setting_extras ss in
       let own = flat_map (λ e. e.extras) s.endpoints in
       let texts = list_any (λ s. s.text == n) ss in
-      let parts = or_parts (list_any is_typed_raw (s.extras ++ own)) (list_any is_typed_raw later) (sym (list_any-append is_typed_raw (s.extras ++ own) later) ∙ right) in
-      let here : list_any names_it (map extra_descriptor s.extras ++ flat_map endpoint_descriptors s.endpoints) ≡ list_any associated (flat_map association_in (s.extras ++ own)) =
+      let parts = or_parts (list_any is_typed_raw (s.extras ++ own)) (list_any is_typed_raw later)
+      (sym (list_any-append is_typed_raw (s.extras ++ own) later) ∙ right) in
+      let here : list_any names_it (map extra_descriptor s.extras ++ flat_map endpoint_descriptors s.endpoints)
+      ≡ list_any associated (flat_map association_in (s.extras ++ own)) =
       with_extras s.extras own (flat_map endpoint_descriptors s.endpoints) false parts.0 (endpoints_named s.endpoints) in
       ap (λ b. (s.text == n) || b)
       (list_any-append names_it (map extra_descriptor s.extras ++ flat_map endpoint_descriptors s.endpoints) (flat_map setting_descriptors ss)
@@ -217,13 +224,15 @@ module _ (n : ℕ) (some : 0 < n) where
   any_map g (x ∷ xs) = ap (λ b. (g x == n) || b) (any_map g xs)
 
   -- A set names the strings whose indices stand in it.
-  pub set_named : (c : Configuration) (total : ℕ) → has_typed_raw c ≡ false → list_any names_it (set_descriptors c total) ≡ list_any (λ i. i == n) (set_string_indices c)
+  pub set_named : (c : Configuration) (total : ℕ) → has_typed_raw c ≡ false
+      → list_any names_it (set_descriptors c total) ≡ list_any (λ i. i == n) (set_string_indices c)
   set_named c total right =
       let texts = map interface_string_index c.settings in
       let others = map association_string_index (associations_of c) in
       ap (λ b. b || list_any names_it (map extra_descriptor c.extras ++ flat_map setting_descriptors c.settings)) (configuration_named c total)
       ∙ ap (λ b. (c.text == n) || b)
-      (with_extras c.extras (flat_map setting_extras c.settings) (flat_map setting_descriptors c.settings) (list_any (λ s. s.text == n) c.settings) right (settings_named c.settings)
+      (with_extras c.extras (flat_map setting_extras c.settings) (flat_map setting_descriptors c.settings)
+      (list_any (λ s. s.text == n) c.settings) right (settings_named c.settings)
       ∙ sym (list_any-append (λ i. i == n) texts others
       ∙ ap (λ b. b || list_any (λ i. i == n) others) (any_map interface_string_index c.settings)
       ∙ ap (λ b. list_any (λ s. s.text == n) c.settings || b) (any_map association_string_index (associations_of c))))

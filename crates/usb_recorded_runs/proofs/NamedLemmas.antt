@@ -1,10 +1,9 @@
 -- No string that a recorded device has named is refused.
-use Rattle.std.proofs.Common.{◌≡◌, ◌≢◌, ◌⊎◌, inl, inr, ◌<◌, ◌≤◌, ◌+◌, ◌*◌, ◌-◌, ◌/◌, ◌%◌, ◌==◌, ◌&&◌, ◌||◌, nat_lt, ℕ, zero, suc, Bool, true, false, not, cond, if◌then◌else◌, List, [], ◌∷◌, ◌++◌, length, drop, map, get_or, refl, sym, ◌∙◌, ap, subst, arith}
+use Rattle.std.proofs.Common.{◌≡◌, ◌≢◌, ◌⊎◌, inl, inr, ◌<◌, ◌≤◌, ◌+◌, ◌*◌, ◌-◌, ◌/◌, ◌%◌, ◌==◌, ◌&&◌, ◌||◌, nat_lt, ℕ, zero, suc, Bool, true, false, not, cond, if◌then◌else◌, List, [], ◌∷◌, ◌++◌, length, drop, get_or, refl, sym, ◌∙◌, ap, subst, arith}
 use Rattle.std.specs.Prelude.{Option, Some, None, filter, option_and_then, position, slice_get, slice_index, unwrap_or}
 use Rattle.std.specs.List.{AllByRecursion, flat_map, list_any, position_or_len, range_with_len}
 use Rattle.std.specs.Option.{option_map}
-use Rattle.std.proofs.lemmas.Bool.{and_parts, cases_lt, cond-true, eq-eqb, eqb-false, eqb-true, false_from_ne_true, lt-ltb, ltb-true, not-false, or_cases, or_left, or_parts, or_right}
-use Rattle.std.proofs.lemmas.List.{append-nil}
+use Rattle.std.proofs.lemmas.Bool.{and_parts, cond-true, eq-eqb, eqb-false, eqb-true, false_from_ne_true, lt-ltb, ltb-true, not-false, or_cases, or_left, or_parts, or_right}
 use Rattle.std.proofs.lemmas.List.Folds.{list_any-append, list_any_at}
 use Rattle.std.proofs.lemmas.List.FromFn.{get_or-range_with_len, length-range_with_len}
 use Rattle.std.proofs.lemmas.Map.Views.{any-filter_same}
@@ -25,7 +24,7 @@ use Rattle.usb_file_data.specs.declared.file.Strings.{Strings}
 use Rattle.usb_file_data.specs.File.{are_wrong_strings, device_string_indices, has_no_layout, has_wrong_count, has_wrong_kind, has_wrong_layout, named_among, named_indices, other_sets, set_string_indices, string_indices, string_place, units_at, whole_set}
 use Rattle.usb_file_data.proofs.WholeSets.{no_some}
 use Rattle.usb_device.specs.Accepted.{has_wrong_sets, has_wrong_strings, repeats_language}
-use Rattle.usb_device.specs.Descriptors.{descriptor, device_of, other_set_at, qualifier_of, set_at, string_at}
+use Rattle.usb_device.specs.Descriptors.{descriptor, other_set_at, qualifier_of, set_at, string_at}
 use Rattle.usb_device.proofs.AcceptedLemmas.{texts_as_many}
 use Rattle.usb_capture.specs.declared.asked.Asked.{Asked}
 use Rattle.usb_capture.specs.declared.control_transfer.ControlTransfer.{ControlTransfer}
@@ -35,7 +34,7 @@ use Rattle.usb_recorded_runs.specs.Findings.{IsTransferFreeAfter}
 use Rattle.usb_recorded_runs.proofs.AnswerLemmas.{described_by}
 use Rattle.usb_recorded_runs.proofs.ByteLemmas.{HasBytes, said_bytes}
 use Rattle.usb_recorded_runs.proofs.EndedLemmas.{IsEnded}
-use Rattle.usb_recorded_runs.proofs.NamedFronts.{byte_or_none, named_front, names_it, plain_named, same_byte, set_named}
+use Rattle.usb_recorded_runs.proofs.NamedFronts.{byte_or_none, named_front, plain_named, same_byte, set_named}
 use Rattle.usb_recorded_runs.proofs.RefusalLemmas.{KnowsFronts, all_both, all_of, refused_lacks, unsaid_right}
 use Rattle.usb_recorded_runs.proofs.SizeLemmas.{IsFront, IsSound}
 use Rattle.usb_recorded_runs.proofs.TransferLemmas.{by_kind, descriptor_of, free_by, said_front}
@@ -66,7 +65,8 @@ cell_within (suc r) n (suc l) c low inside =
     let sum : suc r * n + c ≡ n + (r * n + c) = grind arith in
     omega (arith, later, more, sum)
 
-string_there : (s : Strings) (named : List ℕ) (index language : ℕ) → length s.texts ≡ length s.languages * length named → list_any (λ n. n == index) named ≡ true
+string_there : (s : Strings) (named : List ℕ) (index language : ℕ) → length s.texts ≡ length s.languages * length named
+    → list_any (λ n. n == index) named ≡ true
     → list_any (λ l. l == language) s.languages ≡ true → string_at (Some s) named index language ≡ None → ⊥
 string_there s named index language many has_place has_row none = of (index == 0) none
   where
@@ -126,11 +126,13 @@ strings_there f n right named none =
 
 -- ---- the languages of a list
 
-listed : (language : ℕ) (front rest u : List ℕ) → front ++ rest ≡ flat_map little_endian u → lists_language language front ≡ true → list_any (λ l. l == language) u ≡ true
+listed : (language : ℕ) (front rest u : List ℕ) → front ++ rest ≡ flat_map little_endian u → lists_language language front ≡ true
+    → list_any (λ l. l == language) u ≡ true
 listed language [] rest u is e = absurd (let w : ⊥ = cc in w)
 listed language (low ∷ []) rest u is e = absurd (let w : ⊥ = cc in w)
 listed language (low ∷ high ∷ front) rest [] is e = absurd (let w : ⊥ = omega (arith, ap length is) in w)
-listed language (low ∷ high ∷ front) rest (l ∷ u) is e = of (or_cases (low + 256 * high == language) (lists_language language front) e) (λ later. listed language front rest u (ap (drop 2) is) later)
+listed language (low ∷ high ∷ front) rest (l ∷ u) is e =
+    of (or_cases (low + 256 * high == language) (lists_language language front) e) (λ later. listed language front rest u (ap (drop 2) is) later)
   where
     low_is : low ≡ l % 256
     low_is = ap (λ b. slice_index b 0) is
@@ -138,14 +140,16 @@ listed language (low ∷ high ∷ front) rest (l ∷ u) is e = of (or_cases (low
     high_is : high ≡ l / 256
     high_is = ap (λ b. slice_index b 1) is
 
-    of : ((low + 256 * high == language) ≡ true) ⊎ (lists_language language front ≡ true) → (lists_language language front ≡ true → list_any (λ l. l == language) u ≡ true)
+    of : ((low + 256 * high == language) ≡ true) ⊎ (lists_language language front ≡ true)
+        → (lists_language language front ≡ true → list_any (λ l. l == language) u ≡ true)
         → list_any (λ l. l == language) (l ∷ u) ≡ true
     of (inl here) there =
         or_left (l == language) (list_any (λ l. l == language) u)
         (eq-eqb l language (omega (arith, eqb-true (low + 256 * high) language here, low_is, high_is, two_bytes l)))
     of (inr later) there = or_right (l == language) (list_any (λ l. l == language) u) (there later)
 
-language_listed : (language : ℕ) (front u : List ℕ) → IsFront front (units_bytes u) → has_language language front ≡ true → list_any (λ l. l == language) u ≡ true
+language_listed : (language : ℕ) (front u : List ℕ) → IsFront front (units_bytes u) → has_language language front ≡ true
+    → list_any (λ l. l == language) u ≡ true
 language_listed language [] u is e = absurd (let w : ⊥ = cc in w)
 language_listed language (x ∷ []) u is e = absurd (let w : ⊥ = cc in w)
 language_listed language (x ∷ y ∷ front) u is e = listed language front is.0 u (ap (drop 2) is.1) e
@@ -162,7 +166,8 @@ three false false true false false false pa pb pc e = pc refl
 three false false false false false false pa pb pc e = e
 
 module _ (n : ℕ) (some : 0 < n) where
-  device_named : (d : DeviceDescriptor) (front : List ℕ) → IsFront front (device_bytes d) → device_names n front ≡ true → list_any (λ i. i == n) (device_string_indices d) ≡ true
+  device_named : (d : DeviceDescriptor) (front : List ℕ) → IsFront front (device_bytes d) → device_names n front ≡ true
+      → list_any (λ i. i == n) (device_string_indices d) ≡ true
   device_named d front is e =
       three (slice_index front 14 == n) (slice_index front 15 == n) (slice_index front 16 == n) (d.maker_text == n) (d.product_text == n) (d.serial_text == n)
       (same_byte (slice_index front 14) d.maker_text n some (byte_or_none front (device_bytes d) 14 is))
@@ -174,7 +179,8 @@ module _ (n : ℕ) (some : 0 < n) where
 
   units_named : (u front : List ℕ) → IsFront front (units_bytes u) → names n front ≡ true → ⊥
   units_named u front is e =
-      plain_named n some 3 (flat_map little_endian u) front refl (subst (λ m. IsFront front ((2 + m) ∷ 3 ∷ flat_map little_endian u)) (sym (length-flat_map u)) is) e
+      plain_named n some 3 (flat_map little_endian u) front refl
+      (subst (λ m. IsFront front ((2 + m) ∷ 3 ∷ flat_map little_endian u)) (sym (length-flat_map u)) is) e
 
   typed_right : (c : Configuration) → has_no_layout c ≡ false → has_typed_raw c ≡ false
   typed_right c right =
@@ -184,7 +190,8 @@ module _ (n : ℕ) (some : 0 < n) where
   whole_named : (c : Configuration) (front : List ℕ) → has_no_layout c ≡ false → IsFront front (whole_set c) → names n front ≡ true
       → list_any (λ i. i == n) (set_string_indices c) ≡ true
   unfolding whole_set
-  whole_named c front right is e = sym (set_named n some c (set_length c) (typed_right c right)) ∙ named_front n some (set_descriptors c (set_length c)) front is e
+  whole_named c front right is e =
+      sym (set_named n some c (set_length c) (typed_right c right)) ∙ named_front n some (set_descriptors c (set_length c)) front is e
 
   sets_named : (sets : List Configuration) (index : ℕ) (front : List ℕ) → list_any has_no_layout sets ≡ false → IsFront front (unwrap_or (set_at sets index) [])
       → names n front ≡ true → list_any (λ i. i == n) (flat_map set_string_indices sets) ≡ true
@@ -334,8 +341,8 @@ names_one front e = of (or_cases (nat_lt 0 (slice_index front 14) || nat_lt 0 (s
       named = let n = slice_index front 16 in or_right _ (n == n) (own n);
     }
 
-module _ (f : DescriptorFile) (sets : has_wrong_sets f ≡ false) (strings : has_wrong_strings f ≡ false) (known : Asked → List ℕ) (knows : KnowsFronts f known) (asked : Asked)
-    (bytes : AreBytes (known (beside asked 256))) (none : descriptor_of f asked ≡ None) where
+module _ (f : DescriptorFile) (sets : has_wrong_sets f ≡ false) (strings : has_wrong_strings f ≡ false) (known : Asked → List ℕ)
+    (knows : KnowsFronts f known) (asked : Asked) (bytes : AreBytes (known (beside asked 256))) (none : descriptor_of f asked ≡ None) where
   abbrev index : ℕ
   index = asked.value % 256
 
@@ -401,4 +408,5 @@ none_refuses_named size f ts sets strings each ended bytes =
     unsaid_right (refuses_descriptor t) (length (known (asked_of t)) == 0) (is_named_string known (asked_of t)) (λ e.
     not_named f sets strings known (λ asked. said_front size f asked earlier (all_of earlier (λ u is. is.0.0) before)) (asked_of t)
     (said_bytes (beside (asked_of t) 256) earlier (all_of earlier (λ u is. is.1) before)) (refused_lacks f t is.0.1 e)))
-    [] ts tt (all_both (λ t. IsSound size (described_by f) t × IsEnded f t) HasBytes ts (all_both (IsSound size (described_by f)) (IsEnded f) ts each ended) bytes)
+    [] ts tt (all_both (λ t. IsSound size (described_by f) t × IsEnded f t) HasBytes ts
+    (all_both (IsSound size (described_by f)) (IsEnded f) ts each ended) bytes)

@@ -1,8 +1,7 @@
 -- Which descriptors no device refuses in a recorded enumeration.
-use Rattle.std.proofs.Common.{◌≡◌, ◌⊎◌, inl, inr, ◌<◌, ◌≤◌, ◌==◌, ◌&&◌, ◌||◌, ◌/◌, ◌%◌, nat_lt, ℕ, zero, suc, Bool, true, false, not, if◌then◌else◌, List, [], ◌∷◌, ◌++◌, length, refl, sym, ◌∙◌, ap, subst, arith, length-append}
-use Rattle.std.specs.Prelude.{Option, Some, None, slice_get, slice_index, unwrap_or}
+use Rattle.std.proofs.Common.{◌≡◌, ◌⊎◌, inl, inr, ◌<◌, ◌≤◌, ◌==◌, ◌&&◌, ◌||◌, ◌/◌, ◌%◌, nat_lt, ℕ, zero, suc, Bool, true, false, not, if◌then◌else◌, List, [], ◌∷◌, length, refl, sym, ◌∙◌, ap, subst, arith, length-append}
+use Rattle.std.specs.Prelude.{Option, Some, None, slice_index, unwrap_or}
 use Rattle.std.specs.List.{AllByRecursion}
-use Rattle.std.specs.Option.{option_map}
 use Rattle.std.proofs.lemmas.Bool.{and_parts, cases_lt, eqb-true, false_from_ne_true, ltb-true, not-false, or_cases, or_parts}
 use Rattle.std.proofs.lemmas.Bool.Decides.{nat_tests}
 use Rattle.std.proofs.lemmas.List.{get_or_past}
@@ -10,11 +9,11 @@ use Rattle.usb_fields.specs.declared.setup.Setup.{Setup}
 use Rattle.usb_set.specs.declared.tree.Configuration.{Configuration}
 use Rattle.usb_file_data.specs.declared.file.DescriptorFile.{DescriptorFile}
 use Rattle.usb_file_data.specs.declared.file.Other.{Other}
-use Rattle.usb_file_data.specs.File.{has_wrong_count, has_wrong_kind, has_wrong_layout, is_other_miscounted, named_indices, whole_set}
+use Rattle.usb_file_data.specs.File.{has_wrong_count, has_wrong_kind, has_wrong_layout, is_other_miscounted}
 use Rattle.usb_file_data.specs.Findings.{findings}
 use Rattle.usb_file_data.proofs.Sorting.{FirstIsRight, first_right}
 use Rattle.usb_device.specs.Accepted.{has_wrong_sets}
-use Rattle.usb_device.specs.Descriptors.{descriptor, device_of, other_set_at, qualifier_of, set_at, string_at}
+use Rattle.usb_device.specs.Descriptors.{descriptor, other_set_at, qualifier_of, set_at}
 use Rattle.usb_device.specs.declared.state.State.{State}
 use Rattle.usb_device.specs.Requests.{Bytes, Done, Refused, answer, gives}
 use Rattle.usb_capture.specs.declared.asked.Asked.{Asked}
@@ -47,7 +46,8 @@ module _ (f : DescriptorFile) (s : State) where
       let parts = and_parts (q.request_type == 128) (q.request == 6) read in
       let type = eqb-true q.request_type 128 parts.0 in
       let request = eqb-true q.request 6 parts.1 in
-      let same : q ≡ asked_so f s q.value q.index q.length = (λ i. record { request_type = type i; request = request i; value = q.value; index = q.index; length = q.length }) in
+      let same : q ≡ asked_so f s q.value q.index q.length =
+      (λ i. record { request_type = type i; request = request i; value = q.value; index = q.index; length = q.length }) in
       gives_none q.value q.index q.length (descriptor f (q.value / 256) (q.value % 256) q.index)
       (sym (table_gives f s q.value q.index q.length) ∙ ap (answer f s) (sym same) ∙ refused)
 
@@ -85,7 +85,8 @@ pub free_after : (finding : Finding) (size : ℕ) (f : DescriptorFile)
     → (ts : List ControlTransfer) → AllByRecursion (IsSound size (described_by f)) ts → AllByRecursion (IsEnded f) ts → IsTransferFreeAfter finding [] ts
 free_after finding size f free ts each ended =
     free_by finding (λ t. IsSound size (described_by f) t × IsEnded f t) (λ t earlier is before.
-    free t (λ asked. said asked earlier) is.0 is.1 (λ asked. said_front size f asked earlier (all_of earlier (λ t is. is.0) before))) [] ts tt (all_both (IsSound size (described_by f)) (IsEnded f) ts each ended)
+    free t (λ asked. said asked earlier) is.0 is.1 (λ asked. said_front size f asked earlier (all_of earlier (λ t is. is.0) before)))
+    [] ts tt (all_both (IsSound size (described_by f)) (IsEnded f) ts each ended)
 
 pub none_in_front : (front : List ℕ) → IsFront front [] → length front ≡ 0
 none_in_front front is = omega (arith, length-append front is.0, ap length is.1)
@@ -139,7 +140,8 @@ not_required f asked right none = false_from_ne_true (is_required asked) (λ e.
 pub none_refuses_required : (size : ℕ) (f : DescriptorFile) (ts : List ControlTransfer) → findings f ≡ [] → AllByRecursion (IsSound size (described_by f)) ts
     → AllByRecursion (IsEnded f) ts → IsTransferFreeAfter RefusesRequired [] ts
 none_refuses_required size f ts right each ended = free_after RefusesRequired size f (λ t known is ends knows.
-    unsaid_right (refuses_descriptor t) (length (known (asked_of t)) == 0) (is_required (asked_of t)) (λ e. not_required f (asked_of t) right (refused_lacks f t ends e))) ts each ended
+    unsaid_right (refuses_descriptor t) (length (known (asked_of t)) == 0) (is_required (asked_of t)) (λ e.
+    not_required f (asked_of t) right (refused_lacks f t ends e))) ts each ended
 
 -- ---- refusals of what was counted
 
@@ -153,7 +155,8 @@ own_count f right =
     let test = (or_parts (not (length f.sets == f.device.configurations)) (is_other_miscounted f.other) right).0 in
     eqb-true (length f.sets) f.device.configurations (not-false (length f.sets == f.device.configurations) test)
 
-past_others : (other : Option Other) (i : ℕ) → is_other_miscounted other ≡ false → other_set_at other i ≡ None → slice_index (unwrap_or (qualifier_of other 0) []) 8 ≤ i
+past_others : (other : Option Other) (i : ℕ) → is_other_miscounted other ≡ false → other_set_at other i ≡ None
+    → slice_index (unwrap_or (qualifier_of other 0) []) 8 ≤ i
 past_others None i right none = omega arith
 past_others (Some o) i right none =
     omega (arith, eqb-true (length o.sets) o.qualifier.configurations (not-false (length o.sets == o.qualifier.configurations) right), past_sets o.sets i none)
@@ -183,19 +186,23 @@ module _ (f : DescriptorFile) (known : Asked → List ℕ) (right : has_wrong_co
 
   not_counted : is_counted known asked ≡ false
   not_counted = false_from_ne_true (is_counted known asked) (λ e.
-      of (or_cases (asked.value / 256 == 2 && nat_lt 0 n && nat_lt n (slice_index (known (beside asked 256)) 17)) (asked.value / 256 == 7 && nat_lt n (slice_index (known (beside asked 1536)) 8))
+      of (or_cases (asked.value / 256 == 2 && nat_lt 0 n && nat_lt n (slice_index (known (beside asked 256)) 17))
+      (asked.value / 256 == 7 && nat_lt n (slice_index (known (beside asked 1536)) 8))
       (and_parts (asked.index == 0) _ e).1))
     where
       of : ((asked.value / 256 == 2 && nat_lt 0 n && nat_lt n (slice_index (known (beside asked 256)) 17)) ≡ true)
           ⊎ ((asked.value / 256 == 7 && nat_lt n (slice_index (known (beside asked 1536)) 8)) ≡ true) → ⊥
-      of (inl e) = let parts = counted_parts (asked.value / 256 == 2) (nat_lt 0 n) (nat_lt n (slice_index (known (beside asked 256)) 17)) e in no_set parts.0 parts.1
+      of (inl e) =
+          let parts = counted_parts (asked.value / 256 == 2) (nat_lt 0 n) (nat_lt n (slice_index (known (beside asked 256)) 17)) e in
+          no_set parts.0 parts.1
       of (inr e) = let parts = and_parts (asked.value / 256 == 7) (nat_lt n (slice_index (known (beside asked 1536)) 8)) e in no_other parts.0 parts.1
 
 counts_right : (f : DescriptorFile) → has_wrong_sets f ≡ false → has_wrong_count f ≡ false
 unfolding has_wrong_sets
 counts_right f right = (or_parts (has_wrong_count f) (has_wrong_kind f) (or_parts (has_wrong_count f || has_wrong_kind f) (has_wrong_layout f) right).0).0
 
-pub none_refuses_counted : (size : ℕ) (f : DescriptorFile) (ts : List ControlTransfer) → has_wrong_sets f ≡ false → AllByRecursion (IsSound size (described_by f)) ts
+pub none_refuses_counted : (size : ℕ) (f : DescriptorFile) (ts : List ControlTransfer) → has_wrong_sets f ≡ false
+    → AllByRecursion (IsSound size (described_by f)) ts
     → AllByRecursion (IsEnded f) ts → IsTransferFreeAfter RefusesCounted [] ts
 none_refuses_counted size f ts right each ended = free_after RefusesCounted size f (λ t known is ends knows.
     unsaid_right (refuses_descriptor t) (length (known (asked_of t)) == 0) (is_counted known (asked_of t)) (λ e.
