@@ -20,10 +20,10 @@ use Rattle.usb_recorded_runs.proofs.SizeLemmas.{Fronts, IsFront, TellsLong, Tell
 -- ---- what the table answers
 
 module _ (f : DescriptorFile) (s : State) where
-  abbrev asked_so : ℕ → ℕ → ℕ → Setup
+  abbrev pub asked_so : ℕ → ℕ → ℕ → Setup
   asked_so value index size = record { request_type = 128; request = 6; value = value; index = index; length = size }
 
-  table_gives : (value index size : ℕ) → answer f s (asked_so value index size)
+  pub table_gives : (value index size : ℕ) → answer f s (asked_so value index size)
       ≡ gives s (asked_so value index size) (descriptor f (value / 256) (value % 256) index)
   unfolding answer answer_of
   table_gives value index size = refl

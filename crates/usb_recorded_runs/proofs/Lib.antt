@@ -21,3 +21,8 @@ pub mod EndedLemmas
 pub mod ByteLemmas
 pub mod FieldLemmas
 pub mod LegalLemmas
+pub mod RefusalLemmas
+pub mod TransferBytes
+pub mod DescriptorLengths
+pub mod NamedFronts
+pub mod NamedLemmas

@@ -3,6 +3,7 @@ use Rattle.std.proofs.Common.{◌≡◌, ◌≤◌, ◌<◌, ◌==◌, ◌&&◌,
 use Rattle.std.specs.Prelude.{Option, Some, None, slice_index, unwrap_or}
 use Rattle.std.specs.List.{AllByRecursion, list_any}
 use Rattle.std.specs.Option.{option_map}
+use Rattle.std.proofs.lemmas.Bool.{eqb-true}
 use Rattle.std.proofs.lemmas.Bool.Decides.{nat_tests}
 use Rattle.std.proofs.lemmas.List.{append-nil, get_or_append_left}
 use Rattle.usb_fields.specs.declared.device.DeviceDescriptor.{DeviceDescriptor}
@@ -38,17 +39,19 @@ no_status false status device other = refl
 no_status true false device other = refl
 no_status true true device other = absurd (let e : true ≡ false = other refl in let w : ⊥ = cc in w)
 
--- what is found in none, whatever came before it
-all_free : (finding : Finding) (size : ℕ) (described : Setup → List ℕ) → ((t : ControlTransfer) (earlier : List ControlTransfer) → IsSound size described t → holds finding (λ asked. said asked earlier) t ≡ false)
-    → (earlier ts : List ControlTransfer) → AllByRecursion (IsSound size described) ts → IsTransferFreeAfter finding earlier ts
-all_free finding size described free earlier [] each = tt
-all_free finding size described free earlier (t ∷ ts) each = (free t earlier each.0, all_free finding size described free (t ∷ earlier) ts each.1)
+-- what is found in none, where this holds of each, and of those before it
+pub free_by : (finding : Finding) (P : ControlTransfer → Type 0)
+    → ((t : ControlTransfer) (earlier : List ControlTransfer) → P t → AllByRecursion P earlier → holds finding (λ asked. said asked earlier) t ≡ false)
+    → (earlier ts : List ControlTransfer) → AllByRecursion P earlier → AllByRecursion P ts → IsTransferFreeAfter finding earlier ts
+free_by finding P free earlier [] before each = tt
+free_by finding P free earlier (t ∷ ts) before each = (free t earlier each.0 before, free_by finding P free (t ∷ earlier) ts (each.0, before) each.1)
 
 pub none_more : (size : ℕ) (described : Setup → List ℕ) (ts : List ControlTransfer) → AllByRecursion (IsSound size described) ts → IsTransferFreeAfter MoreThanAsked [] ts
-none_more size described ts each = all_free MoreThanAsked size described (λ t earlier is. no_more (is_answered t.ending) t.setup.length t.length is.few) [] ts each
+none_more size described ts each = free_by MoreThanAsked (IsSound size described) (λ t earlier is before. no_more (is_answered t.ending) t.setup.length t.length is.few) [] ts tt each
 
 pub none_refuses_status : (size : ℕ) (described : Setup → List ℕ) (ts : List ControlTransfer) → AllByRecursion (IsSound size described) ts → IsTransferFreeAfter RefusesStatus [] ts
-none_refuses_status size described ts each = all_free RefusesStatus size described (λ t earlier is. no_status (is_stall t.ending) (reads_status t.setup) (nat_lt 0 t.device) is.asked) [] ts each
+none_refuses_status size described ts each =
+    free_by RefusesStatus (IsSound size described) (λ t earlier is before. no_status (is_stall t.ending) (reads_status t.setup) (nat_lt 0 t.device) is.asked) [] ts tt each
 
 -- ---- what a device said of a descriptor
 
@@ -80,12 +83,12 @@ fronts_agree (x ∷ xs) (y ∷ ys) (z ∷ zs) first second =
     ∙ ap (λ c. c || differ xs ys) (own_number x)
     ∙ fronts_agree xs ys zs (first.0, a.1) (second.0, b.1)
 
-record GivesParts (reads done kept some type : Bool) : Type 0 where
-  is_read : reads ≡ true
-  is_ended : done ≡ true
-  is_kept : kept ≡ true
-  has_some : some ≡ true
-  of_type : type ≡ true
+pub record GivesParts (reads done kept some type : Bool) : Type 0 where
+  pub is_read : reads ≡ true
+  pub is_ended : done ≡ true
+  pub is_kept : kept ≡ true
+  pub has_some : some ≡ true
+  pub of_type : type ≡ true
 
 gives_parts : (reads done kept some type : Bool) → (reads && done && kept && some && type) ≡ true → GivesParts reads done kept some type
 gives_parts true true true true true e = record { is_read = refl; is_ended = refl; is_kept = refl; has_some = refl; of_type = refl }
@@ -95,14 +98,17 @@ parts_given : (t : ControlTransfer) → gives t ≡ true
     → GivesParts (reads_descriptor t.setup) (is_done t.ending) (not t.is_cut) (nat_lt 1 (length t.data)) (slice_index t.data 1 == t.setup.value / 256)
 parts_given t e = gives_parts (reads_descriptor t.setup) (is_done t.ending) (not t.is_cut) (nat_lt 1 (length t.data)) (slice_index t.data 1 == t.setup.value / 256) e
 
-parts_brought : (t : ControlTransfer) → brings_descriptor t ≡ true
+pub parts_brought : (t : ControlTransfer) → brings_descriptor t ≡ true
     → GivesParts (reads_descriptor t.setup) (is_done t.ending) (not t.is_cut) (is_standard_type (t.setup.value / 256)) (nat_lt 1 (length t.data))
 parts_brought t e = gives_parts (reads_descriptor t.setup) (is_done t.ending) (not t.is_cut) (is_standard_type (t.setup.value / 256)) (nat_lt 1 (length t.data)) e
 
+-- the descriptor that is asked for
+abbrev pub descriptor_of : DescriptorFile → Asked → Option (List ℕ)
+descriptor_of f asked = descriptor f (asked.value / 256) (asked.value % 256) asked.index
+
 module _ (size : ℕ) (f : DescriptorFile) where
-  -- the descriptor that is asked for
   abbrev is_of : Asked → List ℕ
-  is_of asked = unwrap_or (descriptor f (asked.value / 256) (asked.value % 256) asked.index) []
+  is_of asked = unwrap_or (descriptor_of f asked) []
 
   record SameAsked (bus device value index : Bool) : Type 0 where
     of_value : value ≡ true
@@ -125,7 +131,8 @@ module _ (size : ℕ) (f : DescriptorFile) where
   both_parts true true e = (refl, refl)
   both_parts a b e = absurd (let w : ⊥ = cc in w)
 
-  said_front : (asked : Asked) (earlier : List ControlTransfer) → AllByRecursion (IsSound size (described_by f)) earlier → IsFront (said asked earlier) (is_of asked)
+  pub said_front : (asked : Asked) (earlier : List ControlTransfer) → AllByRecursion (IsSound size (described_by f)) earlier
+      → IsFront (said asked earlier) (unwrap_or (descriptor_of f asked) [])
   said_front asked [] each = (is_of asked, refl)
   said_front asked (t ∷ earlier) each = of (may_change t asked) (gives t && is_same (asked_of t) asked) refl (said_front asked earlier each.1)
     where
@@ -149,13 +156,8 @@ module _ (size : ℕ) (f : DescriptorFile) where
           let given = parts_given t e in
           fronts_agree t.data (said (asked_of t) earlier) (is_of (asked_of t)) (is.front given.is_read given.is_ended given.is_kept) (said_front (asked_of t) earlier each)
 
-  same_after : (earlier ts : List ControlTransfer) → AllByRecursion (IsSound size (described_by f)) earlier → AllByRecursion (IsSound size (described_by f)) ts
-      → IsTransferFreeAfter OtherBytes earlier ts
-  same_after earlier [] before each = tt
-  same_after earlier (t ∷ ts) before each = (said_same t earlier each.0 before, same_after (t ∷ earlier) ts (each.0, before) each.1)
-
   pub none_changes : (ts : List ControlTransfer) → AllByRecursion (IsSound size (described_by f)) ts → IsTransferFreeAfter OtherBytes [] ts
-  none_changes ts each = same_after [] ts tt each
+  none_changes ts each = free_by OtherBytes (IsSound size (described_by f)) said_same [] ts tt each
 
 -- ---- the type of a descriptor
 
@@ -212,37 +214,43 @@ other_type : (other : Option Other) (index : ℕ) → list_any (is_other_kind ki
 other_type None index none = tt
 other_type (Some other) index none = sets_type kinds.OtherSpeed other.sets index none
 
--- each descriptor of accepted ones has the type that it is asked for by
-descriptor_type : (f : DescriptorFile) (kind index language : ℕ) → has_wrong_kind f ≡ false → TypeIs kind (descriptor f kind index language)
-descriptor_type f kind index language right = of (kind == 1) (kind == 2) (kind == 3) (kind == 6) (kind == 7) refl refl refl refl refl
+-- what holds of each descriptor, by its type
+pub by_kind : (P : ℕ → Option (List ℕ) → Type 0) (f : DescriptorFile) (index language : ℕ) → P 1 (device_of f index) → P 2 (set_at f.sets index)
+    → P 3 (string_at f.strings (named_indices f) index language) → P 6 (qualifier_of f.other index) → P 7 (other_set_at f.other index) → ((kind : ℕ) → P kind None)
+    → (kind : ℕ) → P kind (descriptor f kind index language)
+by_kind P f index language device set string qualifier other none kind = of (kind == 1) (kind == 2) (kind == 3) (kind == 6) (kind == 7) refl refl refl refl refl
   where
-    same : (n : ℕ) (is : Bool) → (kind == n) ≡ is → is ≡ true → n ≡ kind
-    same n is e yes_so = grind (arith, nat_tests)
-
-    own : (list_any (is_other_kind kinds.Configuration) f.sets ≡ false) × (list_any (is_other_kind kinds.OtherSpeed) (other_sets f.other) ≡ false)
-    own = or_parts (list_any (is_other_kind kinds.Configuration) f.sets) (list_any (is_other_kind kinds.OtherSpeed) (other_sets f.other)) right
-
     of : (one two three six seven : Bool) → (kind == 1) ≡ one → (kind == 2) ≡ two → (kind == 3) ≡ three → (kind == 6) ≡ six → (kind == 7) ≡ seven
-        → TypeIs kind (if one then device_of f index
+        → P kind (if one then device_of f index
         else if two then set_at f.sets index
         else if three then string_at f.strings (named_indices f) index language
         else if six then qualifier_of f.other index
         else if seven then other_set_at f.other index
         else None)
-    of true two three six seven a b c d e = subst (λ k. TypeIs k (device_of f index)) (same 1 true a refl) (device_type f.device (index == 0))
-    of false true three six seven a b c d e = subst (λ k. TypeIs k (set_at f.sets index)) (same 2 true b refl) (sets_type kinds.Configuration f.sets index own.0)
-    of false false true six seven a b c d e = subst (λ k. TypeIs k (string_at f.strings (named_indices f) index language)) (same 3 true c refl) (string_type f.strings (named_indices f) index language)
-    of false false false true seven a b c d e = subst (λ k. TypeIs k (qualifier_of f.other index)) (same 6 true d refl) (qualifier_type f.other index)
-    of false false false false true a b c d e = subst (λ k. TypeIs k (other_set_at f.other index)) (same 7 true e refl) (other_type f.other index own.1)
-    of false false false false false a b c d e = tt
+    of true two three six seven a b c d e = subst (λ k. P k (device_of f index)) (sym (eqb-true kind 1 a)) device
+    of false true three six seven a b c d e = subst (λ k. P k (set_at f.sets index)) (sym (eqb-true kind 2 b)) set
+    of false false true six seven a b c d e = subst (λ k. P k (string_at f.strings (named_indices f) index language)) (sym (eqb-true kind 3 c)) string
+    of false false false true seven a b c d e = subst (λ k. P k (qualifier_of f.other index)) (sym (eqb-true kind 6 d)) qualifier
+    of false false false false true a b c d e = subst (λ k. P k (other_set_at f.other index)) (sym (eqb-true kind 7 e)) other
+    of false false false false false a b c d e = none kind
 
-less_so : (n : ℕ) → nat_lt 1 n ≡ true → 1 < n
+-- each descriptor of accepted ones has the type that it is asked for by
+descriptor_type : (f : DescriptorFile) (kind index language : ℕ) → has_wrong_kind f ≡ false → TypeIs kind (descriptor f kind index language)
+descriptor_type f kind index language right =
+    let own = or_parts (list_any (is_other_kind kinds.Configuration) f.sets) (list_any (is_other_kind kinds.OtherSpeed) (other_sets f.other)) right in
+    by_kind TypeIs f index language (device_type f.device (index == 0)) (sets_type kinds.Configuration f.sets index own.0) (string_type f.strings (named_indices f) index language)
+    (qualifier_type f.other index) (other_type f.other index own.1) (λ k. tt) kind
+
+pub less_so : (n : ℕ) → nat_lt 1 n ≡ true → 1 < n
 less_so n e = grind (arith, nat_tests)
+
+pub front_at : (front all : List ℕ) (i : ℕ) → IsFront front all → i < length front → slice_index front i ≡ slice_index all i
+front_at front all i is low = sym (get_or_append_left front is.0 0 i low) ∙ ap (λ b. slice_index b i) is.1
 
 front_type : (kind : ℕ) (o : Option (List ℕ)) (bytes : List ℕ) → TypeIs kind o → IsFront bytes (unwrap_or o []) → 1 < length bytes → slice_index bytes 1 ≡ kind
 front_type kind None [] is front some = absurd (let w : ⊥ = omega (arith, some) in w)
 front_type kind None (x ∷ bytes) is front some = absurd (let e : x ∷ (bytes ++ front.0) ≡ [] = front.1 in let w : ⊥ = cc in w)
-front_type kind (Some b) bytes is front some = sym (get_or_append_left bytes front.0 0 1 some) ∙ ap (λ z. slice_index z 1) front.1 ∙ is
+front_type kind (Some b) bytes is front some = front_at bytes b 1 front some ∙ is
 
 not_other : (brings : Bool) (type kind : ℕ) → (brings ≡ true → type ≡ kind) → (brings && not (type == kind)) ≡ false
 not_other false type kind is = refl
@@ -260,4 +268,4 @@ accepted_kinds f e = (or_parts (has_wrong_count f) (has_wrong_kind f) (or_parts 
 
 pub none_of_other_type : (size : ℕ) (f : DescriptorFile) (ts : List ControlTransfer) → has_wrong_sets f ≡ false → AllByRecursion (IsSound size (described_by f)) ts
     → IsTransferFreeAfter OtherType [] ts
-none_of_other_type size f ts right each = all_free OtherType size (described_by f) (λ t earlier is. type_right size f t (accepted_kinds f right) is) [] ts each
+none_of_other_type size f ts right each = free_by OtherType (IsSound size (described_by f)) (λ t earlier is before. type_right size f t (accepted_kinds f right) is) [] ts tt each

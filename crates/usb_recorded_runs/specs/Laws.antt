@@ -14,7 +14,7 @@ use Rattle.usb_bus.specs.declared.fate.Fate.{Fate}
 use Rattle.usb_bus.specs.DamagedRuns.{DamagedRunsAt}
 use Rattle.usb_bus.specs.Enumerate.{Pair, Runs, chosen_pair}
 use Rattle.usb_bus.specs.Exchanges.{is_lost_down}
-use Rattle.usb_capture.specs.declared.finding.Finding.TheVariants.{MoreThanAsked, OtherBytes, OtherType, RefusesStatus}
+use Rattle.usb_capture.specs.declared.finding.Finding.TheVariants.{MoreThanAsked, OtherBytes, OtherLength, OtherType, RefusesCounted, RefusesGiven, RefusesNamed, RefusesRequired, RefusesStatus}
 use Rattle.usb_capture.specs.declared.frame.Frame.{Frame}
 use Rattle.usb_capture.specs.declared.packet_finding.PacketFinding.TheVariants.{Long, NoHandshake, NoRequest, NoShortPacket, SetupRefused, Toggle}
 use Rattle.usb_capture.specs.declared.reader.CaptureReader.{CaptureReader}
@@ -133,6 +133,41 @@ DescriptorsHaveTypes =
     (f : DescriptorFile) (fates : List Fate) (limits : LimitView) (speed : Speed) (choice : Choice) (earlier : List Pair) (n : ℕ) (last : Pair)
     (times : ℕ → Option ℕ) → Accepted f speed → IsRun f fates (chosen_pair limits speed choice) earlier n last →
     IsTransferFreeAfter OtherType [] (transfers_in (received times 1 (exchanges f fates earlier n)))
+
+-- Of a descriptor come as many bytes as it says that it has, or wLength of them, if these are fewer (9.3.5, 9.4.3).
+abbrev pub DescriptorsHaveLengths : Type 0
+DescriptorsHaveLengths =
+    (f : DescriptorFile) (fates : List Fate) (limits : LimitView) (speed : Speed) (choice : Choice) (earlier : List Pair) (n : ℕ) (last : Pair)
+    (times : ℕ → Option ℕ) → Accepted f speed → IsRun f fates (chosen_pair limits speed choice) earlier n last →
+    IsTransferFreeAfter OtherLength [] (transfers_in (received times 1 (exchanges f fates earlier n)))
+
+-- No descriptor is refused of which the device said something before (9.4.3),
+abbrev pub NoGivenDescriptorIsRefused : Type 0
+NoGivenDescriptorIsRefused =
+    (f : DescriptorFile) (fates : List Fate) (limits : LimitView) (speed : Speed) (choice : Choice) (earlier : List Pair) (n : ℕ) (last : Pair)
+    (times : ℕ → Option ℕ) → Accepted f speed → IsRun f fates (chosen_pair limits speed choice) earlier n last →
+    IsTransferFreeAfter RefusesGiven [] (transfers_in (received times 1 (exchanges f fates earlier n)))
+
+-- nor the device descriptor or configuration 0, which all devices have (9.4.3),
+abbrev pub NoRequiredDescriptorIsRefused : Type 0
+NoRequiredDescriptorIsRefused =
+    (f : DescriptorFile) (fates : List Fate) (limits : LimitView) (speed : Speed) (choice : Choice) (earlier : List Pair) (n : ℕ) (last : Pair)
+    (times : ℕ → Option ℕ) → Accepted f speed → IsRun f fates (chosen_pair limits speed choice) earlier n last →
+    IsTransferFreeAfter RefusesRequired [] (transfers_in (received times 1 (exchanges f fates earlier n)))
+
+-- nor a configuration that the device descriptor counts (9.6.1), or at the other speed the qualifier (9.6.2),
+abbrev pub NoCountedDescriptorIsRefused : Type 0
+NoCountedDescriptorIsRefused =
+    (f : DescriptorFile) (fates : List Fate) (limits : LimitView) (speed : Speed) (choice : Choice) (earlier : List Pair) (n : ℕ) (last : Pair)
+    (times : ℕ → Option ℕ) → Accepted f speed → IsRun f fates (chosen_pair limits speed choice) earlier n last →
+    IsTransferFreeAfter RefusesCounted [] (transfers_in (received times 1 (exchanges f fates earlier n)))
+
+-- nor the language list of a device that named a string, or a string that it named, in a language of the list (9.6.7).
+abbrev pub NoNamedStringIsRefused : Type 0
+NoNamedStringIsRefused =
+    (f : DescriptorFile) (fates : List Fate) (limits : LimitView) (speed : Speed) (choice : Choice) (earlier : List Pair) (n : ℕ) (last : Pair)
+    (times : ℕ → Option ℕ) → Accepted f speed → IsRun f fates (chosen_pair limits speed choice) earlier n last →
+    IsTransferFreeAfter RefusesNamed [] (transfers_in (received times 1 (exchanges f fates earlier n)))
 
 -- Each control transfer ends as it does with a device of these descriptors: a STALL is its refusal, and what reads a descriptor has as many
 -- bytes of it as were asked for, or all (9.2.7, 9.4.3).

@@ -1,5 +1,5 @@
 //! The functions of these laws do nothing: their contracts are the laws.
-ghost use Rattle.usb_recorded_runs.specs.Laws.{CapturedRunsAreRead, DescriptorsHaveTypes, EnumerationsAreRuns, HandshakesAreLost, NoDescriptorChanges, NoLongPacketIsFound, NoPacketIsDamaged, NoPacketIsLong, NoShortPacketLacks, NoToggleIsWrong, NoTransferHasMore, RecordedRunsAreRead, RunsOfBytesAreRuns, SetupsAreTaken, TransfersEndRight};
+ghost use Rattle.usb_recorded_runs.specs.Laws.{CapturedRunsAreRead, DescriptorsHaveLengths, DescriptorsHaveTypes, EnumerationsAreRuns, HandshakesAreLost, NoCountedDescriptorIsRefused, NoDescriptorChanges, NoGivenDescriptorIsRefused, NoLongPacketIsFound, NoNamedStringIsRefused, NoPacketIsDamaged, NoPacketIsLong, NoRequiredDescriptorIsRefused, NoShortPacketLacks, NoToggleIsWrong, NoTransferHasMore, RecordedRunsAreRead, RunsOfBytesAreRuns, SetupsAreTaken, TransfersEndRight};
 
 use usb_bus::laws::a_device_keeps_its_table;
 
@@ -88,6 +88,41 @@ pub fn each_descriptor_has_its_type()
 /// descriptor has as many bytes of it as were asked for, or all.
 pub fn each_transfer_ends_right()
     ensures { TransfersEndRight }
+{
+    a_device_keeps_its_table();
+}
+
+/// So `OtherLength` is never found: of a descriptor come as many bytes as it says that it has, or as many as were asked for.
+pub fn each_descriptor_has_its_length()
+    ensures { DescriptorsHaveLengths }
+{
+    a_device_keeps_its_table();
+}
+
+/// Nor is `RefusesGiven`: what a device has said of a descriptor it has.
+pub fn no_given_descriptor_is_refused()
+    ensures { NoGivenDescriptorIsRefused }
+{
+    a_device_keeps_its_table();
+}
+
+/// Nor is `RefusesRequired`: a device has a device descriptor and a configuration.
+pub fn no_required_descriptor_is_refused()
+    ensures { NoRequiredDescriptorIsRefused }
+{
+    a_device_keeps_its_table();
+}
+
+/// Nor is `RefusesCounted`: a device has as many configurations as it says, at each speed.
+pub fn no_counted_descriptor_is_refused()
+    ensures { NoCountedDescriptorIsRefused }
+{
+    a_device_keeps_its_table();
+}
+
+/// Nor is `RefusesNamed`: a device has each string that it was seen to name, in each language that it was seen to list.
+pub fn no_named_string_is_refused()
+    ensures { NoNamedStringIsRefused }
 {
     a_device_keeps_its_table();
 }
