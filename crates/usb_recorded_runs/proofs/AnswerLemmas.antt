@@ -63,7 +63,7 @@ module _ (f : DescriptorFile) (s : State) where
   gives_any value index size bytes None e = absurd (let w : ⊥ = cc in w)
   gives_any value index size bytes (Some all) e = cut_any size all bytes (size == 0) e
 
-  any_reported : (q : Setup) (bytes : List ℕ) → q.request_type ≡ 128 → q.request ≡ 6 → answer f s q ≡ Bytes bytes → bytes ≡ take q.length (described_by f q)
+  pub any_reported : (q : Setup) (bytes : List ℕ) → q.request_type ≡ 128 → q.request ≡ 6 → answer f s q ≡ Bytes bytes → bytes ≡ take q.length (described_by f q)
   any_reported q bytes type request e =
       let same : q ≡ asked_so f s q.value q.index q.length = (λ i. record { request_type = type i; request = request i; value = q.value; index = q.index; length = q.length }) in
       gives_any q.value q.index q.length bytes (descriptor f (q.value / 256) (q.value % 256) q.index)

@@ -16,3 +16,4 @@ pub mod SizeLemmas
 pub mod AnswerLemmas
 pub mod TransferLemmas
 pub mod PlaceLemmas
+pub mod ShownLemmas

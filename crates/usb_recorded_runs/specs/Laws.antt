@@ -1,28 +1,36 @@
 -- What holds of a recording of a host and a device that enumerate over a bus that loses packets.
-use Rattle.std.specs.Prelude.{◌≡◌, ◌⊎◌, ℕ, true, false, List, [], Option, None}
+use Rattle.std.specs.Prelude.{◌≡◌, ◌⊎◌, ℕ, true, false, List, [], ◌∷◌, Option, None}
 use Rattle.std.specs.List.{AllByRecursion}
 use Rattle.usb_wire.specs.Packets.{IsLegal}
 use Rattle.usb_file_data.specs.declared.file.DescriptorFile.{DescriptorFile}
+use Rattle.usb_file_data.specs.File.{file_bytes}
 use Rattle.usb_fields.specs.declared.packet.Speed.{Speed}
+use Rattle.usb_fields.specs.Bytes.{AreBytes}
 use Rattle.usb_host.specs.declared.choice.Choice.{Choice}
 use Rattle.usb_host.specs.Limits.{LimitView}
 use Rattle.usb_device.specs.Accepted.{Accepted}
 use Rattle.usb_device.specs.Requests.{answer}
+use Rattle.usb_device.specs.States.{zero}
 use Rattle.usb_bus.specs.declared.fate.Fate.{Fate}
+use Rattle.usb_bus.specs.Converse.{AskedView, state_after}
 use Rattle.usb_bus.specs.DamagedRuns.{DamagedRunsAt}
 use Rattle.usb_bus.specs.Enumerate.{Pair, Runs, chosen_pair}
 use Rattle.usb_bus.specs.Exchanges.{is_lost_down}
-use Rattle.usb_capture.specs.declared.finding.Finding.TheVariants.{MoreThanAsked, OtherBytes, OtherType, RefusesStatus}
+use Rattle.usb_capture.specs.declared.asked.Asked.{Asked}
+use Rattle.usb_capture.specs.declared.control_transfer.ControlTransfer.{ControlTransfer}
+use Rattle.usb_capture.specs.declared.finding.Finding.TheVariants.{GivesUncounted, MoreThanAsked, OtherBytes, OtherConfiguration, OtherType, RefusesAddress, RefusesConfiguration, RefusesStatus, TakesConfiguration}
 use Rattle.usb_capture.specs.declared.frame.Frame.{Frame}
 use Rattle.usb_capture.specs.declared.packet_finding.PacketFinding.TheVariants.{Long, NoHandshake, NoRequest, NoShortPacket, SetupRefused, Toggle}
 use Rattle.usb_capture.specs.declared.reader.CaptureReader.{CaptureReader}
 use Rattle.usb_capture.specs.declared.recorded_packet.RecordedPacket.{RecordedPacket}
 use Rattle.usb_capture.specs.declared.transaction.Transaction.{Transaction}
 use Rattle.usb_capture.specs.BusTransfers.{transfers_in}
+use Rattle.usb_capture.specs.Findings.{holds}
 use Rattle.usb_capture.specs.PacketFindings.{damage_in, is_found}
 use Rattle.usb_capture.specs.PacketSizes.{is_long, size_at}
 use Rattle.usb_capture.specs.Reading.{IsRead}
 use Rattle.usb_capture.specs.Recordings.{transactions_in}
+use Rattle.usb_recorded_runs.specs.Answers.{IsAnswered}
 use Rattle.usb_recorded_runs.specs.Captures.{AreOfFrames, Moment, capture_of, frames, times}
 use Rattle.usb_recorded_runs.specs.Exchanges.{exchanges, received, packets_in, transaction_of}
 use Rattle.usb_recorded_runs.specs.Findings.{IsFreeAfter, IsTransferFreeAfter, LosesHandshake}
@@ -133,3 +141,13 @@ HandshakesAreLost =
     (λ x. (number : ℕ) (time : Option ℕ) (before : List Transaction) → is_lost_down x.fate ≡ false →
     is_found NoHandshake before (transaction_of number time x) ≡ true → LosesHandshake x)
     (exchanges f fates earlier n)
+
+-- A device with accepted descriptors, whatever requests it has carried out since a bus reset, gives none of these answers: it takes an
+-- address and each configuration that it has (9.4.6, 9.4.7), no other one (9.2.7), tells which it has (9.4.2), and gives none that it
+-- doesn't count (9.4.3, 9.6.1).
+abbrev pub NoDeviceAnswersSo : Type 0
+NoDeviceAnswersSo =
+    (f : DescriptorFile) (speed : Speed) (requests : List AskedView) (known : Asked → List ℕ) (t : ControlTransfer) → Accepted f speed →
+    AreBytes (file_bytes f) → IsAnswered f (state_after (answer f) zero requests) known t →
+    AllByRecursion (λ finding. holds finding known t ≡ false)
+    (RefusesAddress ∷ RefusesConfiguration ∷ TakesConfiguration ∷ OtherConfiguration ∷ GivesUncounted ∷ [])

@@ -1,5 +1,5 @@
 //! The functions of these laws do nothing: their contracts are the laws.
-ghost use Rattle.usb_recorded_runs.specs.Laws.{CapturedRunsAreRead, DescriptorsHaveTypes, HandshakesAreLost, NoDescriptorChanges, NoLongPacketIsFound, NoPacketIsDamaged, NoPacketIsLong, NoShortPacketLacks, NoToggleIsWrong, NoTransferHasMore, RecordedRunsAreRead, RunsOfBytesAreRuns, SetupsAreTaken};
+ghost use Rattle.usb_recorded_runs.specs.Laws.{CapturedRunsAreRead, DescriptorsHaveTypes, HandshakesAreLost, NoDescriptorChanges, NoDeviceAnswersSo, NoLongPacketIsFound, NoPacketIsDamaged, NoPacketIsLong, NoShortPacketLacks, NoToggleIsWrong, NoTransferHasMore, RecordedRunsAreRead, RunsOfBytesAreRuns, SetupsAreTaken};
 
 use usb_bus::laws::a_device_keeps_its_table;
 
@@ -80,4 +80,10 @@ pub fn each_descriptor_has_its_type()
 /// received the ACK of its SET_ADDRESS.
 pub fn a_handshake_lacks_by_a_loss()
     ensures { HandshakesAreLost }
+{}
+
+/// Of the findings that contradict what a device said of itself, `RefusesAddress`, `RefusesConfiguration`, `TakesConfiguration`,
+/// `OtherConfiguration` and `GivesUncounted` are found in no answer of a device, whatever it was asked before.
+pub fn no_device_answers_so()
+    ensures { NoDeviceAnswersSo }
 {}
