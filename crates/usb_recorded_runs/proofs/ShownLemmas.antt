@@ -1,7 +1,7 @@
--- What is found in no transfer that shows a device's answer.
+-- What is found in no transfer that shows a device's answer, and in no conversation of such transfers.
 use Rattle.std.proofs.Common.{◌≡◌, ◌⊎◌, inl, inr, ◌<◌, ◌≤◌, ◌+◌, ◌*◌, ◌==◌, ◌&&◌, ◌||◌, ◌/◌, ◌%◌, nat_lt, nat_le, ℕ, zero, suc, Bool, true, false, not, if◌then◌else◌, List, [], ◌∷◌, ◌++◌, length, take, drop, map, refl, sym, ◌∙◌, ap, subst, arith, length-append}
 use Rattle.std.specs.Prelude.{Option, Some, None, slice_get, slice_index, slice_set, fold, get_or, unwrap_or}
-use Rattle.std.specs.List.{list_all, list_any, range_with_len}
+use Rattle.std.specs.List.{AllByRecursion, list_all, list_any, range_with_len}
 use Rattle.std.specs.Option.{option_map}
 use Rattle.std.proofs.lemmas.Bool.{and_parts, cases_lt, eq-eqb, eqb-true, false_from_ne_true, ltb-true, not-false, or_cases, or_parts, true_from_ne_false}
 use Rattle.std.proofs.lemmas.Bool.Decides.{nat_tests}
@@ -30,17 +30,22 @@ use Rattle.usb_device.specs.Requests.{Outcome, Bytes, Done, Refused, Takes, answ
 use Rattle.usb_device.specs.States as states
 use Rattle.usb_device.specs.States.{first_alternates, halt_of, has_address, is_configured, without_halt}
 use Rattle.usb_device.specs.Step.{carried_out}
+use Rattle.usb_bus.specs.Beside.{IsTable}
 use Rattle.usb_bus.specs.Converse.{AskedView, state_after}
 use Rattle.usb_capture.specs.declared.asked.Asked.{Asked}
 use Rattle.usb_capture.specs.declared.control_transfer.ControlTransfer.{ControlTransfer}
+use Rattle.usb_capture.specs.declared.ending.Ending.{Ending}
 use Rattle.usb_capture.specs.declared.ending.Ending.TheVariants as endings
-use Rattle.usb_capture.specs.declared.finding.Finding.TheVariants.{GivesUncounted, OtherConfiguration, RefusesAddress, RefusesConfiguration, TakesConfiguration}
+use Rattle.usb_capture.specs.declared.finding.Finding.{Finding}
+use Rattle.usb_capture.specs.declared.finding.Finding.TheVariants.{GivesUncounted, MoreThanAsked, OtherBytes, OtherConfiguration, OtherType, RefusesAddress, RefusesConfiguration, RefusesStatus, TakesConfiguration}
 use Rattle.usb_capture.specs.Findings as findings
-use Rattle.usb_capture.specs.Findings.{all_are_known, asked_of, beside, configuration, configuration_count, gives_address, holds, is_configuration_value, is_no_value, is_stall, is_uncounted, reads_configuration, sets_configuration, tells_no_value}
+use Rattle.usb_capture.specs.Findings.{all_are_known, asked_of, beside, brings_descriptor, configuration, configuration_count, differ, gives_address, holds, is_answered, is_configuration_value, is_no_value, is_stall, is_same, is_standard_type, is_uncounted, may_change, reads_configuration, reads_status, said, sets_configuration, tells_no_value}
 use Rattle.usb_capture.specs.Readings.{is_done, reads_descriptor}
-use Rattle.usb_recorded_runs.specs.Answers.{IsAnswered, Shows, descriptor_of}
+use Rattle.usb_recorded_runs.specs.Answers.{IsAnswered, IsOfDevice, Shows, descriptor_of, unanswered}
+use Rattle.usb_recorded_runs.specs.Findings.{IsTransferFreeAfter}
 use Rattle.usb_recorded_runs.proofs.AnswerLemmas.{any_reported, described_by}
-use Rattle.usb_recorded_runs.proofs.SizeLemmas.{IsFront}
+use Rattle.usb_recorded_runs.proofs.SizeLemmas.{IsFront, IsSound}
+use Rattle.usb_recorded_runs.proofs.TransferLemmas.{front_over, fronts_agree, none_of_other_type, same_descriptor}
 
 -- ---- what is shown
 
@@ -58,6 +63,13 @@ done_taken (Done next) t shown e refused = cc
 done_taken Refused t shown e refused = let w : false ≡ true = sym (ap is_done shown.0) ∙ e in cc
 done_taken (Takes judge) t shown e refused = shown
 
+never_both : (ending : Ending) → is_done ending ≡ true → is_stall ending ≡ true → ⊥
+never_both endings.Unseen done stall = cc
+never_both endings.Done done stall = cc
+never_both endings.Stall done stall = cc
+never_both (endings.Failed status) done stall = cc
+never_both (endings.Refused status) done stall = cc
+
 uncut : (cut : Bool) → not cut ≡ true → cut ≡ false
 uncut false e = refl
 uncut true e = absurd (let w : ⊥ = cc in w)
@@ -73,6 +85,11 @@ record GivenParts (read done kept some type : Bool) : Type 0 where
 given_parts : (read done kept some type : Bool) → (read && done && kept && some && type) ≡ true → GivenParts read done kept some type
 given_parts true true true true true e = record { is_read = refl; is_over = refl; is_kept = refl; has_some = refl }
 given_parts read done kept some type e = absurd (let w : ⊥ = cc in w)
+
+parts_given : (t : ControlTransfer) → findings.gives t ≡ true
+    → GivenParts (reads_descriptor t.setup) (is_done t.ending) (not t.is_cut) (nat_lt 1 (length t.data)) (slice_index t.data 1 == t.setup.value / 256)
+parts_given t e =
+    given_parts (reads_descriptor t.setup) (is_done t.ending) (not t.is_cut) (nat_lt 1 (length t.data)) (slice_index t.data 1 == t.setup.value / 256) e
 
 record FourParts (a b c d : Bool) : Type 0 where
   first : a ≡ true
@@ -128,7 +145,8 @@ any_in : (p : ℕ → Bool) (a n : ℕ) → list_any p (range_with_len a n) ≡ 
 any_in p a zero e = absurd (let w : ⊥ = cc in w)
 any_in p a (suc n) e = of (or_cases (p a) (list_any p (range_with_len (a + 1) n)) e) (any_in p (a + 1) n)
   where
-    of : (p a ≡ true) ⊎ (list_any p (range_with_len (a + 1) n) ≡ true) → (list_any p (range_with_len (a + 1) n) ≡ true → IsIn p (a + 1) n) → IsIn p a (suc n)
+    of : (p a ≡ true) ⊎ (list_any p (range_with_len (a + 1) n) ≡ true) → (list_any p (range_with_len (a + 1) n) ≡ true → IsIn p (a + 1) n)
+        → IsIn p a (suc n)
     of (inl own) later = record { place = a; below = omega arith; passes = own }
     of (inr more) later = let h = later more in record { place = h.place; below = omega (arith, h.below); passes = h.passes }
 
@@ -246,6 +264,15 @@ module _ (f : DescriptorFile) (s : State) where
   unfolding answer answer_of
   address_taken value none below = taken_so (has_address s) (not (s.selected == 0)) (nat_lt value 128) (Done (record s { address = value })) none below
 
+  -- GET_STATUS of a device that has an address
+  status_so : (has : Bool) (b : List ℕ) → has ≡ true → when (has && true) (Bytes b) ≡ Refused → ⊥
+  status_so true b e refused = cc
+  status_so false b e refused = cc
+
+  status_told : has_address s ≡ true → answer f s (asked_so 128 0 0 0 2) ≡ Refused → ⊥
+  unfolding answer answer_of
+  status_told has refused = status_so (has_address s) ((shown_attributes (offer_of f) s / 64 % 2 + 2 * one_if s.wakeup) ∷ 0 ∷ []) has refused
+
   -- SET_CONFIGURATION
   set_so : (has below own : Bool) (o : Outcome) → has ≡ true → below ≡ true → own ≡ true → when (has && true && below && own) o ≡ o
   set_so true true true o a b c = refl
@@ -319,7 +346,8 @@ module _ (f : DescriptorFile) (s : State) (q : Setup) (own : is_own_value f s.se
       if_leads (names_endpoint_zero q.index) (when (has_address s) (tells q (0 ∷ 0 ∷ [])))
       (when (is_configured s && names_endpoint (offer_of f) s q.index) (tells q (halt_of s.halts q.index ∷ 0 ∷ [])))
       (when_leads (has_address s) (tells q (0 ∷ 0 ∷ [])) (tells_leads (0 ∷ 0 ∷ [])))
-      (when_leads (is_configured s && names_endpoint (offer_of f) s q.index) (tells q (halt_of s.halts q.index ∷ 0 ∷ [])) (tells_leads (halt_of s.halts q.index ∷ 0 ∷ [])))
+      (when_leads (is_configured s && names_endpoint (offer_of f) s q.index) (tells q (halt_of s.halts q.index ∷ 0 ∷ []))
+      (tells_leads (halt_of s.halts q.index ∷ 0 ∷ [])))
 
   status_leads : (r : Recipient) → Leads (status_of r (offer_of f) s q)
   status_leads Device = when_leads _ _ (tells_leads ((shown_attributes (offer_of f) s / 64 % 2 + 2 * one_if s.wakeup) ∷ 0 ∷ []))
@@ -389,26 +417,47 @@ still_own f [] s own = own
 still_own f (a ∷ requests) s own =
     still_own f requests (carried_out s (answer f s a.setup)) (next_own f s a.setup own (answer f s a.setup) (answer_leads f s a.setup own))
 
-pub always_own : (f : DescriptorFile) (requests : List AskedView) → is_own_value f (state_after (answer f) states.zero requests).selected ≡ true
+always_own : (f : DescriptorFile) (requests : List AskedView) → is_own_value f (state_after (answer f) states.zero requests).selected ≡ true
 always_own f requests = still_own f requests states.zero refl
 
 -- ---- the findings
 
+-- what came of a descriptor
+given_front : (f : DescriptorFile) (s : State) (t : ControlTransfer) → Shows (answer f s t.setup) t → reads_descriptor t.setup ≡ true → is_done t.ending ≡ true
+    → not t.is_cut ≡ true → IsFront t.data (described_by f t.setup)
+given_front f s t shown read done kept = of (answer f s t.setup) refl shown
+  where
+    of : (o : Outcome) → answer f s t.setup ≡ o → Shows o t → IsFront t.data (described_by f t.setup)
+    of (Bytes bytes) e shown =
+        let parts = and_parts (t.setup.request_type == 128) (t.setup.request == 6) read in
+        let cut : t.data ≡ take t.setup.length (described_by f t.setup) =
+        shown.2 (uncut t.is_cut kept)
+        ∙ any_reported f s t.setup bytes (eqb-true t.setup.request_type 128 parts.0) (eqb-true t.setup.request 6 parts.1) e in
+        let rest = drop t.setup.length (described_by f t.setup) in
+        (rest, ap (λ b. b ++ rest) cut ∙ take-append-drop t.setup.length (described_by f t.setup))
+    of (Done next) e shown = (described_by f t.setup, ap (λ b. b ++ described_by f t.setup) shown.2)
+    of Refused e shown = absurd (done_taken Refused t shown done refl)
+    of (Takes judge) e shown = absurd shown
+
 module _ (f : DescriptorFile) (s : State) (known : Asked → List ℕ) (t : ControlTransfer) (is : IsAnswered f s known t) where
-  -- what came of a descriptor
-  given_front : reads_descriptor t.setup ≡ true → is_done t.ending ≡ true → not t.is_cut ≡ true → IsFront t.data (described_by f t.setup)
-  given_front read done kept = of (answer f s t.setup) refl is.shown
+  -- no more bytes than were asked for
+  shown_few : IsTable (answer f) → t.length ≤ t.setup.length
+  shown_few table = of (answer f s t.setup) refl is.shown
     where
-      of : (o : Outcome) → answer f s t.setup ≡ o → Shows o t → IsFront t.data (described_by f t.setup)
-      of (Bytes bytes) e shown =
-          let parts = and_parts (t.setup.request_type == 128) (t.setup.request == 6) read in
-          let cut : t.data ≡ take t.setup.length (described_by f t.setup) =
-          shown.2 (uncut t.is_cut kept)
-          ∙ any_reported f s t.setup bytes (eqb-true t.setup.request_type 128 parts.0) (eqb-true t.setup.request 6 parts.1) e in
-          (drop t.setup.length (described_by f t.setup), ap (λ b. b ++ drop t.setup.length (described_by f t.setup)) cut ∙ take-append-drop t.setup.length (described_by f t.setup))
-      of (Done next) e shown = (described_by f t.setup, ap (λ b. b ++ described_by f t.setup) shown.2)
-      of Refused e shown = absurd (done_taken Refused t shown done refl)
+      of : (o : Outcome) → answer f s t.setup ≡ o → Shows o t → t.length ≤ t.setup.length
+      of (Bytes bytes) e shown = omega (arith, shown.1, table.fits s t.setup bytes e)
+      of (Done next) e shown = omega (arith, shown.1)
+      of Refused e shown = omega (arith, shown.1)
       of (Takes judge) e shown = absurd shown
+
+  -- So is each transfer of a recorded enumeration.
+  sound_if_done : IsTable (answer f) → is_done t.ending ≡ true → IsSound (slice_index t.data 7) (described_by f) t
+  sound_if_done table done = record {
+    front = given_front f s t is.shown;
+    says = λ e. refl;
+    few = λ e. shown_few table;
+    asked = λ stall. absurd (never_both t.ending done stall);
+  }
 
   -- what was said of the sets
   device_front : IsFront (known (beside (asked_of t) 256)) (device_bytes f.device)
@@ -454,7 +503,8 @@ module _ (f : DescriptorFile) (s : State) (known : Asked → List ℕ) (t : Cont
   known_value bytes value e =
       let h = any_in (λ i. slice_index (configuration known (asked_of t) i) 5 == value) 0 (configuration_count known (asked_of t)) e in
       let low : h.place < 256 = omega (arith, h.below, count_low, few_sets bytes) in
-      let said : slice_index (configuration known (asked_of t) h.place) 5 ≡ value = eqb-true (slice_index (configuration known (asked_of t) h.place) 5) value h.passes in
+      let said : slice_index (configuration known (asked_of t) h.place) 5 ≡ value =
+      eqb-true (slice_index (configuration known (asked_of t) h.place) 5) value h.passes in
       of h.place said (set_front h.place low) (cases_lt 5 (length (configuration known (asked_of t) h.place)))
     where
       of : (i : ℕ) → slice_index (configuration known (asked_of t) i) 5 ≡ value → IsFront (configuration known (asked_of t) i) (unwrap_or (set_at f.sets i) [])
@@ -465,7 +515,8 @@ module _ (f : DescriptorFile) (s : State) (known : Asked → List ℕ) (t : Cont
       of i said front (inr short) = zero_value f value (eq-eqb value 0 (sym said ∙ get_or_past (configuration known (asked_of t) i) 5 0 short))
 
   -- and one of the device's was said, where all were
-  no_other_value : AreBytes (file_bytes f) → has_wrong_sets f ≡ false → (value : ℕ) → is_own_value f value ≡ true → is_no_value known (asked_of t) value ≡ false
+  no_other_value : AreBytes (file_bytes f) → has_wrong_sets f ≡ false → (value : ℕ) → is_own_value f value ≡ true
+      → is_no_value known (asked_of t) value ≡ false
   no_other_value bytes right value own = false_from_ne_true (is_no_value known (asked_of t) value) (λ e.
       let parts = three_parts (not (value == 0)) (all_are_known known (asked_of t)) (not (is_configuration_value known (asked_of t) value)) e in
       let all = and_parts (nat_lt 0 (configuration_count known (asked_of t)))
@@ -486,14 +537,45 @@ module _ (f : DescriptorFile) (s : State) (known : Asked → List ℕ) (t : Cont
           (each_of (λ i. nat_lt 5 (length (configuration known (asked_of t) i))) (configuration_count known (asked_of t)) h.place all below) in
           let front : IsFront (configuration known (asked_of t) h.place) (whole_set h.set) =
           subst (λ o. IsFront (configuration known (asked_of t) h.place) (unwrap_or (option_map whole_set o) [])) h.there (set_front h.place low) in
-          let said : slice_index (configuration known (asked_of t) h.place) 5 ≡ value = front_at (configuration known (asked_of t) h.place) (whole_set h.set) 5 front long ∙ set_value h.set ∙ h.is in
+          let said : slice_index (configuration known (asked_of t) h.place) 5 ≡ value =
+          front_at (configuration known (asked_of t) h.place) (whole_set h.set) 5 front long ∙ set_value h.set ∙ h.is in
           let found : is_configuration_value known (asked_of t) value ≡ true =
           some_of (λ i. slice_index (configuration known (asked_of t) i) 5 == value) (configuration_count known (asked_of t)) h.place below
           (eq-eqb (slice_index (configuration known (asked_of t) h.place) 5) value said) in
           let w : not true ≡ true = ap not (sym found) ∙ other in
           cc
 
-  pub no_address_refused : holds RefusesAddress known t ≡ false
+  no_more_given : IsTable (answer f) → holds MoreThanAsked known t ≡ false
+  no_more_given table = false_from_ne_true (holds MoreThanAsked known t) (λ e.
+      omega (arith, shown_few table, ltb-true t.setup.length t.length (and_parts (is_answered t.ending) (nat_lt t.setup.length t.length) e).1))
+
+  no_other_type : IsTable (answer f) → has_wrong_sets f ≡ false → holds OtherType known t ≡ false
+  no_other_type table right = false_from_ne_true (holds OtherType known t) (λ e.
+      let brings = (and_parts (brings_descriptor t) (not (slice_index t.data 1 == t.setup.value / 256)) e).0 in
+      let given = given_parts (reads_descriptor t.setup) (is_done t.ending) (not t.is_cut) (is_standard_type (t.setup.value / 256)) (nat_lt 1 (length t.data)) brings in
+      let none = none_of_other_type (slice_index t.data 7) f (t ∷ []) right (sound_if_done table given.is_over, tt) in
+      let w : true ≡ false = sym e ∙ none.0 in
+      cc)
+
+  no_other_bytes : holds OtherBytes known t ≡ false
+  no_other_bytes = false_from_ne_true (holds OtherBytes known t) (λ e.
+      let both = and_parts (findings.gives t) (differ t.data (known (asked_of t))) e in
+      let given = parts_given t both.0 in
+      let w : true ≡ false =
+      sym both.1
+      ∙ fronts_agree t.data (known (asked_of t)) (described_by f t.setup) (given_front f s t is.shown given.is_read given.is_over given.is_kept) (is.said (asked_of t) refl refl) in
+      cc)
+
+  no_status_refused : holds RefusesStatus known t ≡ false
+  no_status_refused = false_from_ne_true (holds RefusesStatus known t) (λ e.
+      let q = t.setup in
+      let parts = three_parts (is_stall t.ending) (reads_status q) (nat_lt 0 t.device) e in
+      let asks = read_parts (q.request_type == 128) (q.request == 0) (q.value == 0) (q.index == 0) (q.length == 2) parts.1 in
+      let same : q ≡ asked_so f s 128 0 0 0 2 =
+      asks_so f s q 128 0 0 2 asks.of_type asks.of_request asks.of_index asks.of_size ∙ ap (λ v. asked_so f s 128 0 v 0 2) (eqb-true q.value 0 asks.of_value) in
+      status_told f s (addressed t.device s.address is.address parts.2) (ap (answer f s) (sym same) ∙ stalls_refused (answer f s q) t is.shown parts.0))
+
+  no_address_refused : holds RefusesAddress known t ≡ false
   no_address_refused = false_from_ne_true (holds RefusesAddress known t) (λ e.
       let parts = three_parts (is_stall t.ending) (gives_address t.setup) (t.device == 0) e in
       let q = t.setup in
@@ -505,7 +587,7 @@ module _ (f : DescriptorFile) (s : State) (known : Asked → List ℕ) (t : Cont
       let same = sym refused ∙ done in
       cc)
 
-  pub no_configuration_refused : AreBytes (file_bytes f) → holds RefusesConfiguration known t ≡ false
+  no_configuration_refused : AreBytes (file_bytes f) → holds RefusesConfiguration known t ≡ false
   no_configuration_refused bytes = false_from_ne_true (holds RefusesConfiguration known t) (λ e.
       let q = t.setup in
       let parts = four_parts (is_stall t.ending) (sets_configuration q) (nat_lt 0 t.device) (q.value == 0 || is_configuration_value known (asked_of t) q.value) e in
@@ -522,7 +604,7 @@ module _ (f : DescriptorFile) (s : State) (known : Asked → List ℕ) (t : Cont
       of value (inl none) = zero_value f value none
       of value (inr some) = known_value bytes value some
 
-  pub no_other_taken : AreBytes (file_bytes f) → has_wrong_sets f ≡ false → holds TakesConfiguration known t ≡ false
+  no_other_taken : AreBytes (file_bytes f) → has_wrong_sets f ≡ false → holds TakesConfiguration known t ≡ false
   no_other_taken bytes right = false_from_ne_true (holds TakesConfiguration known t) (λ e.
       let q = t.setup in
       let parts = four_parts (is_done t.ending) (sets_configuration q) (nat_lt 0 t.device) (is_no_value known (asked_of t) q.value) e in
@@ -532,7 +614,7 @@ module _ (f : DescriptorFile) (s : State) (known : Asked → List ℕ) (t : Cont
       let w : true ≡ false = sym parts.fourth ∙ no_other_value bytes right q.value own in
       cc)
 
-  pub no_other_told : AreBytes (file_bytes f) → has_wrong_sets f ≡ false → is_own_value f s.selected ≡ true → holds OtherConfiguration known t ≡ false
+  no_other_told : AreBytes (file_bytes f) → has_wrong_sets f ≡ false → is_own_value f s.selected ≡ true → holds OtherConfiguration known t ≡ false
   no_other_told bytes right own = false_from_ne_true (holds OtherConfiguration known t) (λ e.
       let q = t.setup in
       let parts = three_parts (reads_configuration q) (nat_lt 0 t.device) (is_stall t.ending || tells_no_value known t) e in
@@ -552,15 +634,91 @@ module _ (f : DescriptorFile) (s : State) (known : Asked → List ℕ) (t : Cont
           let w : true ≡ false = sym parts.fourth ∙ ap (is_no_value known (asked_of t)) same ∙ no_other_value bytes right s.selected own in
           cc
 
-  pub no_uncounted_given : has_wrong_sets f ≡ false → holds GivesUncounted known t ≡ false
+  no_uncounted_given : has_wrong_sets f ≡ false → holds GivesUncounted known t ≡ false
   no_uncounted_given right = false_from_ne_true (holds GivesUncounted known t) (λ e.
       let both = and_parts (findings.gives t) (is_uncounted known (asked_of t)) e in
-      let given = given_parts (reads_descriptor t.setup) (is_done t.ending) (not t.is_cut) (nat_lt 1 (length t.data)) (slice_index t.data 1 == t.setup.value / 256) both.0 in
+      let given = parts_given t both.0 in
       let parts = four_parts (t.setup.index == 0) (t.setup.value / 256 == 2) (nat_lt 0 (configuration_count known (asked_of t)))
       (nat_le (configuration_count known (asked_of t)) (t.setup.value % 256)) both.1 in
       let past : length f.sets ≤ t.setup.value % 256 =
       omega (arith, right_count f right, own_count parts.third, at_most (configuration_count known (asked_of t)) (t.setup.value % 256) parts.fourth) in
       let none : descriptor f (t.setup.value / 256) (t.setup.value % 256) t.setup.index ≡ None =
       ap (λ k. descriptor f k (t.setup.value % 256) t.setup.index) (eqb-true (t.setup.value / 256) 2 parts.second) ∙ none_past f.sets (t.setup.value % 256) past in
-      let front : IsFront t.data [] = subst (λ o. IsFront t.data (unwrap_or o [])) none (given_front given.is_read given.is_over given.is_kept) in
+      let front : IsFront t.data [] = subst (λ o. IsFront t.data (unwrap_or o [])) none (given_front f s t is.shown given.is_read given.is_over given.is_kept) in
       omega (arith, nothing_in t.data front, ltb-true 1 (length t.data) given.has_some))
+
+pub no_answer : (f : DescriptorFile) (requests : List AskedView) (known : Asked → List ℕ) (t : ControlTransfer) → IsTable (answer f) → has_wrong_sets f ≡ false
+    → AreBytes (file_bytes f) → IsAnswered f (state_after (answer f) states.zero requests) known t
+    → AllByRecursion (λ finding. holds finding known t ≡ false) unanswered
+no_answer f requests known t table right bytes is =
+    let s = state_after (answer f) states.zero requests in
+    (
+      no_more_given f s known t is table,
+      (
+        no_other_type f s known t is table right,
+        (
+          no_other_bytes f s known t is,
+          (
+            no_status_refused f s known t is,
+            (
+              no_address_refused f s known t is,
+              (
+                no_configuration_refused f s known t is bytes,
+                (
+                  no_other_taken f s known t is bytes right,
+                  (no_other_told f s known t is bytes right (always_own f requests), (no_uncounted_given f s known t is right, tt)),
+                ),
+              ),
+            ),
+          ),
+        ),
+      ),
+    )
+
+-- ---- conversations
+
+-- What such transfers say of a descriptor are its first bytes.
+said_before : (f : DescriptorFile) (asked : Asked) (earlier : List ControlTransfer) → AllByRecursion (IsOfDevice f) earlier
+    → IsFront (said asked earlier) (descriptor_of f asked)
+said_before f asked [] each = (descriptor_of f asked, refl)
+said_before f asked (t ∷ earlier) each = of (may_change t asked) (findings.gives t && is_same (asked_of t) asked) refl (said_before f asked earlier each.1)
+  where
+    of : (changed given : Bool) → (findings.gives t && is_same (asked_of t) asked) ≡ given → IsFront (said asked earlier) (descriptor_of f asked)
+        → IsFront (if changed then [] else (if given then t.data ++ drop (length t.data) (said asked earlier) else said asked earlier)) (descriptor_of f asked)
+    of true given e before = (descriptor_of f asked, refl)
+    of false false e before = before
+    of false true e before =
+        let parts = and_parts (findings.gives t) (is_same (asked_of t) asked) e in
+        let given = parts_given t parts.0 in
+        let s = state_after (answer f) states.zero each.0.requests in
+        front_over t.data (said asked earlier) (descriptor_of f asked)
+        (subst (IsFront t.data) (same_descriptor 0 f (asked_of t) asked parts.1) (given_front f s t each.0.shown given.is_read given.is_over given.is_kept)) before
+
+-- what is found in none, where this holds of each, and of those before it
+free_by : (finding : Finding) (P : ControlTransfer → Type 0)
+    → ((t : ControlTransfer) (earlier : List ControlTransfer) → P t → AllByRecursion P earlier → holds finding (λ asked. said asked earlier) t ≡ false)
+    → (earlier ts : List ControlTransfer) → AllByRecursion P earlier → AllByRecursion P ts → IsTransferFreeAfter finding earlier ts
+free_by finding P free earlier [] before each = tt
+free_by finding P free earlier (t ∷ ts) before each = (free t earlier each.0 before, free_by finding P free (t ∷ earlier) ts (each.0, before) each.1)
+
+module _ (f : DescriptorFile) (table : IsTable (answer f)) (right : has_wrong_sets f ≡ false) (bytes : AreBytes (file_bytes f)) where
+  next_answer : (t : ControlTransfer) (earlier : List ControlTransfer) → IsOfDevice f t → AllByRecursion (IsOfDevice f) earlier
+      → AllByRecursion (λ finding. holds finding (λ asked. said asked earlier) t ≡ false) unanswered
+  next_answer t earlier is before =
+      let answered : IsAnswered f (state_after (answer f) states.zero is.requests) (λ asked. said asked earlier) t =
+      record { address = is.address; shown = is.shown; said = λ asked bus device. said_before f asked earlier before } in
+      no_answer f is.requests (λ asked. said asked earlier) t table right bytes answered
+
+  -- each of these findings, where each transfer has none of them
+  each_free : (some : List Finding)
+      → ((t : ControlTransfer) (earlier : List ControlTransfer) → IsOfDevice f t → AllByRecursion (IsOfDevice f) earlier
+      → AllByRecursion (λ finding. holds finding (λ asked. said asked earlier) t ≡ false) some)
+      → (ts : List ControlTransfer) → AllByRecursion (IsOfDevice f) ts → AllByRecursion (λ finding. IsTransferFreeAfter finding [] ts) some
+  each_free [] free ts each = tt
+  each_free (finding ∷ more) free ts each = (
+    free_by finding (IsOfDevice f) (λ t earlier is before. (free t earlier is before).0) [] ts tt each,
+    each_free more (λ t earlier is before. (free t earlier is before).1) ts each,
+  )
+
+  pub no_conversation : (ts : List ControlTransfer) → AllByRecursion (IsOfDevice f) ts → AllByRecursion (λ finding. IsTransferFreeAfter finding [] ts) unanswered
+  no_conversation ts each = each_free unanswered next_answer ts each

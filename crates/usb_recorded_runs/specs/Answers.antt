@@ -1,12 +1,16 @@
--- What a control transfer shows of a device's answer to its request (USB 2.0, 8.5.3, 9.2.7 and 9.4).
-use Rattle.std.specs.Prelude.{◌≡◌, ℕ, ◌/◌, ◌%◌, Bool, false, List, [], ◌++◌, length, unwrap_or}
+-- What control transfers show of a device's answers to their requests (USB 2.0, 8.5.3, 9.2.7 and 9.4).
+use Rattle.std.specs.Prelude.{◌≡◌, ℕ, ◌/◌, ◌%◌, false, List, [], ◌∷◌, ◌++◌, length, unwrap_or}
 use Rattle.usb_file_data.specs.declared.file.DescriptorFile.{DescriptorFile}
 use Rattle.usb_device.specs.declared.state.State.{State}
 use Rattle.usb_device.specs.Descriptors.{descriptor}
 use Rattle.usb_device.specs.Requests.{Outcome, Bytes, Done, Refused, Takes, answer}
+use Rattle.usb_device.specs.States.{zero}
+use Rattle.usb_bus.specs.Converse.{AskedView, state_after}
 use Rattle.usb_capture.specs.declared.asked.Asked.{Asked}
 use Rattle.usb_capture.specs.declared.control_transfer.ControlTransfer.{ControlTransfer}
 use Rattle.usb_capture.specs.declared.ending.Ending.TheVariants as endings
+use Rattle.usb_capture.specs.declared.finding.Finding.{Finding}
+use Rattle.usb_capture.specs.declared.finding.Finding.TheVariants.{GivesUncounted, MoreThanAsked, OtherBytes, OtherConfiguration, OtherType, RefusesAddress, RefusesConfiguration, RefusesStatus, TakesConfiguration}
 
 -- An answer as a transfer shows it: bytes, all of which have come, unless a frame of it is cut; no data stage; or a refusal, as STALL
 -- (8.5.3.4). No row of a device's table takes data.
@@ -29,3 +33,15 @@ pub record IsAnswered (f : DescriptorFile) (s : State) (known : Asked → List �
   pub address : t.device ≡ s.address
   pub shown : Shows (answer f s t.setup) t
   pub said : IsSaidBy f known t
+
+-- A transfer with a device that has these descriptors shows its answer, after these requests since a bus reset.
+pub record IsOfDevice (f : DescriptorFile) (t : ControlTransfer) : Type 0 where
+  pub requests : List AskedView
+  pub address : t.device ≡ (state_after (answer f) zero requests).address
+  pub shown : Shows (answer f (state_after (answer f) zero requests) t.setup) t
+
+-- what is found in no answer of a device
+abbrev pub unanswered : List Finding
+unanswered =
+    MoreThanAsked ∷ OtherType ∷ OtherBytes ∷ RefusesStatus ∷ RefusesAddress ∷ RefusesConfiguration ∷ TakesConfiguration ∷ OtherConfiguration
+    ∷ GivesUncounted ∷ []

@@ -1,5 +1,5 @@
 -- What holds of a recording of a host and a device that enumerate over a bus that loses packets.
-use Rattle.std.specs.Prelude.{◌≡◌, ◌⊎◌, ℕ, true, false, List, [], ◌∷◌, Option, None}
+use Rattle.std.specs.Prelude.{◌≡◌, ◌⊎◌, ℕ, true, false, List, [], Option, None}
 use Rattle.std.specs.List.{AllByRecursion}
 use Rattle.usb_wire.specs.Packets.{IsLegal}
 use Rattle.usb_file_data.specs.declared.file.DescriptorFile.{DescriptorFile}
@@ -18,7 +18,7 @@ use Rattle.usb_bus.specs.Enumerate.{Pair, Runs, chosen_pair}
 use Rattle.usb_bus.specs.Exchanges.{is_lost_down}
 use Rattle.usb_capture.specs.declared.asked.Asked.{Asked}
 use Rattle.usb_capture.specs.declared.control_transfer.ControlTransfer.{ControlTransfer}
-use Rattle.usb_capture.specs.declared.finding.Finding.TheVariants.{GivesUncounted, MoreThanAsked, OtherBytes, OtherConfiguration, OtherType, RefusesAddress, RefusesConfiguration, RefusesStatus, TakesConfiguration}
+use Rattle.usb_capture.specs.declared.finding.Finding.TheVariants.{MoreThanAsked, OtherBytes, OtherType, RefusesStatus}
 use Rattle.usb_capture.specs.declared.frame.Frame.{Frame}
 use Rattle.usb_capture.specs.declared.packet_finding.PacketFinding.TheVariants.{Long, NoHandshake, NoRequest, NoShortPacket, SetupRefused, Toggle}
 use Rattle.usb_capture.specs.declared.reader.CaptureReader.{CaptureReader}
@@ -30,7 +30,7 @@ use Rattle.usb_capture.specs.PacketFindings.{damage_in, is_found}
 use Rattle.usb_capture.specs.PacketSizes.{is_long, size_at}
 use Rattle.usb_capture.specs.Reading.{IsRead}
 use Rattle.usb_capture.specs.Recordings.{transactions_in}
-use Rattle.usb_recorded_runs.specs.Answers.{IsAnswered}
+use Rattle.usb_recorded_runs.specs.Answers.{IsAnswered, IsOfDevice, unanswered}
 use Rattle.usb_recorded_runs.specs.Captures.{AreOfFrames, Moment, capture_of, frames, times}
 use Rattle.usb_recorded_runs.specs.Exchanges.{exchanges, received, packets_in, transaction_of}
 use Rattle.usb_recorded_runs.specs.Findings.{IsFreeAfter, IsTransferFreeAfter, LosesHandshake}
@@ -142,12 +142,18 @@ HandshakesAreLost =
     is_found NoHandshake before (transaction_of number time x) ≡ true → LosesHandshake x)
     (exchanges f fates earlier n)
 
--- A device with accepted descriptors, whatever requests it has carried out since a bus reset, gives none of these answers: it takes an
--- address and each configuration that it has (9.4.6, 9.4.7), no other one (9.2.7), tells which it has (9.4.2), and gives none that it
--- doesn't count (9.4.3, 9.6.1).
+-- A device with accepted descriptors, whatever requests it has carried out since a bus reset, gives no answer in which any of these is
+-- found. It gives descriptors as they were asked for and as it gave them before (9.3.5, 9.4.3), and no configuration that it doesn't
+-- count (9.6.1). It tells its status (9.4.5), takes an address (9.4.6) and each configuration that it has and no other one (9.4.7), and
+-- tells which it has taken (9.4.2).
 abbrev pub NoDeviceAnswersSo : Type 0
 NoDeviceAnswersSo =
     (f : DescriptorFile) (speed : Speed) (requests : List AskedView) (known : Asked → List ℕ) (t : ControlTransfer) → Accepted f speed →
     AreBytes (file_bytes f) → IsAnswered f (state_after (answer f) zero requests) known t →
-    AllByRecursion (λ finding. holds finding known t ≡ false)
-    (RefusesAddress ∷ RefusesConfiguration ∷ TakesConfiguration ∷ OtherConfiguration ∷ GivesUncounted ∷ [])
+    AllByRecursion (λ finding. holds finding known t ≡ false) unanswered
+
+-- So it is in each of any transfers that show such answers, by what they themselves say of the descriptors.
+abbrev pub NoConversationContradicts : Type 0
+NoConversationContradicts =
+    (f : DescriptorFile) (speed : Speed) (transfers : List ControlTransfer) → Accepted f speed → AreBytes (file_bytes f) →
+    AllByRecursion (IsOfDevice f) transfers → AllByRecursion (λ finding. IsTransferFreeAfter finding [] transfers) unanswered

@@ -1,5 +1,5 @@
 //! The functions of these laws do nothing: their contracts are the laws.
-ghost use Rattle.usb_recorded_runs.specs.Laws.{CapturedRunsAreRead, DescriptorsHaveTypes, HandshakesAreLost, NoDescriptorChanges, NoDeviceAnswersSo, NoLongPacketIsFound, NoPacketIsDamaged, NoPacketIsLong, NoShortPacketLacks, NoToggleIsWrong, NoTransferHasMore, RecordedRunsAreRead, RunsOfBytesAreRuns, SetupsAreTaken};
+ghost use Rattle.usb_recorded_runs.specs.Laws.{CapturedRunsAreRead, DescriptorsHaveTypes, HandshakesAreLost, NoConversationContradicts, NoDescriptorChanges, NoDeviceAnswersSo, NoLongPacketIsFound, NoPacketIsDamaged, NoPacketIsLong, NoShortPacketLacks, NoToggleIsWrong, NoTransferHasMore, RecordedRunsAreRead, RunsOfBytesAreRuns, SetupsAreTaken};
 
 use usb_bus::laws::a_device_keeps_its_table;
 
@@ -82,8 +82,18 @@ pub fn a_handshake_lacks_by_a_loss()
     ensures { HandshakesAreLost }
 {}
 
-/// Of the findings that contradict what a device said of itself, `RefusesAddress`, `RefusesConfiguration`, `TakesConfiguration`,
-/// `OtherConfiguration` and `GivesUncounted` are found in no answer of a device, whatever it was asked before.
+/// Nine of the findings in control transfers are in no answer of a device to a request, whatever it was asked before: `MoreThanAsked`,
+/// `OtherType`, `OtherBytes`, `RefusesStatus`, `RefusesAddress`, `RefusesConfiguration`, `TakesConfiguration`, `OtherConfiguration` and
+/// `GivesUncounted`.
 pub fn no_device_answers_so()
     ensures { NoDeviceAnswersSo }
-{}
+{
+    a_device_keeps_its_table();
+}
+
+/// They are in none of a whole conversation, from its first transfer on.
+pub fn no_conversation_contradicts()
+    ensures { NoConversationContradicts }
+{
+    a_device_keeps_its_table();
+}
