@@ -41,7 +41,7 @@ use Rattle.usb_capture.specs.declared.finding.Finding.TheVariants.{GivesUncounte
 use Rattle.usb_capture.specs.Findings as findings
 use Rattle.usb_capture.specs.Findings.{all_are_known, asked_of, beside, brings_descriptor, configuration, configuration_count, differ, gives_address, holds, is_answered, is_configuration_value, is_no_value, is_stall, is_same, is_standard_type, is_uncounted, may_change, reads_configuration, reads_status, said, sets_configuration, tells_no_value}
 use Rattle.usb_capture.specs.Readings.{is_done, reads_descriptor}
-use Rattle.usb_recorded_runs.specs.Answers.{IsAnswered, IsOfDevice, Shows, descriptor_of, unanswered}
+use Rattle.usb_recorded_runs.specs.Answers.{IsAnswered, IsOfDevice, Shows, descriptor_of, never_found}
 use Rattle.usb_recorded_runs.specs.Findings.{IsTransferFreeAfter}
 use Rattle.usb_recorded_runs.proofs.AnswerLemmas.{any_reported, described_by}
 use Rattle.usb_recorded_runs.proofs.SizeLemmas.{IsFront, IsSound}
@@ -450,7 +450,7 @@ module _ (f : DescriptorFile) (s : State) (known : Asked → List ℕ) (t : Cont
       of Refused e shown = omega (arith, shown.1)
       of (Takes judge) e shown = absurd shown
 
-  -- So is each transfer of a recorded enumeration.
+  -- what other lemmas ask of a transfer, for any packet size that it says
   sound_if_done : IsTable (answer f) → is_done t.ending ≡ true → IsSound (slice_index t.data 7) (described_by f) t
   sound_if_done table done = record {
     front = given_front f s t is.shown;
@@ -561,9 +561,8 @@ module _ (f : DescriptorFile) (s : State) (known : Asked → List ℕ) (t : Cont
   no_other_bytes = false_from_ne_true (holds OtherBytes known t) (λ e.
       let both = and_parts (findings.gives t) (differ t.data (known (asked_of t))) e in
       let given = parts_given t both.0 in
-      let w : true ≡ false =
-      sym both.1
-      ∙ fronts_agree t.data (known (asked_of t)) (described_by f t.setup) (given_front f s t is.shown given.is_read given.is_over given.is_kept) (is.said (asked_of t) refl refl) in
+      let front = given_front f s t is.shown given.is_read given.is_over given.is_kept in
+      let w : true ≡ false = sym both.1 ∙ fronts_agree t.data (known (asked_of t)) (described_by f t.setup) front (is.said (asked_of t) refl refl) in
       cc)
 
   no_status_refused : holds RefusesStatus known t ≡ false
@@ -649,10 +648,9 @@ module _ (f : DescriptorFile) (s : State) (known : Asked → List ℕ) (t : Cont
 
 pub no_answer : (f : DescriptorFile) (requests : List AskedView) (known : Asked → List ℕ) (t : ControlTransfer) → IsTable (answer f) → has_wrong_sets f ≡ false
     → AreBytes (file_bytes f) → IsAnswered f (state_after (answer f) states.zero requests) known t
-    → AllByRecursion (λ finding. holds finding known t ≡ false) unanswered
+    → AllByRecursion (λ finding. holds finding known t ≡ false) never_found
 no_answer f requests known t table right bytes is =
-    let s = state_after (answer f) states.zero requests in
-    (
+    let s = state_after (answer f) states.zero requests in (
       no_more_given f s known t is table,
       (
         no_other_type f s known t is table right,
@@ -703,7 +701,7 @@ free_by finding P free earlier (t ∷ ts) before each = (free t earlier each.0 b
 
 module _ (f : DescriptorFile) (table : IsTable (answer f)) (right : has_wrong_sets f ≡ false) (bytes : AreBytes (file_bytes f)) where
   next_answer : (t : ControlTransfer) (earlier : List ControlTransfer) → IsOfDevice f t → AllByRecursion (IsOfDevice f) earlier
-      → AllByRecursion (λ finding. holds finding (λ asked. said asked earlier) t ≡ false) unanswered
+      → AllByRecursion (λ finding. holds finding (λ asked. said asked earlier) t ≡ false) never_found
   next_answer t earlier is before =
       let answered : IsAnswered f (state_after (answer f) states.zero is.requests) (λ asked. said asked earlier) t =
       record { address = is.address; shown = is.shown; said = λ asked bus device. said_before f asked earlier before } in
@@ -720,5 +718,5 @@ module _ (f : DescriptorFile) (table : IsTable (answer f)) (right : has_wrong_se
     each_free more (λ t earlier is before. (free t earlier is before).1) ts each,
   )
 
-  pub no_conversation : (ts : List ControlTransfer) → AllByRecursion (IsOfDevice f) ts → AllByRecursion (λ finding. IsTransferFreeAfter finding [] ts) unanswered
-  no_conversation ts each = each_free unanswered next_answer ts each
+  pub no_conversation : (ts : List ControlTransfer) → AllByRecursion (IsOfDevice f) ts → AllByRecursion (λ finding. IsTransferFreeAfter finding [] ts) never_found
+  no_conversation ts each = each_free never_found next_answer ts each

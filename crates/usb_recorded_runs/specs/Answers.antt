@@ -41,7 +41,7 @@ pub record IsOfDevice (f : DescriptorFile) (t : ControlTransfer) : Type 0 where
   pub shown : Shows (answer f (state_after (answer f) zero requests) t.setup) t
 
 -- what is found in no answer of a device
-abbrev pub unanswered : List Finding
-unanswered =
+abbrev pub never_found : List Finding
+never_found =
     MoreThanAsked ∷ OtherType ∷ OtherBytes ∷ RefusesStatus ∷ RefusesAddress ∷ RefusesConfiguration ∷ TakesConfiguration ∷ OtherConfiguration
     ∷ GivesUncounted ∷ []

@@ -30,7 +30,7 @@ use Rattle.usb_capture.specs.PacketFindings.{damage_in, is_found}
 use Rattle.usb_capture.specs.PacketSizes.{is_long, size_at}
 use Rattle.usb_capture.specs.Reading.{IsRead}
 use Rattle.usb_capture.specs.Recordings.{transactions_in}
-use Rattle.usb_recorded_runs.specs.Answers.{IsAnswered, IsOfDevice, unanswered}
+use Rattle.usb_recorded_runs.specs.Answers.{IsAnswered, IsOfDevice, never_found}
 use Rattle.usb_recorded_runs.specs.Captures.{AreOfFrames, Moment, capture_of, frames, times}
 use Rattle.usb_recorded_runs.specs.Exchanges.{exchanges, received, packets_in, transaction_of}
 use Rattle.usb_recorded_runs.specs.Findings.{IsFreeAfter, IsTransferFreeAfter, LosesHandshake}
@@ -150,10 +150,10 @@ abbrev pub NoDeviceAnswersSo : Type 0
 NoDeviceAnswersSo =
     (f : DescriptorFile) (speed : Speed) (requests : List AskedView) (known : Asked → List ℕ) (t : ControlTransfer) → Accepted f speed →
     AreBytes (file_bytes f) → IsAnswered f (state_after (answer f) zero requests) known t →
-    AllByRecursion (λ finding. holds finding known t ≡ false) unanswered
+    AllByRecursion (λ finding. holds finding known t ≡ false) never_found
 
 -- So it is in each of any transfers that show such answers, by what they themselves say of the descriptors.
 abbrev pub NoConversationContradicts : Type 0
 NoConversationContradicts =
     (f : DescriptorFile) (speed : Speed) (transfers : List ControlTransfer) → Accepted f speed → AreBytes (file_bytes f) →
-    AllByRecursion (IsOfDevice f) transfers → AllByRecursion (λ finding. IsTransferFreeAfter finding [] transfers) unanswered
+    AllByRecursion (IsOfDevice f) transfers → AllByRecursion (λ finding. IsTransferFreeAfter finding [] transfers) never_found
