@@ -26,3 +26,4 @@ pub mod TransferBytes
 pub mod DescriptorLengths
 pub mod NamedFronts
 pub mod NamedLemmas
+pub mod ShownLemmas
