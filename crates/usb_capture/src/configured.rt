@@ -1,6 +1,6 @@
 //! Whether a device takes its address, and its configurations by what it said of them.
-ghost use Rattle.std.specs.Prelude.{◌≡◌, length, nat_lt, slice_index, ◌==◌};
-ghost use Rattle.std.specs.List.{list_all, list_any, range_with_len};
+ghost use Rattle.std.specs.Prelude.{◌≡◌, length, nat_lt};
+ghost use Rattle.std.specs.List.{list_all, range_with_len};
 ghost use Rattle.usb_capture.specs.Conversations.{held_of};
 ghost use Rattle.usb_capture.specs.Findings.{all_are_known, configuration, configuration_count, gives_address, has_other_configuration, is_configuration_value, is_no_value, is_uncounted, reads_configuration, refuses_address, refuses_configuration, sets_configuration, takes_configuration, tells_no_value};
 
