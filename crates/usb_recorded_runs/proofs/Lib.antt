@@ -11,6 +11,7 @@ pub mod FrontLemmas
 pub mod DeviceLemmas
 pub mod ReceivedLemmas
 pub mod TogetherLemmas
+pub mod ReachedLemmas
 pub mod StepLemmas
 pub mod KnownRuns
 pub mod SizeLemmas
