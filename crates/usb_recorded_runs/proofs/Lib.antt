@@ -22,3 +22,4 @@ pub mod EndedLemmas
 pub mod ByteLemmas
 pub mod FieldLemmas
 pub mod LegalLemmas
+pub mod ShownLemmas

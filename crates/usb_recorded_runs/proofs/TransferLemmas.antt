@@ -56,7 +56,7 @@ same_heads : (x y : ℕ) (xs ys : List ℕ) → x ∷ xs ≡ y ∷ ys → (x ≡
 same_heads x y xs ys e = ((let w : x ≡ y = cc in w), (let w : xs ≡ ys = cc in w))
 
 -- Of each byte the last that was said is the descriptor's.
-front_over : (xs ys all : List ℕ) → IsFront xs all → IsFront ys all → IsFront (xs ++ drop (length xs) ys) all
+pub front_over : (xs ys all : List ℕ) → IsFront xs all → IsFront ys all → IsFront (xs ++ drop (length xs) ys) all
 front_over [] ys all first second = second
 front_over (x ∷ xs) [] all first second = (first.0, ap (λ b. b ++ first.0) (append-nil (x ∷ xs)) ∙ first.1)
 front_over (x ∷ xs) (y ∷ ys) [] first second = absurd (let e : x ∷ (xs ++ first.0) ≡ [] = first.1 in let w : ⊥ = cc in w)
@@ -69,7 +69,7 @@ front_over (x ∷ xs) (y ∷ ys) (z ∷ zs) first second =
 own_number : (n : ℕ) → not (n == n) ≡ false
 own_number n = grind (arith, nat_tests)
 
-fronts_agree : (xs ys all : List ℕ) → IsFront xs all → IsFront ys all → differ xs ys ≡ false
+pub fronts_agree : (xs ys all : List ℕ) → IsFront xs all → IsFront ys all → differ xs ys ≡ false
 fronts_agree [] ys all first second = refl
 fronts_agree (x ∷ xs) [] all first second = refl
 fronts_agree (x ∷ xs) (y ∷ ys) [] first second = absurd (let e : x ∷ (xs ++ first.0) ≡ [] = first.1 in let w : ⊥ = cc in w)
@@ -115,7 +115,7 @@ module _ (size : ℕ) (f : DescriptorFile) where
   same_number : (m n : ℕ) → (m == n) ≡ true → m ≡ n
   same_number m n e = grind (arith, nat_tests)
 
-  same_descriptor : (a b : Asked) → is_same a b ≡ true → is_of a ≡ is_of b
+  pub same_descriptor : (a b : Asked) → is_same a b ≡ true → is_of a ≡ is_of b
   same_descriptor a b e =
       let parts = same_parts (a.bus == b.bus) (a.device == b.device) (a.value == b.value) (a.index == b.index) e in
       ap (λ v. unwrap_or (descriptor f (v / 256) (v % 256) a.index) []) (same_number a.value b.value parts.of_value)

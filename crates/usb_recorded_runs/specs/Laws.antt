@@ -4,16 +4,20 @@ use Rattle.std.specs.List.{AllByRecursion}
 use Rattle.usb_wire.specs.Packets.{IsLegal}
 use Rattle.usb_file_data.specs.declared.file.DescriptorFile.{DescriptorFile}
 use Rattle.usb_file_data.specs.File.{file_bytes}
-use Rattle.usb_fields.specs.Bytes.{AreBytes}
 use Rattle.usb_fields.specs.declared.packet.Speed.{Speed}
+use Rattle.usb_fields.specs.Bytes.{AreBytes}
 use Rattle.usb_host.specs.declared.choice.Choice.{Choice}
 use Rattle.usb_host.specs.Limits.{LimitView}
 use Rattle.usb_device.specs.Accepted.{Accepted}
 use Rattle.usb_device.specs.Requests.{answer}
+use Rattle.usb_device.specs.States.{zero}
 use Rattle.usb_bus.specs.declared.fate.Fate.{Fate}
+use Rattle.usb_bus.specs.Converse.{AskedView, state_after}
 use Rattle.usb_bus.specs.DamagedRuns.{DamagedRunsAt}
 use Rattle.usb_bus.specs.Enumerate.{Pair, Runs, chosen_pair}
 use Rattle.usb_bus.specs.Exchanges.{is_lost_down}
+use Rattle.usb_capture.specs.declared.asked.Asked.{Asked}
+use Rattle.usb_capture.specs.declared.control_transfer.ControlTransfer.{ControlTransfer}
 use Rattle.usb_capture.specs.declared.finding.Finding.TheVariants.{MoreThanAsked, OtherBytes, OtherType, RefusesStatus}
 use Rattle.usb_capture.specs.declared.frame.Frame.{Frame}
 use Rattle.usb_capture.specs.declared.packet_finding.PacketFinding.TheVariants.{Long, NoHandshake, NoRequest, NoShortPacket, SetupRefused, Toggle}
@@ -21,10 +25,12 @@ use Rattle.usb_capture.specs.declared.reader.CaptureReader.{CaptureReader}
 use Rattle.usb_capture.specs.declared.recorded_packet.RecordedPacket.{RecordedPacket}
 use Rattle.usb_capture.specs.declared.transaction.Transaction.{Transaction}
 use Rattle.usb_capture.specs.BusTransfers.{transfers_in}
+use Rattle.usb_capture.specs.Findings.{holds}
 use Rattle.usb_capture.specs.PacketFindings.{damage_in, is_found}
 use Rattle.usb_capture.specs.PacketSizes.{is_long, size_at}
 use Rattle.usb_capture.specs.Reading.{IsRead}
 use Rattle.usb_capture.specs.Recordings.{transactions_in}
+use Rattle.usb_recorded_runs.specs.Answers.{IsAnswered, IsOfDevice, never_found}
 use Rattle.usb_recorded_runs.specs.Captures.{AreOfFrames, Moment, capture_of, frames, times}
 use Rattle.usb_recorded_runs.specs.Exchanges.{exchanges, received, packets_in, transaction_of}
 use Rattle.usb_recorded_runs.specs.Findings.{IsEnded, IsFreeAfter, IsTransferFreeAfter, LosesHandshake}
@@ -150,3 +156,19 @@ HandshakesAreLost =
     (λ x. (number : ℕ) (time : Option ℕ) (before : List Transaction) → is_lost_down x.fate ≡ false →
     is_found NoHandshake before (transaction_of number time x) ≡ true → LosesHandshake x)
     (exchanges f fates earlier n)
+
+-- A device with accepted descriptors, whatever requests it has carried out since a bus reset, gives no answer in which any of these is
+-- found. It gives descriptors as they were asked for and as it gave them before (9.3.5, 9.4.3), and no configuration that it doesn't
+-- count (9.6.1). It tells its status (9.4.5), takes an address (9.4.6) and each configuration that it has and no other one (9.4.7), and
+-- tells which it has taken (9.4.2).
+abbrev pub NoDeviceAnswersSo : Type 0
+NoDeviceAnswersSo =
+    (f : DescriptorFile) (speed : Speed) (requests : List AskedView) (known : Asked → List ℕ) (t : ControlTransfer) → Accepted f speed →
+    AreBytes (file_bytes f) → IsAnswered f (state_after (answer f) zero requests) known t →
+    AllByRecursion (λ finding. holds finding known t ≡ false) never_found
+
+-- So it is in each of any transfers that show such answers, by what they themselves say of the descriptors.
+abbrev pub NoConversationContradicts : Type 0
+NoConversationContradicts =
+    (f : DescriptorFile) (speed : Speed) (transfers : List ControlTransfer) → Accepted f speed → AreBytes (file_bytes f) →
+    AllByRecursion (IsOfDevice f) transfers → AllByRecursion (λ finding. IsTransferFreeAfter finding [] transfers) never_found

@@ -1,5 +1,5 @@
 //! The functions of these laws do nothing: their contracts are the laws.
-ghost use Rattle.usb_recorded_runs.specs.Laws.{CapturedRunsAreRead, DescriptorsHaveTypes, EnumerationsAreRuns, HandshakesAreLost, NoDescriptorChanges, NoLongPacketIsFound, NoPacketIsDamaged, NoPacketIsLong, NoShortPacketLacks, NoToggleIsWrong, NoTransferHasMore, RecordedRunsAreRead, RunsOfBytesAreRuns, SetupsAreTaken, TransfersEndRight};
+ghost use Rattle.usb_recorded_runs.specs.Laws.{CapturedRunsAreRead, DescriptorsHaveTypes, EnumerationsAreRuns, HandshakesAreLost, NoConversationContradicts, NoDescriptorChanges, NoDeviceAnswersSo, NoLongPacketIsFound, NoPacketIsDamaged, NoPacketIsLong, NoShortPacketLacks, NoToggleIsWrong, NoTransferHasMore, RecordedRunsAreRead, RunsOfBytesAreRuns, SetupsAreTaken, TransfersEndRight};
 
 use usb_bus::laws::a_device_keeps_its_table;
 
@@ -97,3 +97,19 @@ pub fn each_transfer_ends_right()
 pub fn a_handshake_lacks_by_a_loss()
     ensures { HandshakesAreLost }
 {}
+
+/// Nine of the findings in control transfers are in no answer of a device to a request, whatever it was asked before: `MoreThanAsked`,
+/// `OtherType`, `OtherBytes`, `RefusesStatus`, `RefusesAddress`, `RefusesConfiguration`, `TakesConfiguration`, `OtherConfiguration` and
+/// `GivesUncounted`.
+pub fn no_device_answers_so()
+    ensures { NoDeviceAnswersSo }
+{
+    a_device_keeps_its_table();
+}
+
+/// They are in none of a whole conversation, from its first transfer on.
+pub fn no_conversation_contradicts()
+    ensures { NoConversationContradicts }
+{
+    a_device_keeps_its_table();
+}
