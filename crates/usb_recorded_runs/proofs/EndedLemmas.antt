@@ -28,7 +28,7 @@ use Rattle.usb_recorded_runs.proofs.RunLemmas.{regular_plain}
 use Rattle.usb_recorded_runs.proofs.TogetherLemmas.{HasEnded, IsCarriedOut, IsWhole}
 
 -- Packets of accepted descriptors have eight bytes at least.
-packet_eight : (f : DescriptorFile) → findings f ≡ [] → 8 ≤ f.device.packet
+pub packet_eight : (f : DescriptorFile) → findings f ≡ [] → 8 ≤ f.device.packet
 packet_eight f none =
     let device = device_right f none in
     grind (arith, nat_tests)

@@ -19,6 +19,7 @@ pub mod AnswerLemmas
 pub mod TransferLemmas
 pub mod PlaceLemmas
 pub mod EndedLemmas
+pub mod ShownRuns
 pub mod ByteLemmas
 pub mod FieldLemmas
 pub mod LegalLemmas

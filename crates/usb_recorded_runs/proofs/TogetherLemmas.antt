@@ -107,6 +107,7 @@ module _ (table : State → Setup → Outcome) (address : ℕ) where
     pub count_is : count ≡ length all
 
   pub record HasEnded (t : ControlTransfer) : Type 0 where
+    pub end_is : (t.ending ≡ endings.Unseen) ⊎ ((t.ending ≡ endings.Stall) ⊎ (t.ending ≡ endings.Done))
     pub refused : t.ending ≡ endings.Stall → IsRefused t.setup t.length
     pub whole : t.ending ≡ endings.Done → IsCarriedOut t.setup t.length ⊎ IsWhole t.setup t.length
 
@@ -120,14 +121,14 @@ module _ (table : State → Setup → Outcome) (address : ℕ) where
   unseen_done e = absurd (let w : ⊥ = cc in w)
 
   pub stall_ended : (t : Transaction) (transfer : ControlTransfer) → IsRefused transfer.setup transfer.length → HasEnded (ended_so t endings.Stall transfer)
-  stall_ended t transfer refused = record { refused = λ e. refused; whole = stall_done }
+  stall_ended t transfer refused = record { end_is = inr (inl refl); refused = λ e. refused; whole = stall_done }
 
   pub done_ended : (t : Transaction) (transfer : ControlTransfer)
       → IsCarriedOut transfer.setup transfer.length ⊎ IsWhole transfer.setup transfer.length → HasEnded (ended_so t endings.Done transfer)
-  done_ended t transfer whole = record { refused = λ e. stall_done (sym e); whole = λ e. whole }
+  done_ended t transfer whole = record { end_is = inr (inr refl); refused = λ e. stall_done (sym e); whole = λ e. whole }
 
   pub unseen_ended : (transfer : ControlTransfer) → transfer.ending ≡ endings.Unseen → HasEnded transfer
-  unseen_ended transfer unseen = record { refused = λ e. unseen_stall (sym unseen ∙ e); whole = λ e. unseen_done (sym unseen ∙ e) }
+  unseen_ended transfer unseen = record { end_is = inl unseen; refused = λ e. unseen_stall (sym unseen ∙ e); whole = λ e. unseen_done (sym unseen ∙ e) }
 
 -- ---- both ends
 

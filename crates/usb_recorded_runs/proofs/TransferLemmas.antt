@@ -125,7 +125,7 @@ module _ (size : ℕ) (f : DescriptorFile) where
   both_parts true true e = (refl, refl)
   both_parts a b e = absurd (let w : ⊥ = cc in w)
 
-  said_front : (asked : Asked) (earlier : List ControlTransfer) → AllByRecursion (IsSound size (described_by f)) earlier → IsFront (said asked earlier) (is_of asked)
+  pub said_front : (asked : Asked) (earlier : List ControlTransfer) → AllByRecursion (IsSound size (described_by f)) earlier → IsFront (said asked earlier) (is_of asked)
   said_front asked [] each = (is_of asked, refl)
   said_front asked (t ∷ earlier) each = of (may_change t asked) (gives t && is_same (asked_of t) asked) refl (said_front asked earlier each.1)
     where
