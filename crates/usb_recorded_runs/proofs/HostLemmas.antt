@@ -6,12 +6,13 @@ use Rattle.usb_fields.specs.declared.packet.Toggle.{Toggle}
 use Rattle.usb_fields.specs.declared.packet.Toggle.TheVariants.{Data0, Data1}
 use Rattle.usb_fields.specs.declared.setup.Direction.TheVariants.{In}
 use Rattle.usb_fields.specs.declared.setup.Setup.{Setup}
-use Rattle.usb_fields.specs.Setup.{direction_of, setup_bytes}
+use Rattle.usb_fields.specs.Setup.{direction_of, setup_bytes, setup_of}
 use Rattle.usb_fields.specs.Packets.{AckReply, DataReply, NakReply, NoReply, Reply, Sent, StallReply, is_same_toggle}
 use Rattle.usb_set.specs.declared.fault.SetFault.{SetFault}
 use Rattle.usb_set.specs.declared.decoder.Progress.{Progress}
 use Rattle.usb_capture.specs.Events.{setup_at}
 use Rattle.usb_capture.specs.Findings.{reads_status}
+use Rattle.usb_capture.specs.Readings.{reads_descriptor}
 use Rattle.usb_host.specs.Keeping as kept
 use Rattle.usb_host.specs.Keeping.{Keeps, Kept, nothing_kept}
 use Rattle.usb_host.specs.Limits.{LimitView}
@@ -29,9 +30,10 @@ use Rattle.usb_host.specs.declared.why.Why.{Why}
 use Rattle.usb_host.specs.declared.why.Why.TheVariants as whys
 use Rattle.usb_recorded_runs.proofs.PlaceLemmas.{FirstTells, KnowsSize, completed_know, stalled_know}
 
--- A host that enumerates asks for data, or for none, and never for a status.
+-- A host that enumerates asks for a descriptor, or for no data, and never for a status.
 pub record IsAsked (q : Setup) : Type 0 where
   pub brings : (direction_of q.request_type ≡ In) ⊎ (q.length ≡ 0)
+  pub reads : (reads_descriptor (setup_of (setup_bytes q)) ≡ true) ⊎ (q.length ≡ 0)
   pub other : reads_status (setup_at (setup_bytes q) 0) ≡ false
 
 module _ (size : ℕ) where
@@ -46,15 +48,15 @@ module _ (size : ℕ) where
   AllAsked (GivesUp why) = Unit {0}
 
   asks_so : (address : ℕ) (place : Place) → KnowsSize size place → AllAsked (asks address place)
-  asks_so address First is = (record { brings = inl refl; other = refl }, inl (refl, omega arith, omega arith))
-  asks_so address (Address first) is = (record { brings = inr refl; other = refl }, inl (refl, omega arith, omega arith))
-  asks_so address (Device first) is = (record { brings = inl refl; other = refl }, inr is)
-  asks_so address (Header kind f) is = (record { brings = inl refl; other = refl }, inr is)
-  asks_so address (Set kind f total) is = (record { brings = inl refl; other = refl }, inr is)
-  asks_so address (Qualifier f) is = (record { brings = inl refl; other = refl }, inr is)
-  asks_so address (Languages f named) is = (record { brings = inl refl; other = refl }, inr is)
-  asks_so address (Text f s named) is = (record { brings = inl refl; other = refl }, inr is)
-  asks_so address (Configure f) is = (record { brings = inr refl; other = refl }, inr is)
+  asks_so address First is = (record { brings = inl refl; reads = inl refl; other = refl }, inl (refl, omega arith, omega arith))
+  asks_so address (Address first) is = (record { brings = inr refl; reads = inr refl; other = refl }, inl (refl, omega arith, omega arith))
+  asks_so address (Device first) is = (record { brings = inl refl; reads = inl refl; other = refl }, inr is)
+  asks_so address (Header kind f) is = (record { brings = inl refl; reads = inl refl; other = refl }, inr is)
+  asks_so address (Set kind f total) is = (record { brings = inl refl; reads = inl refl; other = refl }, inr is)
+  asks_so address (Qualifier f) is = (record { brings = inl refl; reads = inl refl; other = refl }, inr is)
+  asks_so address (Languages f named) is = (record { brings = inl refl; reads = inl refl; other = refl }, inr is)
+  asks_so address (Text f s named) is = (record { brings = inl refl; reads = inl refl; other = refl }, inr is)
+  asks_so address (Configure f) is = (record { brings = inr refl; reads = inr refl; other = refl }, inr is)
   asks_so address (Reported f) is = tt
   asks_so address (Stopped trouble) is = tt
 

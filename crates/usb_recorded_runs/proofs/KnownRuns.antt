@@ -15,6 +15,7 @@ use Rattle.usb_host.specs.Steps.{Ended, HostPhase, Reading, ResetDue, TakesIn, W
 use Rattle.usb_host.specs.Transfer.{TransferView, addressed, token_due}
 use Rattle.usb_device.specs.declared.state.State.{State}
 use Rattle.usb_device.specs.Requests.{Bytes, Outcome, answer}
+use Rattle.usb_device.specs.States as states
 use Rattle.usb_device.specs.Step.{DeviceStage, DeviceView, Served, served}
 use Rattle.usb_bus.specs.declared.fate.Fate.{Fate}
 use Rattle.usb_bus.specs.declared.fate.Fate.TheVariants as fates
@@ -37,13 +38,14 @@ use Rattle.usb_capture.proofs.Folds.{after_push, given_push}
 use Rattle.usb_recorded_runs.specs.Exchanges.{Exchange, arriving, exchange_in, exchanges, received, packets_in, packets_of, transaction_of, unless_lost}
 use Rattle.usb_recorded_runs.specs.Findings.{IsFreeAfter}
 use Rattle.usb_recorded_runs.proofs.HostLemmas.{InWork, reset_works, takes_works}
-use Rattle.usb_recorded_runs.proofs.PipeLemmas.{Sound, sound_first}
+use Rattle.usb_recorded_runs.proofs.PipeLemmas.{IsOwn, Sound, own_over, sound_first}
 use Rattle.usb_recorded_runs.proofs.RecordedLemmas.{IsRegular}
 use Rattle.usb_recorded_runs.proofs.AnswerLemmas.{all_fronts, described_by}
 use Rattle.usb_recorded_runs.proofs.ReceivedLemmas.{received_in}
 use Rattle.usb_recorded_runs.proofs.LengthLemmas.{IsShortIn, one_not_long}
+use Rattle.usb_recorded_runs.proofs.ReachedLemmas.{answer_reached, first_reached}
 use Rattle.usb_recorded_runs.proofs.SizeLemmas.{Fronts, IfOver, IsSound, all_says, own_size}
-use Rattle.usb_recorded_runs.proofs.TogetherLemmas.{HasEnded, after_answer, nothing_after}
+use Rattle.usb_recorded_runs.proofs.TogetherLemmas.{HasEnded, IsReached, after_answer, nothing_after}
 use Rattle.usb_recorded_runs.proofs.StepLemmas.{Agree, IsOver, after_none, fresh_agrees, step, taken_agrees}
 
 -- ---- lists
@@ -152,7 +154,9 @@ module _ (f : DescriptorFile) (kept_table : IsTable (answer f)) (list : List Fat
     pub lengths : IsFreeAfter Long [] ts
     pub endings : IsFreeAfter NoShortPacket [] ts
     pub transfers : AllByRecursion (IsSound cut described) (transfers_in ts)
-    pub ended : 8 ≤ cut → AllByRecursion (HasEnded table) (transfers_in ts)
+    pub ended : 8 ≤ cut → AllByRecursion (λ t. HasEnded table t.device t) (transfers_in ts)
+    pub own : AllByRecursion (λ t. IsOwn t.device t) (transfers_in ts)
+    pub reached : IsReached table last.device.state
     pub sound : Sound (pipes_in ts)
     pub known : Known last.device.stage (pipes_in ts) last.host.phase
 
@@ -164,13 +168,18 @@ module _ (f : DescriptorFile) (kept_table : IsTable (answer f)) (list : List Fat
   all_over P [] (Some t) each over = (over, tt)
   all_over P (first ∷ ts) o each over = (each.0, all_over P ts o each.1 over)
 
-  over_sound : (o : Option ControlTransfer) → IfOver (IsOver table cut described tells kept_table) o → IfOver (IsSound cut described) o
-  over_sound None over = tt
-  over_sound (Some t) over = over.0
+  over_sound : (address : ℕ) (o : Option ControlTransfer) → IfOver (IsOver table cut described tells kept_table address) o → IfOver (IsSound cut described) o
+  over_sound address None over = tt
+  over_sound address (Some t) over = over.0
 
-  over_ended : (o : Option ControlTransfer) → IfOver (IsOver table cut described tells kept_table) o → 8 ≤ cut → IfOver (HasEnded table) o
-  over_ended None over some = tt
-  over_ended (Some t) over some = over.1 some
+  over_own : (address : ℕ) (o : Option ControlTransfer) → IfOver (IsOwn address) o → IfOver (λ t. IsOwn t.device t) o
+  over_own address None own = tt
+  over_own address (Some t) own = subst (λ a. IsOwn a t) (sym own.device_is) own
+
+  over_ended : (address : ℕ) (o : Option ControlTransfer) → IfOver (IsOwn address) o → IfOver (IsOver table cut described tells kept_table address) o
+      → 8 ≤ cut → IfOver (λ t. HasEnded table t.device t) o
+  over_ended address None own over some = tt
+  over_ended address (Some t) own over some = subst (λ a. HasEnded table a t) (sym own.device_is) (over.1 some)
 
   size_zero : (address : ℕ) (sizes : List ℕ) → address ≡ 0 → size_at address sizes ≡ 0
   size_zero address sizes zero = ap (λ a. size_at a sizes) zero
@@ -229,7 +238,7 @@ module _ (f : DescriptorFile) (kept_table : IsTable (answer f)) (list : List Fat
           let agrees = known.holds in
           let below : t.address < 256 = due_small t t.stage made.sent due legal.address in
           let own = own_size cut (transfers_in ts) made.sent.address (all_says cut described (transfers_in ts) right.transfers) (low_small made.sent.address legal.address) in
-          let stepped = step table cut described tells kept_table d fate kept number (times number) (pipes_in ts) right.sound t below (due_low t t.stage made.sent due legal.bytes) t.stage made.sent refl due agrees in
+          let stepped = step table cut described tells kept_table d right.reached fate kept number (times number) (pipes_in ts) right.sound t below (due_low t t.stage made.sent due legal.bytes) t.stage made.sent refl due agrees in
           let token = stepped.0 in
           let sent_is : made.sent ≡ record { address = t.address; token = token } = stepped.1 in
           let r : Served = served table cut d (record { address = t.address; token = token }) (is_ready fate) in
@@ -241,7 +250,9 @@ module _ (f : DescriptorFile) (kept_table : IsTable (answer f)) (list : List Fat
           let device_is : last.device ≡ after_answer table cut fate r = made.device ∙ ap (λ c. c.device) served_is in
           let pipes_is : pipes_in (ts ++ T ∷ []) ≡ pipes_after (received_in number (times number) t.address token (is_lost_ack fate) (brought fate r.reply)) (pipes_in ts) =
           after ∙ ap (λ u. pipes_after u (pipes_in ts)) received_is in
-          let over = subst (λ u. IfOver (IsOver table cut described tells kept_table) (transfer_over u (pipes_in ts))) (sym received_is) stepped.2.over in
+          let over = subst (λ u. IfOver (IsOver table cut described tells kept_table t.address) (transfer_over u (pipes_in ts))) (sym received_is) stepped.2.over in
+          let own_so : IfOver (IsOwn t.address) (transfer_over T (pipes_in ts)) =
+          subst (λ a. IfOver (IsOwn a) (transfer_over T (pipes_in ts))) (ap (λ s. s.address) sent_is) (own_over T (pipes_in ts) right.sound) in
           record {
             toggles = free_push Toggle [] ts T right.toggles (ap (λ u. has_wrong_toggle u (pipes_in ts)) received_is ∙ stepped.2.right);
             lengths = free_push Long [] ts T right.lengths (one_not_long cut number (times number) (made_of d made.sent fate) short (sizes_in (transfers_in ts)) own);
@@ -250,9 +261,14 @@ module _ (f : DescriptorFile) (kept_table : IsTable (answer f)) (list : List Fat
                 ∙ stepped.2.not_early (size_at made.sent.address (sizes_in (transfers_in ts))) own
                 (λ zero. size_zero made.sent.address (sizes_in (transfers_in ts)) (ap (λ s. s.address) sent_is ∙ zero)));
             transfers = subst (AllByRecursion (IsSound cut described)) (sym (given_push pipes_after transfer_over none_open ts T))
-                (all_over (IsSound cut described) (transfers_in ts) (transfer_over T (pipes_in ts)) right.transfers (over_sound (transfer_over T (pipes_in ts)) over));
-            ended = λ some. subst (AllByRecursion (HasEnded table)) (sym (given_push pipes_after transfer_over none_open ts T))
-                (all_over (HasEnded table) (transfers_in ts) (transfer_over T (pipes_in ts)) (right.ended some) (over_ended (transfer_over T (pipes_in ts)) over some));
+                (all_over (IsSound cut described) (transfers_in ts) (transfer_over T (pipes_in ts)) right.transfers (over_sound t.address (transfer_over T (pipes_in ts)) over));
+            ended = λ some. subst (AllByRecursion (λ t. HasEnded table t.device t)) (sym (given_push pipes_after transfer_over none_open ts T))
+                (all_over (λ t. HasEnded table t.device t) (transfers_in ts) (transfer_over T (pipes_in ts)) (right.ended some)
+                (over_ended t.address (transfer_over T (pipes_in ts)) own_so over some));
+            own = subst (AllByRecursion (λ t. IsOwn t.device t)) (sym (given_push pipes_after transfer_over none_open ts T))
+                (all_over (λ t. IsOwn t.device t) (transfers_in ts) (transfer_over T (pipes_in ts)) right.own (over_own t.address (transfer_over T (pipes_in ts)) own_so));
+            reached = subst (λ v. IsReached table v.state) (sym device_is)
+                (answer_reached table cut d (record { address = t.address; token = token }) (is_ready fate) fate right.reached);
             sound = subst Sound (sym pipes_is) stepped.2.sound_then;
             known =
                 subst (λ p. Known last.device.stage p last.host.phase) (sym pipes_is)
@@ -266,7 +282,7 @@ module _ (f : DescriptorFile) (kept_table : IsTable (answer f)) (list : List Fat
 
   -- and one whose token is lost
   lost_right : (x last : Pair) (made : IsTransactionAt table cut fates.LostDown x last) (ts : List Transaction) → IsRight ts x → IsRight (ts ++ []) last
-  lost_right x last made ts right = subst (λ us. IsRight us last) (sym (append-nil ts)) (record { toggles = right.toggles; lengths = right.lengths; endings = right.endings; transfers = right.transfers; ended = right.ended; sound = right.sound; known = of x.host.phase made.due made.host right.known })
+  lost_right x last made ts right = subst (λ us. IsRight us last) (sym (append-nil ts)) (record { toggles = right.toggles; lengths = right.lengths; endings = right.endings; transfers = right.transfers; ended = right.ended; own = right.own; reached = subst (λ v. IsReached table v.state) (sym made.device) right.reached; sound = right.sound; known = of x.host.phase made.due made.host right.known })
     where
       of : (phase : HostPhase) → wanted phase ≡ WantsSent made.sent → TakesIn x.host phase NoReply last.host → Known x.device.stage (pipes_in ts) phase
           → Known last.device.stage (pipes_in ts) last.host.phase
@@ -275,7 +291,7 @@ module _ (f : DescriptorFile) (kept_table : IsTable (answer f)) (list : List Fat
       of (Reading place t k) due takes known =
           subst (λ v. Known v.stage (pipes_in ts) last.host.phase) (sym made.device)
           (takes_works cut (Agree table cut described tells kept_table x.device.stage (pipes_in ts)) (fresh_agrees table cut described tells kept_table x.device.stage (pipes_in ts)) x.host last.host place t k NoReply
-          (taken_agrees table cut described tells kept_table x.device.stage (pipes_in ts) t known.holds.size_is t.stage NoReply refl known.holds.may_be known.holds.same (λ some. nothing_after table cut t.stage x.device.stage t (known.holds.both some))
+          (taken_agrees table cut described tells kept_table x.device.stage (pipes_in ts) t known.holds.size_is t.stage NoReply refl known.holds.may_be known.holds.same (λ some. nothing_after table cut t.address t.stage x.device.stage t (known.holds.both some))
           (λ transfer is. after_none table cut described tells kept_table t.stage x.device.stage t (record { transfer = transfer; toggle = toggle_at t.address (pipes_in ts) }) (known.holds.fits transfer is))
           (λ is none. absurd (let w : ⊥ = cc in w)))
           known.knows known.first (λ first at. tt) takes)
@@ -288,21 +304,23 @@ module _ (f : DescriptorFile) (kept_table : IsTable (answer f)) (list : List Fat
   one_right x last fates.LostAck made ts number small short right = kept_right x last fates.LostAck made ts number refl small short right
   one_right x last fates.LostDown made ts number small short right = lost_right x last made ts right
 
-  pub run_right : (new : Pair) (earlier : List Pair) (n : ℕ) (last : Pair) → new.host.phase ≡ ResetDue → RunsAt table cut list new earlier n last
+  pub run_right : (new : Pair) (earlier : List Pair) (n : ℕ) (last : Pair) → new.host.phase ≡ ResetDue → new.device.state ≡ states.zero → RunsAt table cut list new earlier n last
       → AllByRecursion IsSmall (exchanges f list earlier n) → AllByRecursion (IsShortIn cut) (exchanges f list earlier n) → IsRight (received times 1 (exchanges f list earlier n)) last
-  run_right new [] n last due (same, none) small short = record {
+  run_right new [] n last due first (same, none) small short = record {
     toggles = tt;
     lengths = tt;
     endings = tt;
     transfers = tt;
     ended = λ some. tt;
+    own = tt;
+    reached = subst (λ y. IsReached table y.device.state) (sym same) (subst (IsReached table) (sym first) (first_reached table));
     sound = sound_first;
     known = subst (λ y. Known y.device.stage none_open y.host.phase) (sym same) (subst (λ p. Known new.device.stage none_open p) (sym due) tt);
   }
-  run_right new (x ∷ earlier) n last due (inl (reset, run)) small short =
+  run_right new (x ∷ earlier) n last due first (inl (reset, run)) small short =
       let small_then = all_front IsSmall (exchanges f list earlier n) [] (subst (λ w. AllByRecursion IsSmall (exchanges f list earlier (count_before w n) ++ exchange_in f list n x.device w)) reset.due small) in
       let short_then = all_front (IsShortIn cut) (exchanges f list earlier n) [] (subst (λ w. AllByRecursion (IsShortIn cut) (exchanges f list earlier (count_before w n) ++ exchange_in f list n x.device w)) reset.due short) in
-      let before = run_right new earlier n x due run small_then short_then in
+      let before = run_right new earlier n x due first run small_then short_then in
       let ts = received times 1 (exchanges f list earlier n) in
       subst (λ w. IsRight (received times 1 (exchanges f list earlier (count_before w n) ++ exchange_in f list n x.device w)) last) (sym reset.due)
       (subst (λ xs. IsRight (received times 1 xs) last) (sym (append-nil (exchanges f list earlier n)))
@@ -312,10 +330,12 @@ module _ (f : DescriptorFile) (kept_table : IsTable (answer f)) (list : List Fat
         endings = before.endings;
         transfers = before.transfers;
         ended = before.ended;
+        own = before.own;
+        reached = subst (λ v. IsReached table v.state) (sym reset.device) (first_reached table);
         sound = before.sound;
         known = reset_works cut (Agree table cut described tells kept_table last.device.stage (pipes_in ts)) (fresh_agrees table cut described tells kept_table last.device.stage (pipes_in ts)) x.host last.host reset.due reset.host;
       }))
-  run_right new (x ∷ earlier) n last due (inr (m, same, made, run)) small short =
+  run_right new (x ∷ earlier) n last due first (inr (m, same, made, run)) small short =
       let back : n - 1 ≡ m = omega (arith, same) in
       let xs = exchanges f list earlier m in
       let one = made_of x.device made.sent (fate_at list m) in
@@ -325,7 +345,7 @@ module _ (f : DescriptorFile) (kept_table : IsTable (answer f)) (list : List Fat
       let all_short : AllByRecursion (IsShortIn cut) (xs ++ one ∷ []) =
       subst (λ k. AllByRecursion (IsShortIn cut) (exchanges f list earlier k ++ made_of x.device made.sent (fate_at list k) ∷ [])) back
       (subst (λ w. AllByRecursion (IsShortIn cut) (exchanges f list earlier (count_before w n) ++ exchange_in f list n x.device w)) made.due short) in
-      let before = run_right new earlier m x due run (all_front IsSmall xs (one ∷ []) all) (all_front (IsShortIn cut) xs (one ∷ []) all_short) in
+      let before = run_right new earlier m x due first run (all_front IsSmall xs (one ∷ []) all) (all_front (IsShortIn cut) xs (one ∷ []) all_short) in
       subst (λ w. IsRight (received times 1 (exchanges f list earlier (count_before w n) ++ exchange_in f list n x.device w)) last) (sym made.due)
       (subst (λ k. IsRight (received times 1 (exchanges f list earlier k ++ made_of x.device made.sent (fate_at list k) ∷ [])) last) (sym back)
       (subst (λ ts. IsRight ts last) (sym (received_push times 1 xs one))

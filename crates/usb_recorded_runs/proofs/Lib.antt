@@ -11,6 +11,7 @@ pub mod FrontLemmas
 pub mod DeviceLemmas
 pub mod ReceivedLemmas
 pub mod TogetherLemmas
+pub mod ReachedLemmas
 pub mod StepLemmas
 pub mod KnownRuns
 pub mod SizeLemmas
@@ -18,6 +19,7 @@ pub mod AnswerLemmas
 pub mod TransferLemmas
 pub mod PlaceLemmas
 pub mod EndedLemmas
+pub mod ShownRuns
 pub mod ByteLemmas
 pub mod FieldLemmas
 pub mod LegalLemmas

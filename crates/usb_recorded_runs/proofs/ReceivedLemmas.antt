@@ -1,6 +1,6 @@
 -- A transaction in the transfer that is open: its toggle isn't wrong, what is over with it says no other packet size, and this is open
 -- then.
-use Rattle.std.proofs.Common.{◌≡◌, ◌⊎◌, inl, inr, ◌==◌, ◌&&◌, ◌<◌, ◌≤◌, ◌+◌, min, nat_le, nat_lt, ℕ, Bool, true, false, not, if◌then◌else◌, List, [], ◌++◌, length, refl, sym, ◌∙◌, ap, subst, arith}
+use Rattle.std.proofs.Common.{◌≡◌, ◌⊎◌, inl, inr, ◌==◌, ◌&&◌, ◌<◌, ◌≤◌, ◌+◌, min, nat_le, nat_lt, ℕ, Bool, true, false, not, if◌then◌else◌, List, [], ◌++◌, length, refl, sym, ◌∙◌, ap, subst, arith, length-append}
 use Rattle.std.specs.Prelude.{Option, Some, None}
 use Rattle.std.proofs.lemmas.Bool.Decides.{nat_tests}
 use Rattle.usb_wire.specs.declared.pid.Handshake.TheVariants as handshakes
@@ -14,7 +14,6 @@ use Rattle.usb_fields.specs.Packets.{AckReply, DataReply, InToken, NakReply, NoR
 use Rattle.usb_fields.specs.Setup.{setup_bytes}
 use Rattle.usb_bus.specs.Wire.{data_kind, token_kind}
 use Rattle.usb_capture.specs.declared.control_transfer.ControlTransfer.{ControlTransfer}
-use Rattle.usb_capture.specs.declared.ending.Ending.{Ending}
 use Rattle.usb_capture.specs.declared.ending.Ending.TheVariants as endings
 use Rattle.usb_capture.specs.declared.ending.Ending.TheVariants.{Unseen}
 use Rattle.usb_capture.specs.declared.transaction.Transaction.{Transaction}
@@ -23,7 +22,7 @@ use Rattle.usb_capture.specs.Events.{setup_at}
 use Rattle.usb_capture.specs.PacketFindings.{has_wrong_toggle, is_done_part, is_early, is_early_at, is_reading_data, is_wrong_at}
 use Rattle.usb_capture.specs.Transfers.{open_with}
 use Rattle.usb_recorded_runs.specs.Exchanges.{data_received, handshake_received}
-use Rattle.usb_recorded_runs.proofs.PipeLemmas.{Holds, OpenAt, Sound, again, begins_at, ended_at, found_unseen, goes_at}
+use Rattle.usb_recorded_runs.proofs.PipeLemmas.{Holds, IsUnended, OpenAt, Sound, again, begins_at, ended_at, found_unseen, goes_at}
 use Rattle.usb_recorded_runs.proofs.SizeLemmas.{IfOver}
 
 abbrev pub Goes : Direction → Going → Type 0
@@ -96,12 +95,36 @@ bytes_cut bytes transfer cut = of (nat_le (length transfer.data + length bytes) 
     of true = cut
     of false = refl
 
-either_ending : (ending : Ending) (c : Bool) (x y : ControlTransfer) → x.ending ≡ ending → y.ending ≡ ending → (if c then x else y).ending ≡ ending
-either_ending ending true x y p q = p
-either_ending ending false x y p q = q
+-- A transfer that goes on stays one of its address, and has so many bytes as it counts.
+bytes_unended : (address : ℕ) (bytes : List ℕ) (transfer : ControlTransfer) → IsUnended address transfer → IsUnended address (with_bytes bytes transfer)
+bytes_unended address bytes transfer is = of (nat_le (length transfer.data + length bytes) 65535) refl
+  where
+    counted : ControlTransfer
+    counted = record transfer { length = min (transfer.length + length bytes) 4294967295 }
 
-bytes_unended : (bytes : List ℕ) (transfer : ControlTransfer) → (with_bytes bytes transfer).ending ≡ transfer.ending
-bytes_unended bytes transfer = either_ending transfer.ending (nat_le (length transfer.data + length bytes) 65535) _ _ refl refl
+    fits : nat_le (length transfer.data + length bytes) 65535 ≡ true → length transfer.data + length bytes ≤ 65535
+    fits e = grind (arith, nat_tests)
+
+    all_so : length transfer.data + length bytes ≤ 65535 → (transfer.is_cut ≡ true) ⊎ (transfer.length ≡ length transfer.data)
+        → (transfer.is_cut ≡ true) ⊎ (min (transfer.length + length bytes) 4294967295 ≡ length (transfer.data ++ bytes))
+    all_so low (inl cut) = inl cut
+    all_so low (inr same) = inr (omega (arith, low, same, length-append transfer.data bytes))
+
+    of : (c : Bool) → nat_le (length transfer.data + length bytes) 65535 ≡ c
+        → IsUnended address (if c then record counted { «data» = transfer.data ++ bytes } else record counted { is_cut = true })
+    of true e = record {
+      unseen = is.unseen;
+      own = record {
+        device_is = is.own.device_is;
+        low = omega (arith, fits e, length-append transfer.data bytes);
+        few = omega (arith, fits e, is.own.few, length-append transfer.data bytes);
+        all = all_so (fits e) is.own.all;
+      };
+    }
+    of false e = record {
+      unseen = is.unseen;
+      own = record { device_is = is.own.device_is; low = is.own.low; few = omega (arith, is.own.low, is.own.few); all = inl refl };
+    }
 
 -- whether a packet may come again whose ACK was lost or not
 abbrev pub may_again : Bool → Bool
@@ -163,7 +186,7 @@ abbrev pub EndsWhole : ℕ → ℕ → Going → Type 0
 EndsWhole size address going = (address ≡ 0) ⊎ ((going.toggle.last < size) ⊎ (going.transfer.setup.length ≤ going.transfer.length))
 
 pub right_at : (size : ℕ) (Over : ControlTransfer → Type 0) (t : Transaction) (P Q : Going → Type 0) (pipes : Pipes) → Sound pipes → request_of t ≡ None → OpenAt t.to.address P pipes
-    → ((going : Going) → going.transfer.ending ≡ Unseen → P going → RightIn size Over t Q pipes going) → Right size Over t Q pipes
+    → ((going : Going) → IsUnended t.to.address going.transfer → P going → RightIn size Over t Q pipes going) → Right size Over t Q pipes
 right_at size Over t P Q pipes sound no_request opens each = (
   ap (λ r. is_wrong_at r (open_with t.to.address pipes.held) t pipes) no_request ∙ of (open_with t.to.address pipes.held) refl,
   subst (λ r. IfOver Over (over_by r (open_with t.to.address pipes.held) t pipes)) (sym no_request) (over (open_with t.to.address pipes.held) refl),
@@ -187,7 +210,7 @@ right_at size Over t P Q pipes sound no_request opens each = (
         (each (record { transfer = transfer; toggle = toggle_at t.to.address pipes }) (found_unseen t.to.address pipes.held transfer sound.unseen e) (opens transfer e)).1
 
 right_way : (size : ℕ) (Over : ControlTransfer → Type 0) (t : Transaction) (P Q : Going → Type 0) (pipes : Pipes) (way : Direction) → Sound pipes → request_of t ≡ None → OpenAt t.to.address P pipes
-    → ((going : Going) → P going → Goes way going) → ((going : Going) → going.transfer.ending ≡ Unseen → P going → RightWay size Over t Q pipes way going)
+    → ((going : Going) → P going → Goes way going) → ((going : Going) → IsUnended t.to.address going.transfer → P going → RightWay size Over t Q pipes way going)
     → Right size Over t Q pipes
 right_way size Over t P Q pipes way sound no_request opens ways each =
     right_at size Over t P Q pipes sound no_request opens (λ going unended holds. subst (λ w. RightWay size Over t Q pipes w going) (sym (ways going holds)) (each going unended holds))
@@ -230,18 +253,18 @@ module _ (size : ℕ) (Over : ControlTransfer → Type 0) (number : ℕ) (time :
         × (has_toggle (data_kind toggle) going.toggle.next ≡ false → Q (with_again lost going))
 
     -- by whether it is the next one
-    first_time : (going : Going) (is_next is_data1 : Bool) → going.transfer.ending ≡ Unseen → (is_next ≡ true → Q (with_next bytes false going)) → (is_next ≡ false → Q (with_again false going))
+    first_time : (going : Going) (is_next is_data1 : Bool) → IsUnended address going.transfer → (is_next ≡ true → Q (with_next bytes false going)) → (is_next ≡ false → Q (with_again false going))
         → (let t = received_here InToken false (DataReply toggle bytes) in let part = part_by directions.In tokens.In is_next is_data1 true in
         IfOver Over (over_with_part part t going.transfer) × NotEarly size address (λ known. is_reading_data directions.In
         && nat_lt going.transfer.length going.transfer.setup.length && not (known == 0) && nat_le known going.toggle.last && is_done_part part) × Holds address Q (pipes_with part t going.transfer (toggle_after part t going.toggle) (closed address pipes)))
-    first_time going true is_data1 unended next other = (tt, (λ known own none. not_done directions.In going known), again address (with_next bytes false going) Q pipes small sound (bytes_unended bytes going.transfer ∙ unended) (next refl))
+    first_time going true is_data1 unended next other = (tt, (λ known own none. not_done directions.In going known), again address (with_next bytes false going) Q pipes small sound (bytes_unended address bytes going.transfer unended) (next refl))
     first_time going false is_data1 unended next other = (tt, (λ known own none. not_done directions.In going known), again address (with_again false going) Q pipes small sound unended (other refl))
 
-    not_received : (going : Going) (is_next is_data1 : Bool) → going.transfer.ending ≡ Unseen → (is_next ≡ true → Q (with_next bytes true going)) → (is_next ≡ false → Q (with_again true going))
+    not_received : (going : Going) (is_next is_data1 : Bool) → IsUnended address going.transfer → (is_next ≡ true → Q (with_next bytes true going)) → (is_next ≡ false → Q (with_again true going))
         → (let t = received_here InToken true (DataReply toggle bytes) in let part = part_by directions.In tokens.In is_next is_data1 false in
         IfOver Over (over_with_part part t going.transfer) × NotEarly size address (λ known. is_reading_data directions.In
         && nat_lt going.transfer.length going.transfer.setup.length && not (known == 0) && nat_le known going.toggle.last && is_done_part part) × Holds address Q (pipes_with part t going.transfer (toggle_after part t going.toggle) (closed address pipes)))
-    not_received going true is_data1 unended next other = (tt, (λ known own none. not_done directions.In going known), again address (with_next bytes true going) Q pipes small sound (bytes_unended bytes going.transfer ∙ unended) (next refl))
+    not_received going true is_data1 unended next other = (tt, (λ known own none. not_done directions.In going known), again address (with_next bytes true going) Q pipes small sound (bytes_unended address bytes going.transfer unended) (next refl))
     not_received going false is_data1 unended next other = (tt, (λ known own none. not_done directions.In going known), again address (with_again true going) Q pipes small sound unended (other refl))
 
     pub packet_in : (lost : Bool) → NextKnown lost → Right size Over (received_here InToken lost (DataReply toggle bytes)) Q pipes
@@ -306,4 +329,4 @@ module _ (size : ℕ) (Over : ControlTransfer → Type 0) (number : ℕ) (time :
     where
       over : (o : Option ControlTransfer) → open_with address pipes.held ≡ o → IfOver Over o
       over None e = tt
-      over (Some transfer) e = unseen transfer (found_unseen address pipes.held transfer sound.unseen e)
+      over (Some transfer) e = unseen transfer (found_unseen address pipes.held transfer sound.unseen e).unseen

@@ -42,7 +42,7 @@ use Rattle.usb_recorded_runs.proofs.DeviceLemmas.{Follows, IsElsewhere, IsEmpty,
 use Rattle.usb_recorded_runs.proofs.FrontLemmas.{front_more}
 use Rattle.usb_recorded_runs.proofs.ReceivedLemmas.{EndsWhole, Goes, IsNoData, NotEarly, Right, bytes_cases, bytes_count, bytes_cut, bytes_keep, bytes_total, received_in, packet_in, quiet_in, right_at, setup_right, status_in, status_out, with_again, with_next}
 use Rattle.usb_recorded_runs.proofs.SizeLemmas.{Fronts, IfOver, IsSound, Tells, Reported, nothing_tells, reported_over, unseen_over}
-use Rattle.usb_recorded_runs.proofs.TogetherLemmas.{HasEnded, IsRefused, IsWhole, TogetherAfter, TogetherBy, Took, after_answer, begun_together, data_together, done_ended, less_so, not_less, not_same, or_cases, same_so, sent_length, sent_setup, stall_ended, status_in_together, status_out_together, unseen_ended}
+use Rattle.usb_recorded_runs.proofs.TogetherLemmas.{HasEnded, IsCarriedOut, IsReached, IsRefused, IsWhole, TogetherAfter, TogetherBy, Took, after_answer, begun_together, data_together, done_ended, less_so, not_less, not_same, or_cases, same_so, sent_length, sent_setup, stall_ended, status_carries, status_in_together, status_out_together, unseen_ended}
 
 -- which way data go by the request that was recorded
 none_way : (q : Setup) → q.length ≡ 0 → data_direction (setup_at (setup_bytes q) 0) ≡ directions.Out
@@ -98,19 +98,28 @@ module _ (table : State → Setup → Outcome) (cut : ℕ) (described : Setup �
     (fronts : (s : State) (q : Setup) (bytes : List ℕ) → table s q ≡ Bytes bytes → (m : ℕ) →
     Fronts cut described q (joined (take m (packets bytes cut q.length)))) (is_table : IsTable table) where
   -- what is known of a transfer that is over, of a device whose packets have eight bytes at least
-  abbrev pub IsOver : ControlTransfer → Type 0
-  IsOver transfer = IsSound cut described transfer × (8 ≤ cut → HasEnded table transfer)
+  abbrev pub IsOver : ℕ → ControlTransfer → Type 0
+  IsOver address transfer = IsSound cut described transfer × (8 ≤ cut → HasEnded table address transfer)
 
-  stall_over : (t : Transaction) (transfer : ControlTransfer) → Reported cut described transfer → (8 ≤ cut → IsRefused table transfer.setup)
-      → IsOver (ended_so t endings.Stall transfer)
-  stall_over t transfer report refused = (reported_over cut described t endings.Stall transfer report, λ some. stall_ended table t transfer (refused some))
+  stall_over : (address : ℕ) (t : Transaction) (transfer : ControlTransfer) → Reported cut described transfer
+      → (8 ≤ cut → IsRefused table address transfer.setup transfer.length) → IsOver address (ended_so t endings.Stall transfer)
+  stall_over address t transfer report refused =
+      (reported_over cut described t endings.Stall transfer report, λ some. stall_ended table address t transfer (refused some))
 
-  done_over : (t : Transaction) (transfer : ControlTransfer) → Reported cut described transfer
-      → (8 ≤ cut → ((transfer.setup.length ≡ 0) × (transfer.length ≡ 0)) ⊎ IsWhole table transfer.setup transfer.length) → IsOver (ended_so t endings.Done transfer)
-  done_over t transfer report whole = (reported_over cut described t endings.Done transfer report, λ some. done_ended table t transfer (whole some))
+  done_over : (address : ℕ) (t : Transaction) (transfer : ControlTransfer) → Reported cut described transfer
+      → (8 ≤ cut → IsCarriedOut table address transfer.setup transfer.length ⊎ IsWhole table address transfer.setup transfer.length)
+      → IsOver address (ended_so t endings.Done transfer)
+  done_over address t transfer report whole =
+      (reported_over cut described t endings.Done transfer report, λ some. done_ended table address t transfer (whole some))
 
-  not_seen : (transfer : ControlTransfer) → transfer.ending ≡ Unseen → IsOver transfer
-  not_seen transfer unseen = (unseen_over cut described transfer unseen, λ some. unseen_ended table transfer unseen)
+  not_seen : (address : ℕ) (transfer : ControlTransfer) → transfer.ending ≡ Unseen → IsOver address transfer
+  not_seen address transfer unseen = (unseen_over cut described transfer unseen, λ some. unseen_ended table address transfer unseen)
+
+  -- what is refused is the request of the transfer, of which so many bytes have come
+  refused_so : (address : ℕ) (q : Setup) (kept : ℕ) (transfer : ControlTransfer) → transfer.setup ≡ sent_setup q → transfer.length ≡ kept
+      → IsRefused table address (sent_setup q) kept → IsRefused table address transfer.setup transfer.length
+  refused_so address q kept transfer setup_is count_is refused =
+      subst (λ s. IsRefused table address s transfer.length) (sym setup_is) (subst (IsRefused table address (sent_setup q)) (sym count_is) refused)
 
   -- ---- what a recorder has of the bytes
 
@@ -376,7 +385,7 @@ module _ (table : State → Setup → Outcome) (cut : ℕ) (described : Setup �
     pub may_be : MayBe stage t
     pub size_is : SizeIsKnown cut t.address t.packet t.request
     pub same : AsksSame stage t.request d
-    pub both : 8 ≤ cut → TogetherBy table cut stage t.request t.awaited t.kept d
+    pub both : 8 ≤ cut → TogetherBy table cut t.address stage t.request t.awaited t.kept d
     pub fits : OpenAt t.address (Fits stage d t) pipes
 
   abbrev pub Agree : DeviceStage → Pipes → TransferView → Type 0
@@ -433,7 +442,7 @@ module _ (table : State → Setup → Outcome) (cut : ℕ) (described : Setup �
     same_after true same = tt
     same_after false same = same
 
-    kept_agrees : (toggle : Toggle) (bytes : List ℕ) → AsksSame stages.DataIn t.request d → (8 ≤ cut → Took table cut toggle bytes t.packet t.awaited t.kept t.request d) → OpenAt t.address (AfterPacket toggle bytes d t.awaited t.kept t.request) pipes → is_same_toggle toggle t.awaited ≡ true
+    kept_agrees : (toggle : Toggle) (bytes : List ℕ) → AsksSame stages.DataIn t.request d → (8 ≤ cut → Took table cut t.address toggle bytes t.packet t.awaited t.kept t.request d) → OpenAt t.address (AfterPacket toggle bytes d t.awaited t.kept t.request) pipes → is_same_toggle toggle t.awaited ≡ true
         → nat_lt t.request.length (t.kept + length bytes) ≡ false → Agree d pipes (kept_packet t bytes).transfer
     kept_agrees toggle bytes same took after is few =
         let last = nat_lt (length bytes) t.packet || (t.kept + length bytes == t.request.length) in
@@ -447,7 +456,7 @@ module _ (table : State → Setup → Outcome) (cut : ℕ) (described : Setup �
         }
 
     data_agrees : (toggle : Toggle) (bytes : List ℕ) → t.stage ≡ stages.DataIn → AsksSame stages.DataIn t.request d
-        → (8 ≤ cut → Took table cut toggle bytes t.packet t.awaited t.kept t.request d) → OpenAt t.address (AfterPacket toggle bytes d t.awaited t.kept t.request) pipes
+        → (8 ≤ cut → Took table cut t.address toggle bytes t.packet t.awaited t.kept t.request d) → OpenAt t.address (AfterPacket toggle bytes d t.awaited t.kept t.request) pipes
         → Agree d pipes (taken_data t toggle bytes).transfer
     data_agrees toggle bytes at same took after =
         either_agrees (nat_lt t.packet (length bytes)) (failed t whys.TooLong) _ (λ c. failed_agrees whys.TooLong)
@@ -457,7 +466,7 @@ module _ (table : State → Setup → Outcome) (cut : ℕ) (described : Setup �
         (λ other. struck_agrees (subst (λ s. Agrees s t d pipes) (sym at)
         (record { may_be = tt; size_is = size_is; same = same; both = λ some. (took some).again_so other; fits = λ transfer found. (after transfer found).again_so other }))))
 
-    status_agrees : (toggle : Toggle) (bytes : List ℕ) → ((8 ≤ cut → TogetherBy table cut t.stage t.request t.awaited t.kept d) → Agrees t.stage t d pipes)
+    status_agrees : (toggle : Toggle) (bytes : List ℕ) → ((8 ≤ cut → TogetherBy table cut t.address t.stage t.request t.awaited t.kept d) → Agrees t.stage t d pipes)
         → (8 ≤ cut → toggle ≡ Data1) → Agree d pipes (taken_status t toggle bytes).transfer
     status_agrees Data0 (byte ∷ bytes) still first = failed_agrees whys.TooLong
     status_agrees Data1 (byte ∷ bytes) still first = failed_agrees whys.TooLong
@@ -467,16 +476,16 @@ module _ (table : State → Setup → Outcome) (cut : ℕ) (described : Setup �
   -- They agree after an answer, if they do where it changes nothing and after the ACK of a SETUP.
   module _ (d : DeviceStage) (pipes : Pipes) (t : TransferView) (size_is : SizeIsKnown cut t.address t.packet t.request) (stage : TransferStage) (at : t.stage ≡ stage)
       (may : MayBe stage t) (same : AsksSame stage t.request d) where
-    still_so : (8 ≤ cut → TogetherBy table cut stage t.request t.awaited t.kept d) → OpenAt t.address (Fits stage d t) pipes → Agree d pipes t
+    still_so : (8 ≤ cut → TogetherBy table cut t.address stage t.request t.awaited t.kept d) → OpenAt t.address (Fits stage d t) pipes → Agree d pipes t
     still_so both fits = subst (λ s. Agrees s t d pipes) (sym at) (record { may_be = may; size_is = size_is; same = same; both = both; fits = fits })
 
     failed_so : (why : Why) → Agree d pipes (failed t why).transfer
     failed_so why = failed_agrees d pipes t size_is why
 
-    struck_so : (8 ≤ cut → TogetherBy table cut stage t.request t.awaited t.kept d) → OpenAt t.address (Fits stage d t) pipes → Agree d pipes (struck t).transfer
+    struck_so : (8 ≤ cut → TogetherBy table cut t.address stage t.request t.awaited t.kept d) → OpenAt t.address (Fits stage d t) pipes → Agree d pipes (struck t).transfer
     struck_so both fits = struck_agrees d pipes t size_is (still_so both fits)
 
-    delayed_so : (8 ≤ cut → TogetherBy table cut stage t.request t.awaited t.kept d) → OpenAt t.address (Fits stage d t) pipes → Agree d pipes (delayed t).transfer
+    delayed_so : (8 ≤ cut → TogetherBy table cut t.address stage t.request t.awaited t.kept d) → OpenAt t.address (Fits stage d t) pipes → Agree d pipes (delayed t).transfer
     delayed_so both fits = delayed_agrees d pipes t size_is (still_so both fits)
 
     completed_so : Agree d pipes (completed t).transfer
@@ -486,7 +495,7 @@ module _ (table : State → Setup → Outcome) (cut : ℕ) (described : Setup �
     moved_so next = record { may_be = next.may_be; size_is = size_is; same = next.same; both = next.both; fits = next.fits }
 
   pub taken_agrees : (d : DeviceStage) (pipes : Pipes) (t : TransferView) (size_is : SizeIsKnown cut t.address t.packet t.request) (stage : TransferStage) (came : Reply) → t.stage ≡ stage
-      → MayBe stage t → AsksSame stage t.request d → (8 ≤ cut → TogetherAfter table cut stage came d t) → OpenAt t.address (AfterReply stage came d t) pipes
+      → MayBe stage t → AsksSame stage t.request d → (8 ≤ cut → TogetherAfter table cut t.address stage came d t) → OpenAt t.address (AfterReply stage came d t) pipes
       → (stage ≡ stages.Setup → came ≡ AckReply → Agrees (stage_after_setup t.request) t d pipes) → Agree d pipes (taken_at t stage came).transfer
   taken_agrees d pipes t size_is stages.Setup AckReply at may same both after acks = moved_so d pipes t size_is stages.Setup at may same (acks refl refl)
   taken_agrees d pipes t size_is stages.Setup NakReply at may same both after acks = failed_so d pipes t size_is stages.Setup at may same whys.Unexpected
@@ -507,7 +516,7 @@ module _ (table : State → Setup → Outcome) (cut : ℕ) (described : Setup �
   taken_agrees d pipes t size_is stages.StatusIn AckReply at may same both after acks = failed_so d pipes t size_is stages.StatusIn at may same whys.Unexpected
   taken_agrees d pipes t size_is stages.StatusIn NakReply at may same both after acks = delayed_so d pipes t size_is stages.StatusIn at may same both after
   taken_agrees d pipes t size_is stages.StatusIn StallReply at may same both after acks = failed_so d pipes t size_is stages.StatusIn at may same whys.Stalled
-  taken_agrees d pipes t size_is stages.StatusIn (DataReply toggle bytes) at may same both after acks = status_agrees d pipes t size_is toggle bytes (λ still. still_so d pipes t size_is stages.StatusIn at may same (λ some. subst (λ g. TogetherBy table cut g t.request t.awaited t.kept d) at (still some)) after) both
+  taken_agrees d pipes t size_is stages.StatusIn (DataReply toggle bytes) at may same both after acks = status_agrees d pipes t size_is toggle bytes (λ still. still_so d pipes t size_is stages.StatusIn at may same (λ some. subst (λ g. TogetherBy table cut t.address g t.request t.awaited t.kept d) at (still some)) after) both
   taken_agrees d pipes t size_is stages.StatusIn NoReply at may same both after acks = struck_so d pipes t size_is stages.StatusIn at may same both after
   taken_agrees d pipes t size_is stages.Completed came at may same both after acks = still_so d pipes t size_is stages.Completed at may same both after
   taken_agrees d pipes t size_is (stages.Failed why) came at may same both after acks = still_so d pipes t size_is (stages.Failed why) at may same both after
@@ -567,8 +576,8 @@ module _ (table : State → Setup → Outcome) (cut : ℕ) (described : Setup �
 
     data_step : (t : TransferView) (fate : Fate) (old : DeviceStage) (reply : Reply) (new : DeviceView) → is_lost_down fate ≡ false → Follows old new.stage
         → (new.stage ≡ old) ⊎ IsElsewhere new.stage → IsSent table cut old new reply → OpenAt address (InData old t.awaited t.kept t.request) pipes
-        → (8 ≤ cut → brought fate reply ≡ StallReply → IsRefused table (sent_setup t.request))
-        → Right cut IsOver (received_in number time address InToken (is_lost_ack fate) (brought fate reply))
+        → (8 ≤ cut → brought fate reply ≡ StallReply → IsRefused table address (sent_setup t.request) t.kept)
+        → Right cut (IsOver address) (received_in number time address InToken (is_lost_ack fate) (brought fate reply))
         (AfterData (brought fate reply) (after_answer table cut fate (record { reply = reply; device = new })).stage t) pipes
     data_step t fate old reply new kept follows stays_so sent opens refuses = of fate reply kept sent refuses
       where
@@ -586,22 +595,23 @@ module _ (table : State → Setup → Outcome) (cut : ℕ) (described : Setup �
           low = h.low;
         }
 
-        quiet : (lost : Bool) (came : Reply) → IsNoData came → (8 ≤ cut → came ≡ StallReply → IsRefused table (sent_setup t.request))
-            → Right cut IsOver (received_in number time address InToken lost came) (InData new.stage t.awaited t.kept t.request) pipes
-        quiet lost came none refused = quiet_in cut IsOver number time address small pipes sound Before (InData new.stage t.awaited t.kept t.request) lost came none opens
-            (λ u going h is. stall_over u going.transfer (content_reported old going h.content) (λ some. subst (IsRefused table) (sym h.setup_is) (refused some is))) stays
+        quiet : (lost : Bool) (came : Reply) → IsNoData came → (8 ≤ cut → came ≡ StallReply → IsRefused table address (sent_setup t.request) t.kept)
+            → Right cut (IsOver address) (received_in number time address InToken lost came) (InData new.stage t.awaited t.kept t.request) pipes
+        quiet lost came none refused = quiet_in cut (IsOver address) number time address small pipes sound Before (InData new.stage t.awaited t.kept t.request) lost came none opens
+            (λ u going h is. stall_over address u going.transfer (content_reported old going h.content)
+            (λ some. refused_so address t.request t.kept going.transfer h.setup_is h.count_is (refused some is))) stays
 
         unreceived : (toggle : Toggle) (bytes : List ℕ) → IsSent table cut old new (DataReply toggle bytes)
-            → Right cut IsOver (received_in number time address InToken true (DataReply toggle bytes)) (AfterPacket toggle bytes new.stage t.awaited t.kept t.request) pipes
-        unreceived toggle bytes sent = packet_in cut IsOver number time address small pipes sound toggle bytes Before (AfterPacket toggle bytes new.stage t.awaited t.kept t.request) opens
+            → Right cut (IsOver address) (received_in number time address InToken true (DataReply toggle bytes)) (AfterPacket toggle bytes new.stage t.awaited t.kept t.request) pipes
+        unreceived toggle bytes sent = packet_in cut (IsOver address) number time address small pipes sound toggle bytes Before (AfterPacket toggle bytes new.stage t.awaited t.kept t.request) opens
             (λ going h. h.way) (λ going h. h.in_time toggle sent.was) true (λ going h. (
               λ e. next_packet_so t toggle bytes true old new.stage going h (λ other is. inr refl) (received_next old new.stage toggle bytes true going h.content sent.which stays_so e) e,
               λ e. again_packet_so t toggle bytes true old new.stage going h (λ other is. inr refl) (received_again old new.stage toggle bytes true going h.content sent.which stays_so e) e,
             ))
 
         received : (toggle : Toggle) (bytes : List ℕ) → IsSent table cut old new (DataReply toggle bytes)
-            → Right cut IsOver (received_in number time address InToken false (DataReply toggle bytes)) (AfterPacket toggle bytes (acked table cut new).stage t.awaited t.kept t.request) pipes
-        received toggle bytes sent = packet_in cut IsOver number time address small pipes sound toggle bytes Before (AfterPacket toggle bytes (acked table cut new).stage t.awaited t.kept t.request) opens
+            → Right cut (IsOver address) (received_in number time address InToken false (DataReply toggle bytes)) (AfterPacket toggle bytes (acked table cut new).stage t.awaited t.kept t.request) pipes
+        received toggle bytes sent = packet_in cut (IsOver address) number time address small pipes sound toggle bytes Before (AfterPacket toggle bytes (acked table cut new).stage t.awaited t.kept t.request) opens
             (λ going h. h.way) (λ going h. h.in_time toggle sent.was) false (λ going h. (
               λ e. next_packet_so t toggle bytes false old (acked table cut new).stage going h
                   (λ other is. inl (acked_flips table cut new toggle other sent.waits sent.is is ∙ flips_next toggle going.toggle.next e))
@@ -613,8 +623,8 @@ module _ (table : State → Setup → Outcome) (cut : ℕ) (described : Setup �
                   (received_again old new.stage toggle bytes false going h.content sent.which stays_so e)) e,
             ))
 
-        of : (fate : Fate) (reply : Reply) → is_lost_down fate ≡ false → IsSent table cut old new reply → (8 ≤ cut → brought fate reply ≡ StallReply → IsRefused table (sent_setup t.request))
-            → Right cut IsOver (received_in number time address InToken (is_lost_ack fate) (brought fate reply))
+        of : (fate : Fate) (reply : Reply) → is_lost_down fate ≡ false → IsSent table cut old new reply → (8 ≤ cut → brought fate reply ≡ StallReply → IsRefused table address (sent_setup t.request) t.kept)
+            → Right cut (IsOver address) (received_in number time address InToken (is_lost_ack fate) (brought fate reply))
             (AfterData (brought fate reply) (after_answer table cut fate (record { reply = reply; device = new })).stage t) pipes
         of fates.LostDown reply kept sent refused = absurd (let w : ⊥ = cc in w)
         of fates.LostUp reply kept sent refused = quiet false NoReply tt refused
@@ -635,35 +645,44 @@ module _ (table : State → Setup → Outcome) (cut : ℕ) (described : Setup �
         of fates.Busy NoReply kept sent refused = quiet false NoReply tt refused
 
     -- an IN of the status stage
-    status_step : (q : Setup) (fate : Fate) (old : DeviceStage) (reply : Reply) (new : DeviceView) → is_lost_down fate ≡ false → Follows old new.stage → (new.stage ≡ old) ⊎ IsElsewhere new.stage
+    status_step : (q : Setup) (kept_bytes : ℕ) (fate : Fate) (old : DeviceStage) (reply : Reply) (new : DeviceView) → is_lost_down fate ≡ false → Follows old new.stage → (new.stage ≡ old) ⊎ IsElsewhere new.stage
         → IsSent table cut old new reply
-        → OpenAt address (InStatusIn old q) pipes → (8 ≤ cut → brought fate reply ≡ StallReply → IsRefused table (sent_setup q))
-        → Right cut IsOver (received_in number time address InToken (is_lost_ack fate) (brought fate reply)) (InStatusIn (after_answer table cut fate (record { reply = reply; device = new })).stage q) pipes
-    status_step q fate old reply new kept follows stays_so sent opens refuses = of fate reply kept sent refuses
+        → OpenAt address (InStatusIn old q) pipes → (8 ≤ cut → brought fate reply ≡ StallReply → IsRefused table address (sent_setup q) kept_bytes)
+        → (8 ≤ cut → (toggle : Toggle) → in_toggle old ≡ Some toggle → IsCarriedOut table address (sent_setup q) kept_bytes)
+        → Right cut (IsOver address) (received_in number time address InToken (is_lost_ack fate) (brought fate reply)) (InStatusIn (after_answer table cut fate (record { reply = reply; device = new })).stage q) pipes
+    status_step q kept_bytes fate old reply new kept follows stays_so sent opens refuses carries = of fate reply kept sent refuses
       where
         P : Going → Type 0
         P = InStatusIn old q
 
-        quiet : (lost : Bool) (came : Reply) → IsNoData came → (8 ≤ cut → came ≡ StallReply → IsRefused table (sent_setup q))
-            → Right cut IsOver (received_in number time address InToken lost came) (InStatusIn new.stage q) pipes
-        quiet lost came none refused = quiet_in cut IsOver number time address small pipes sound P (InStatusIn new.stage q) lost came none opens
-            (λ u going h is. stall_over u going.transfer h.report (λ some. subst (IsRefused table) (sym h.setup_is) (refused some is)))
-            (λ going h. record { way = h.way; first = λ toggle is. h.first toggle (follows toggle is); report = h.report; setup_is = h.setup_is; none = h.none })
-
-        none_came : (going : Going) → P going → (going.transfer.setup.length ≡ 0) × (going.transfer.length ≡ 0)
+        none_came : (going : Going) → P going → going.transfer.length ≡ 0
         none_came going h =
             let none : going.transfer.setup.length ≡ 0 = ap (λ r. r.length) h.setup_is ∙ sent_length q ∙ h.none in
-            (none, omega (arith, none, h.report.few))
+            omega (arith, none, h.report.few)
+
+        quiet : (lost : Bool) (came : Reply) → IsNoData came → (8 ≤ cut → came ≡ StallReply → IsRefused table address (sent_setup q) kept_bytes)
+            → Right cut (IsOver address) (received_in number time address InToken lost came) (InStatusIn new.stage q) pipes
+        quiet lost came none refused = quiet_in cut (IsOver address) number time address small pipes sound P (InStatusIn new.stage q) lost came none opens
+            (λ u going h is. stall_over address u going.transfer h.report (λ some.
+            let r = refused some is in
+            refused_so address q kept_bytes going.transfer h.setup_is (none_came going h ∙ sym r.count_is) r))
+            (λ going h. record { way = h.way; first = λ toggle is. h.first toggle (follows toggle is); report = h.report; setup_is = h.setup_is; none = h.none })
+
+        carried_so : (going : Going) → P going → IsCarriedOut table address (sent_setup q) kept_bytes
+            → IsCarriedOut table address going.transfer.setup going.transfer.length
+        carried_so going h is =
+            subst (λ s. IsCarriedOut table address s going.transfer.length) (sym h.setup_is)
+            (subst (IsCarriedOut table address (sent_setup q)) (is.count_is ∙ sym (none_came going h)) is)
 
         zero_one : Data0 ≡ Data1 → ⊥
         zero_one e = let w : ⊥ = cc in w
 
-        packet : (lost : Bool) (toggle : Toggle) (bytes : List ℕ) (Q : Going → Type 0) → IsSent table cut old new (DataReply toggle bytes) → Right cut IsOver (received_in number time address InToken lost (DataReply toggle bytes)) Q pipes
-        packet lost Data1 bytes Q sent = status_in cut IsOver number time address small pipes sound P Q lost bytes opens (λ going h. h.way) (λ u going h. done_over u going.transfer h.report (λ some. inl (none_came going h)))
-        packet lost Data0 bytes Q sent = right_at cut IsOver (received_in number time address InToken lost (DataReply Data0 bytes)) P Q pipes sound refl opens (λ going unended h. absurd (zero_one (h.first Data0 sent.was)))
+        packet : (lost : Bool) (toggle : Toggle) (bytes : List ℕ) (Q : Going → Type 0) → IsSent table cut old new (DataReply toggle bytes) → Right cut (IsOver address) (received_in number time address InToken lost (DataReply toggle bytes)) Q pipes
+        packet lost Data1 bytes Q sent = status_in cut (IsOver address) number time address small pipes sound P Q lost bytes opens (λ going h. h.way) (λ u going h. done_over address u going.transfer h.report (λ some. inl (carried_so going h (carries some Data1 sent.was))))
+        packet lost Data0 bytes Q sent = right_at cut (IsOver address) (received_in number time address InToken lost (DataReply Data0 bytes)) P Q pipes sound refl opens (λ going unended h. absurd (zero_one (h.first Data0 sent.was)))
 
-        of : (fate : Fate) (reply : Reply) → is_lost_down fate ≡ false → IsSent table cut old new reply → (8 ≤ cut → brought fate reply ≡ StallReply → IsRefused table (sent_setup q))
-            → Right cut IsOver (received_in number time address InToken (is_lost_ack fate) (brought fate reply)) (InStatusIn (after_answer table cut fate (record { reply = reply; device = new })).stage q) pipes
+        of : (fate : Fate) (reply : Reply) → is_lost_down fate ≡ false → IsSent table cut old new reply → (8 ≤ cut → brought fate reply ≡ StallReply → IsRefused table address (sent_setup q) kept_bytes)
+            → Right cut (IsOver address) (received_in number time address InToken (is_lost_ack fate) (brought fate reply)) (InStatusIn (after_answer table cut fate (record { reply = reply; device = new })).stage q) pipes
         of fates.LostDown reply kept sent refused = absurd (let w : ⊥ = cc in w)
         of fates.LostUp reply kept sent refused = quiet false NoReply tt refused
         of fates.LostAck (DataReply toggle bytes) kept sent refused = packet true toggle bytes (InStatusIn new.stage q) sent
@@ -841,9 +860,27 @@ module _ (table : State → Setup → Outcome) (cut : ℕ) (described : Setup �
   comes_tell fates.LostAck old (DataReply toggle bytes) new same sent = packet_tells old new.stage toggle bytes same sent.which
   comes_tell fate old reply new same sent = tt
 
+  setup_address : (d : DeviceView) (q : Setup) (address : ℕ) (fate : Fate) → is_lost_down fate ≡ false
+      → (let r = served table cut d (record { address = address; token = SetupToken (setup_bytes q) }) (is_ready fate) in
+      brought fate r.reply ≡ AckReply → address ≡ d.state.address)
+  setup_address d q address fate kept acks = same_so address d.state.address (of fate (address == d.state.address) refl kept acks)
+    where
+      of : (fate : Fate) (here : Bool) → (address == d.state.address) ≡ here → is_lost_down fate ≡ false
+          → (let r = if here then served_here table cut d (SetupToken (setup_bytes q)) (is_ready fate) else replies NoReply d.state d.stage false in
+          brought fate r.reply ≡ AckReply → (address == d.state.address) ≡ true)
+      of fates.Pass true e kept acks = e
+      of fates.Busy true e kept acks = e
+      of fates.LostAck true e kept acks = e
+      of fates.LostUp here e kept acks = absurd (let w : ⊥ = cc in w)
+      of fates.LostDown here e kept acks = absurd (let w : ⊥ = cc in w)
+      of fates.Pass false e kept acks = absurd (let w : ⊥ = cc in w)
+      of fates.Busy false e kept acks = absurd (let w : ⊥ = cc in w)
+      of fates.LostAck false e kept acks = absurd (let w : ⊥ = cc in w)
+
   -- what was received of a transaction of this host's transfer with a device that is so: nothing wrong is found in it, and the three agree
   -- after it
-  module _ (d : DeviceView) (fate : Fate) (kept : is_lost_down fate ≡ false) (number : ℕ) (time : Option ℕ) (pipes : Pipes) (sound : Sound pipes) (t : TransferView) (small : t.address < 256)
+  module _ (d : DeviceView) (reached : IsReached table d.state) (fate : Fate) (kept : is_lost_down fate ≡ false) (number : ℕ) (time : Option ℕ)
+      (pipes : Pipes) (sound : Sound pipes) (t : TransferView) (small : t.address < 256)
       (low : t.stage ≡ stages.Setup → t.request.length < 65536) where
     abbrev sent_to : Token → Sent
     sent_to token = record { address = t.address; token = token }
@@ -859,7 +896,7 @@ module _ (table : State → Setup → Outcome) (cut : ℕ) (described : Setup �
 
     pub record Steps (stage : TransferStage) (token : Token) : Type 0 where
       pub right : has_wrong_toggle (received_of token) pipes ≡ false
-      pub over : IfOver IsOver (transfer_over (received_of token) pipes)
+      pub over : IfOver (IsOver t.address) (transfer_over (received_of token) pipes)
       pub not_early : NotEarly cut t.address (λ known. is_early known (received_of token) pipes)
       pub sound_then : Sound (pipes_after (received_of token) pipes)
       pub agrees : Agree (later token) (pipes_after (received_of token) pipes) (taken_at t stage (brought fate (answer_to token).reply)).transfer
@@ -867,7 +904,7 @@ module _ (table : State → Setup → Outcome) (cut : ℕ) (described : Setup �
 
     -- at a stage where nothing is known of an ACK
     step_at : (stage : TransferStage) (token : Token) → t.stage ≡ stage → (stage ≡ stages.Setup → ⊥) → SizeIsKnown cut t.address t.packet t.request → MayBe stage t
-        → AsksSame stage t.request (later token) → (8 ≤ cut → TogetherAfter table cut stage (brought fate (answer_to token).reply) (later token) t) → Right cut IsOver (received_of token) (AfterReply stage (brought fate (answer_to token).reply) (later token) t) pipes
+        → AsksSame stage t.request (later token) → (8 ≤ cut → TogetherAfter table cut t.address stage (brought fate (answer_to token).reply) (later token) t) → Right cut (IsOver t.address) (received_of token) (AfterReply stage (brought fate (answer_to token).reply) (later token) t) pipes
         → (stage ≡ stages.DataIn → t.request ≡ get_descriptor 1 0 0 8 → MayCome cut (brought fate (answer_to token).reply)) → Steps stage token
     step_at stage token at other size_is may same both right comes =
         record {
@@ -883,7 +920,7 @@ module _ (table : State → Setup → Outcome) (cut : ℕ) (described : Setup �
     setup_step at size_is may =
         let token = SetupToken (setup_bytes t.request) in
         let came = brought fate (answer_to token).reply in
-        let right : Right cut IsOver (received_of token) (λ going. Unit {0}) pipes = setup_right cut IsOver number time t.address small pipes sound t.request (is_lost_ack fate) came (λ going. Unit {0}) not_seen tt in
+        let right : Right cut (IsOver t.address) (received_of token) (λ going. Unit {0}) pipes = setup_right cut (IsOver t.address) number time t.address small pipes sound t.request (is_lost_ack fate) came (λ going. Unit {0}) (not_seen t.address) tt in
         record {
           right = right.0;
           over = right.1;
@@ -893,15 +930,16 @@ module _ (table : State → Setup → Outcome) (cut : ℕ) (described : Setup �
               (λ is acks.
               let begun_so = setup_stage d t.request t.address fate kept acks in
               let after = after_setup t d.state (later token) (received_of token) may (low at) begun_so in
-              let both : 8 ≤ cut → TogetherBy table cut (stage_after_setup t.request) t.request Data1 0 (later token) =
-              (λ some. begun_together table cut is_table some t.request d.state (later token) may.asked begun_so) in
+              let both : 8 ≤ cut → TogetherBy table cut t.address (stage_after_setup t.request) t.request Data1 0 (later token) =
+              (λ some. begun_together table cut t.address is_table some t.request d.state (later token) may.asked
+              (record { reached = reached; address_is = setup_address d t.request t.address fate kept acks }) begun_so) in
               record {
                 may_be = after.may_be;
                 size_is = size_is;
                 same = after.same;
-                both = λ some. subst (λ g. TogetherBy table cut (stage_after_setup t.request) t.request g t.kept (later token)) (sym may.awaits)
-                    (subst (λ n. TogetherBy table cut (stage_after_setup t.request) t.request Data1 n (later token)) (sym may.none) (both some));
-                fits = (setup_right cut IsOver number time t.address small pipes sound t.request (is_lost_ack fate) came (Fits (stage_after_setup t.request) (later token) t) not_seen after.fits).3.1;
+                both = λ some. subst (λ g. TogetherBy table cut t.address (stage_after_setup t.request) t.request g t.kept (later token)) (sym may.awaits)
+                    (subst (λ n. TogetherBy table cut t.address (stage_after_setup t.request) t.request Data1 n (later token)) (sym may.none) (both some));
+                fits = (setup_right cut (IsOver t.address) number time t.address small pipes sound t.request (is_lost_ack fate) came (Fits (stage_after_setup t.request) (later token) t) (not_seen t.address) after.fits).3.1;
               });
           may_come = λ e. absurd (let w : ⊥ = cc in w);
         }
@@ -916,7 +954,7 @@ module _ (table : State → Setup → Outcome) (cut : ℕ) (described : Setup �
         let sends = served_sends table cut d t.address (is_ready fate) in
         let r = answer_to InToken in
         let still = stays_same t.request d.stage r.device.stage sends.stays agrees.same in
-        let both = λ (some : 8 ≤ cut). data_together table cut is_table some t d fate (is_ready fate) kept agrees.size_is (agrees.both some) sends.sent in (
+        let both = λ (some : 8 ≤ cut). data_together table cut t.address is_table some t d fate (is_ready fate) kept agrees.size_is (agrees.both some) sends.sent in (
           InToken,
           same_sent _ sent due,
           step_at stages.DataIn InToken at (λ e. let w : ⊥ = cc in w) agrees.size_is tt (answer_same t.request (acknowledges fate r.reply) r.device still) (λ some. (both some).together)
@@ -925,26 +963,28 @@ module _ (table : State → Setup → Outcome) (cut : ℕ) (described : Setup �
         )
     step stages.StatusIn sent at due agrees =
         let sends = served_sends table cut d t.address (is_ready fate) in
-        let both = λ (some : 8 ≤ cut). status_in_together table cut is_table some t d fate (is_ready fate) kept (agrees.both some) sends.sent in (
+        let both = λ (some : 8 ≤ cut). status_in_together table cut t.address is_table some t d fate (is_ready fate) kept (agrees.both some) sends.sent in (
           InToken,
           same_sent _ sent due,
           step_at stages.StatusIn InToken at (λ e. let w : ⊥ = cc in w) agrees.size_is tt tt (λ some. (both some).together)
-              (status_step number time t.address small pipes sound t.request fate d.stage (answer_to InToken).reply (answer_to InToken).device kept sends.follows sends.stays sends.sent agrees.fits (λ some. (both some).refuses))
+              (status_step number time t.address small pipes sound t.request t.kept fate d.stage (answer_to InToken).reply (answer_to InToken).device kept sends.follows sends.stays sends.sent agrees.fits (λ some. (both some).refuses)
+              (λ some toggle. status_carries table cut t.address is_table some t.request t.kept d.stage toggle (agrees.both some)))
               (λ e. absurd (let w : ⊥ = cc in w)),
         )
     step stages.StatusOut sent at due agrees =
         let came = brought fate (answer_to (OutToken Data1 [])).reply in
         let Fitting = InStatusOut t.address t.kept t.request in
-        let both = λ (some : 8 ≤ cut). status_out_together table cut is_table some t d fate (is_ready fate) kept (agrees.both some) in (
+        let both = λ (some : 8 ≤ cut). status_out_together table cut t.address is_table some t d fate (is_ready fate) kept (agrees.both some) in (
           OutToken Data1 [],
           same_sent _ sent due,
           step_at stages.StatusOut (OutToken Data1 []) at (λ e. let w : ⊥ = cc in w) agrees.size_is tt tt (λ some. (both some).together)
-              (status_out cut IsOver number time t.address small pipes sound Fitting Fitting agrees.fits (λ going h. h.way)
-              (λ u going h. done_over u going.transfer h.report (λ some. inr (subst (λ q. IsWhole table q going.transfer.length) (sym h.setup_is)
-              (subst (IsWhole table (sent_setup t.request)) (sym h.count_is) (agrees.both some).1))))
+              (status_out cut (IsOver t.address) number time t.address small pipes sound Fitting Fitting agrees.fits (λ going h. h.way)
+              (λ u going h. done_over t.address u going.transfer h.report (λ some. inr (subst (λ q. IsWhole table t.address q going.transfer.length) (sym h.setup_is)
+              (subst (IsWhole table t.address (sent_setup t.request)) (sym h.count_is) (agrees.both some).1))))
               (λ going h. h.whole)
               (λ going h. record { way = h.way; report = h.report; whole = h.whole; count_is = h.count_is; setup_is = h.setup_is }) (is_lost_ack fate) came
-              (λ u going h is. stall_over u going.transfer h.report (λ some. subst (IsRefused table) (sym h.setup_is) ((both some).refuses is))))
+              (λ u going h is. stall_over t.address u going.transfer h.report
+              (λ some. refused_so t.address t.request t.kept going.transfer h.setup_is h.count_is ((both some).refuses is))))
               (λ e. absurd (let w : ⊥ = cc in w)),
         )
     step stages.DataOut sent at due agrees = absurd agrees.may_be

@@ -17,15 +17,18 @@ use Rattle.usb_device.specs.declared.state.State.{State}
 use Rattle.usb_device.specs.Requests.{Bytes, Done, Outcome, Refused, Takes}
 use Rattle.usb_device.specs.Step.{DeviceStage, DeviceView, Sending, Served, StatusIn, acked, acked_stage, next_packet, next_stage, replies, served, served_here, served_in, served_out}
 use Rattle.usb_device.specs.Step as device
+use Rattle.usb_device.specs.States as states
 use Rattle.usb_bus.specs.Beside.{IsTable}
 use Rattle.usb_bus.specs.declared.fate.Fate.{Fate}
 use Rattle.usb_bus.specs.declared.fate.Fate.TheVariants as fates
 use Rattle.usb_bus.specs.Bus.{acknowledges, brought}
+use Rattle.usb_bus.specs.Converse.{AskedView, state_after}
 use Rattle.usb_bus.specs.Exchanges.{is_lost_down}
 use Rattle.usb_capture.specs.declared.control_transfer.ControlTransfer.{ControlTransfer}
 use Rattle.usb_capture.specs.declared.ending.Ending.TheVariants as endings
 use Rattle.usb_capture.specs.declared.transaction.Transaction.{Transaction}
 use Rattle.usb_capture.specs.BusTransfers.{ended_so}
+use Rattle.usb_capture.specs.Readings.{reads_descriptor}
 use Rattle.usb_recorded_runs.proofs.DeviceLemmas.{IsEmpty, IsNext, IsPacket, IsSent, acked_so, in_toggle, none_some}
 use Rattle.usb_recorded_runs.proofs.HostLemmas.{IsAsked, SizeIsKnown}
 
@@ -67,20 +70,46 @@ not_same m n e is = grind (arith, nat_tests)
 -- ---- how a transfer has ended
 
 module _ (table : State → Setup → Outcome) where
-  -- A device refuses the request, in one of its states.
-  abbrev pub IsRefused : Setup → Type 0
-  IsRefused q = (s : State) × (table s q ≡ Refused)
+  -- Some requests since a bus reset lead to this state.
+  abbrev pub IsReached : State → Type 0
+  IsReached s = (requests : List AskedView) × (state_after table states.zero requests ≡ s)
 
-  -- These are as many bytes as a device answers to the request.
+  -- of a device with this address
+  pub record IsAt (address : ℕ) (s : State) : Type 0 where
+    pub reached : IsReached s
+    pub address_is : address ≡ s.address
+
+-- what is known of a transfer of this address
+module _ (table : State → Setup → Outcome) (address : ℕ) where
+  -- A device refuses the request, in one of its states, and no bytes have come.
+  pub record IsRefused (q : Setup) (count : ℕ) : Type 0 where
+    pub state : State
+    pub is_at : IsAt table address state
+    pub answers : table state q ≡ Refused
+    pub count_is : count ≡ 0
+
+  -- It carries out the request, which has no data.
+  pub record IsCarriedOut (q : Setup) (count : ℕ) : Type 0 where
+    pub state : State
+    pub is_at : IsAt table address state
+    pub next : State
+    pub answers : table state q ≡ Done next
+    pub none : q.length ≡ 0
+    pub count_is : count ≡ 0
+
+  -- It answers the request for a descriptor with so many bytes.
   pub record IsWhole (q : Setup) (count : ℕ) : Type 0 where
     pub state : State
+    pub is_at : IsAt table address state
     pub all : List ℕ
     pub answers : table state q ≡ Bytes all
+    pub reads : reads_descriptor q ≡ true
     pub count_is : count ≡ length all
 
   pub record HasEnded (t : ControlTransfer) : Type 0 where
-    pub refused : t.ending ≡ endings.Stall → IsRefused t.setup
-    pub whole : t.ending ≡ endings.Done → ((t.setup.length ≡ 0) × (t.length ≡ 0)) ⊎ IsWhole t.setup t.length
+    pub end_is : (t.ending ≡ endings.Unseen) ⊎ ((t.ending ≡ endings.Stall) ⊎ (t.ending ≡ endings.Done))
+    pub refused : t.ending ≡ endings.Stall → IsRefused t.setup t.length
+    pub whole : t.ending ≡ endings.Done → IsCarriedOut t.setup t.length ⊎ IsWhole t.setup t.length
 
   stall_done : {A : Type 0} → endings.Stall ≡ endings.Done → A
   stall_done e = absurd (let w : ⊥ = cc in w)
@@ -91,15 +120,15 @@ module _ (table : State → Setup → Outcome) where
   unseen_done : {A : Type 0} → endings.Unseen ≡ endings.Done → A
   unseen_done e = absurd (let w : ⊥ = cc in w)
 
-  pub stall_ended : (t : Transaction) (transfer : ControlTransfer) → IsRefused transfer.setup → HasEnded (ended_so t endings.Stall transfer)
-  stall_ended t transfer refused = record { refused = λ e. refused; whole = stall_done }
+  pub stall_ended : (t : Transaction) (transfer : ControlTransfer) → IsRefused transfer.setup transfer.length → HasEnded (ended_so t endings.Stall transfer)
+  stall_ended t transfer refused = record { end_is = inr (inl refl); refused = λ e. refused; whole = stall_done }
 
   pub done_ended : (t : Transaction) (transfer : ControlTransfer)
-      → ((transfer.setup.length ≡ 0) × (transfer.length ≡ 0)) ⊎ IsWhole transfer.setup transfer.length → HasEnded (ended_so t endings.Done transfer)
-  done_ended t transfer whole = record { refused = λ e. stall_done (sym e); whole = λ e. whole }
+      → IsCarriedOut transfer.setup transfer.length ⊎ IsWhole transfer.setup transfer.length → HasEnded (ended_so t endings.Done transfer)
+  done_ended t transfer whole = record { end_is = inr (inr refl); refused = λ e. stall_done (sym e); whole = λ e. whole }
 
   pub unseen_ended : (transfer : ControlTransfer) → transfer.ending ≡ endings.Unseen → HasEnded transfer
-  unseen_ended transfer unseen = record { refused = λ e. unseen_stall (sym unseen ∙ e); whole = λ e. unseen_done (sym unseen ∙ e) }
+  unseen_ended transfer unseen = record { end_is = inl unseen; refused = λ e. unseen_stall (sym unseen ∙ e); whole = λ e. unseen_done (sym unseen ∙ e) }
 
 -- ---- both ends
 
@@ -108,12 +137,16 @@ module _ (table : State → Setup → Outcome) (cut : ℕ) where
   abbrev pub after_answer : Fate → Served → DeviceView
   after_answer fate r = if acknowledges fate r.reply then acked table cut r.device else r.device
 
+-- of a transfer of this address
+module _ (table : State → Setup → Outcome) (cut : ℕ) (at_address : ℕ) where
   -- In the data stage so many whole packets of the answer have come to the host, which awaits more. The device counts as many as
   -- acknowledged, or one fewer.
   pub record InStep (asked : Setup) (awaited : Toggle) (kept : ℕ) (q : Setup) (all : List ℕ) (k : ℕ) : Type 0 where
     pub same : q ≡ sent_setup asked
     pub state : State
+    pub is_at : IsAt table at_address state
     pub answers : table state q ≡ Bytes all
+    pub reads : reads_descriptor q ≡ true
     pub count : ℕ
     pub counted : (count ≡ k) ⊎ (count ≡ suc k)
     pub awaits : awaited ≡ toggle_of count
@@ -123,7 +156,7 @@ module _ (table : State → Setup → Outcome) (cut : ℕ) where
 
   abbrev pub TogetherIn : Setup → Toggle → ℕ → DeviceStage → Type 0
   TogetherIn asked awaited kept (Sending q all k) = InStep asked awaited kept q all k
-  TogetherIn asked awaited kept (device.Halted refused) = IsRefused table (sent_setup asked)
+  TogetherIn asked awaited kept (device.Halted refused) = IsRefused table at_address (sent_setup asked) kept
   TogetherIn asked awaited kept stage = ⊥
 
   -- It has sent its data, though the ACK of the last packet may not have come.
@@ -134,15 +167,15 @@ module _ (table : State → Setup → Outcome) (cut : ℕ) where
   HasSent stage = ⊥
 
   -- It carries out a request without data, or refuses it.
-  abbrev pub CarriesOut : Setup → DeviceStage → Type 0
-  CarriesOut asked (StatusIn q carried) = Unit {0}
-  CarriesOut asked (device.Halted refused) = IsRefused table (sent_setup asked)
-  CarriesOut asked stage = ⊥
+  abbrev pub CarriesOut : Setup → ℕ → DeviceStage → Type 0
+  CarriesOut asked kept (StatusIn q carried) = IsCarriedOut table at_address (sent_setup asked) kept
+  CarriesOut asked kept (device.Halted refused) = IsRefused table at_address (sent_setup asked) kept
+  CarriesOut asked kept stage = ⊥
 
   abbrev pub TogetherBy : TransferStage → Setup → Toggle → ℕ → DeviceStage → Type 0
   TogetherBy stages.DataIn q awaited kept d = TogetherIn q awaited kept d
-  TogetherBy stages.StatusOut q awaited kept d = HasSent d × IsWhole table (sent_setup q) kept
-  TogetherBy stages.StatusIn q awaited kept d = CarriesOut q d
+  TogetherBy stages.StatusOut q awaited kept d = HasSent d × IsWhole table at_address (sent_setup q) kept
+  TogetherBy stages.StatusIn q awaited kept d = CarriesOut q kept d
   TogetherBy stage q awaited kept d = Unit {0}
 
   -- ---- after an answer
@@ -161,14 +194,14 @@ module _ (table : State → Setup → Outcome) (cut : ℕ) where
   abbrev pub TogetherAfter : TransferStage → Reply → DeviceStage → TransferView → Type 0
   TogetherAfter stages.DataIn reply d t =
       AfterIn (TogetherIn t.request t.awaited t.kept) (λ toggle bytes stage. Took toggle bytes t.packet t.awaited t.kept t.request stage) reply d
-  TogetherAfter stages.StatusOut reply d t = HasSent d × IsWhole table (sent_setup t.request) t.kept
-  TogetherAfter stages.StatusIn reply d t = AfterIn (CarriesOut t.request) (λ toggle bytes stage. toggle ≡ Data1) reply d
+  TogetherAfter stages.StatusOut reply d t = HasSent d × IsWhole table at_address (sent_setup t.request) t.kept
+  TogetherAfter stages.StatusIn reply d t = AfterIn (CarriesOut t.request t.kept) (λ toggle bytes stage. toggle ≡ Data1) reply d
   TogetherAfter stage reply d t = Unit {0}
 
   -- after a transaction: both ends are together, and a STALL in it is a refusal
   pub record StaysTogether (stage : TransferStage) (came : Reply) (d : DeviceStage) (t : TransferView) : Type 0 where
     pub together : TogetherAfter stage came d t
-    pub refuses : came ≡ StallReply → IsRefused table (sent_setup t.request)
+    pub refuses : came ≡ StallReply → IsRefused table at_address (sent_setup t.request) t.kept
 
   pub nothing_after : (stage : TransferStage) (d : DeviceStage) (t : TransferView) → TogetherBy stage t.request t.awaited t.kept d
       → TogetherAfter stage NoReply d t
@@ -208,13 +241,13 @@ module _ (table : State → Setup → Outcome) (cut : ℕ) where
             packets-at all cut q.length k (omega (arith, some)) (omega (arith, fewer k, place, step.within)) (omega (arith, fewer k, place, step.more))
 
     -- nothing changes but where there is a STALL, which is a refusal
-    pub record AtIn (P : DeviceStage → Type 0) (asked : Setup) (r : Served) : Type 0 where
+    pub record AtIn (P : DeviceStage → Type 0) (asked : Setup) (kept : ℕ) (r : Served) : Type 0 where
       pub holds : P r.device.stage
-      pub refuses : r.reply ≡ StallReply → IsRefused table (sent_setup asked)
+      pub refuses : r.reply ≡ StallReply → IsRefused table at_address (sent_setup asked) kept
 
-    either_in : (P : DeviceStage → Type 0) (asked : Setup) (c : Bool) (x y : Served) → AtIn P asked x → AtIn P asked y → AtIn P asked (if c then x else y)
-    either_in P asked true x y p q = p
-    either_in P asked false x y p q = q
+    either_in : (P : DeviceStage → Type 0) (asked : Setup) (kept : ℕ) (c : Bool) (x y : Served) → AtIn P asked kept x → AtIn P asked kept y → AtIn P asked kept (if c then x else y)
+    either_in P asked kept true x y p q = p
+    either_in P asked kept false x y p q = q
 
     nak_stall : {A : Type 0} → NakReply ≡ StallReply → A
     nak_stall e = absurd (let w : ⊥ = cc in w)
@@ -229,26 +262,27 @@ module _ (table : State → Setup → Outcome) (cut : ℕ) where
     data_stall toggle bytes e = absurd (let w : ⊥ = cc in w)
 
     stage_in_data : (asked : Setup) (awaited : Toggle) (kept : ℕ) (s : State) (stage : DeviceStage) → TogetherIn asked awaited kept stage
-        → AtIn (TogetherIn asked awaited kept) asked (served_in table cut s stage)
+        → AtIn (TogetherIn asked awaited kept) asked kept (served_in table cut s stage)
     stage_in_data asked awaited kept s (Sending q all k) step =
         let there = at_place k (packets all cut q.length) (packet_at all k) (sent_there asked awaited kept q all k step) in
-        subst (λ left. AtIn (TogetherIn asked awaited kept) asked (next_packet s (Sending q all k) k left)) (sym there)
+        subst (λ left. AtIn (TogetherIn asked awaited kept) asked kept (next_packet s (Sending q all k) k left)) (sym there)
         (record { holds = step; refuses = data_stall (toggle_of k) (packet_at all k) })
     stage_in_data asked awaited kept s (device.Halted refused) step = record { holds = step; refuses = λ e. step }
     stage_in_data asked awaited kept s stage step = absurd step
 
-    stage_in_status : (asked : Setup) (s : State) (stage : DeviceStage) → CarriesOut asked stage → AtIn (CarriesOut asked) asked (served_in table cut s stage)
-    stage_in_status asked s (StatusIn q carried) step = record { holds = tt; refuses = data_stall Data1 [] }
-    stage_in_status asked s (device.Halted refused) step = record { holds = step; refuses = λ e. step }
-    stage_in_status asked s stage step = absurd step
+    stage_in_status : (asked : Setup) (kept : ℕ) (s : State) (stage : DeviceStage) → CarriesOut asked kept stage
+        → AtIn (CarriesOut asked kept) asked kept (served_in table cut s stage)
+    stage_in_status asked kept s (StatusIn q carried) step = record { holds = step; refuses = data_stall Data1 [] }
+    stage_in_status asked kept s (device.Halted refused) step = record { holds = step; refuses = λ e. step }
+    stage_in_status asked kept s stage step = absurd step
 
-    served_at_in : (P : DeviceStage → Type 0) (asked : Setup) (d : DeviceView) (address : ℕ) (ready : Bool) → P d.stage
-        → AtIn P asked (served_in table cut d.state d.stage) → AtIn P asked (served table cut d (record { address = address; token = InToken }) ready)
-    served_at_in P asked d address ready holds at =
-        either_in P asked (address == d.state.address) (served_here table cut d InToken ready) (replies NoReply d.state d.stage false) (of ready)
+    served_at_in : (P : DeviceStage → Type 0) (asked : Setup) (kept : ℕ) (d : DeviceView) (address : ℕ) (ready : Bool) → P d.stage
+        → AtIn P asked kept (served_in table cut d.state d.stage) → AtIn P asked kept (served table cut d (record { address = address; token = InToken }) ready)
+    served_at_in P asked kept d address ready holds at =
+        either_in P asked kept (address == d.state.address) (served_here table cut d InToken ready) (replies NoReply d.state d.stage false) (of ready)
         (record { holds = holds; refuses = none_stall })
       where
-        of : (ready : Bool) → AtIn P asked (served_here table cut d InToken ready)
+        of : (ready : Bool) → AtIn P asked kept (served_here table cut d InToken ready)
         of true = at
         of false = record { holds = holds; refuses = nak_stall }
 
@@ -278,7 +312,9 @@ module _ (table : State → Setup → Outcome) (cut : ℕ) where
         (record {
           same = step.same;
           state = step.state;
+          is_at = step.is_at;
           answers = step.answers;
+          reads = step.reads;
           count = suc k;
           counted = inl refl;
           awaits = step.awaits ∙ ap toggle_of ahead;
@@ -361,8 +397,10 @@ module _ (table : State → Setup → Outcome) (cut : ℕ) where
               sent_later lost q all k,
               record {
                 state = step.state;
+                is_at = step.is_at;
                 all = all;
                 answers = ap (table step.state) (sym step.same) ∙ step.answers;
+                reads = ap reads_descriptor (sym step.same) ∙ step.reads;
                 count_is = all_came address packet asked q all kept n size_is step.same fits step.within size
                     (left (or_cases (nat_lt n packet) (kept + n == asked.length) e));
               },
@@ -378,7 +416,9 @@ module _ (table : State → Setup → Outcome) (cut : ℕ) where
                 ahead_later lost asked (flipped awaited) (kept + n) q all k (record {
                   same = step.same;
                   state = step.state;
+                  is_at = step.is_at;
                   answers = step.answers;
+                  reads = step.reads;
                   count = suc k;
                   counted = inr refl;
                   awaits = ap flipped (step.awaits ∙ ap toggle_of same);
@@ -416,49 +456,56 @@ module _ (table : State → Setup → Outcome) (cut : ℕ) where
             (subst (TogetherIn asked awaited kept) next.was together) next.toggle_is next.due)
         of (inr empty) = absurd (none_elsewhere asked awaited kept old new.stage toggle bytes empty p.was together)
 
-    status_toggle : (asked : Setup) (old : DeviceStage) (toggle : Toggle) → CarriesOut asked old → in_toggle old ≡ Some toggle → toggle ≡ Data1
-    status_toggle asked (StatusIn q carried) toggle carries is = let e : Data1 ≡ toggle = cc in sym e
-    status_toggle asked (device.Halted refused) toggle carries is = none_some toggle _ is
-    status_toggle asked stage toggle carries is = absurd carries
+    status_toggle : (asked : Setup) (kept : ℕ) (old : DeviceStage) (toggle : Toggle) → CarriesOut asked kept old → in_toggle old ≡ Some toggle → toggle ≡ Data1
+    status_toggle asked kept (StatusIn q carried) toggle carries is = let e : Data1 ≡ toggle = cc in sym e
+    status_toggle asked kept (device.Halted refused) toggle carries is = none_some toggle _ is
+    status_toggle asked kept stage toggle carries is = absurd carries
+
+    -- A device that sends a packet in the status stage carries out the request.
+    pub status_carries : (asked : Setup) (kept : ℕ) (old : DeviceStage) (toggle : Toggle) → CarriesOut asked kept old → in_toggle old ≡ Some toggle
+        → IsCarriedOut table at_address (sent_setup asked) kept
+    status_carries asked kept (StatusIn q carried) toggle carries is = carries
+    status_carries asked kept (device.Halted refused) toggle carries is = none_some toggle _ is
+    status_carries asked kept stage toggle carries is = absurd carries
 
     -- ---- a transaction
 
     -- an IN, of which a packet comes so
-    in_after : (P : DeviceStage → Type 0) (Q : Toggle → List ℕ → DeviceStage → Type 0) (asked : Setup) (fate : Fate) (old : DeviceStage)
-        (reply : Reply) (new : DeviceView) → is_lost_down fate ≡ false → AtIn P asked (record { reply = reply; device = new }) → IsSent table cut old new reply
+    in_after : (P : DeviceStage → Type 0) (Q : Toggle → List ℕ → DeviceStage → Type 0) (asked : Setup) (kept_bytes : ℕ) (fate : Fate) (old : DeviceStage)
+        (reply : Reply) (new : DeviceView) → is_lost_down fate ≡ false → AtIn P asked kept_bytes (record { reply = reply; device = new }) → IsSent table cut old new reply
         → ((toggle : Toggle) (bytes : List ℕ) (lost : Bool) → IsPacket table cut old new toggle bytes → Q toggle bytes (later_stage lost new.stage))
-        → AfterIn P Q (brought fate reply) (after_answer fate (record { reply = reply; device = new })).stage
-        × (brought fate reply ≡ StallReply → IsRefused table (sent_setup asked))
-    in_after P Q asked fates.LostDown old reply new kept at sent takes = absurd (let w : ⊥ = cc in w)
-    in_after P Q asked fates.LostUp old reply new kept at sent takes = (at.holds, none_stall)
-    in_after P Q asked fates.LostAck old (DataReply toggle bytes) new kept at sent takes = (takes toggle bytes true sent, data_stall toggle bytes)
-    in_after P Q asked fates.Pass old (DataReply toggle bytes) new kept at sent takes =
+        → AfterIn P Q (brought fate reply) (after_answer table cut fate (record { reply = reply; device = new })).stage
+        × (brought fate reply ≡ StallReply → IsRefused table at_address (sent_setup asked) kept_bytes)
+    in_after P Q asked kept_bytes fates.LostDown old reply new kept at sent takes = absurd (let w : ⊥ = cc in w)
+    in_after P Q asked kept_bytes fates.LostUp old reply new kept at sent takes = (at.holds, none_stall)
+    in_after P Q asked kept_bytes fates.LostAck old (DataReply toggle bytes) new kept at sent takes = (takes toggle bytes true sent, data_stall toggle bytes)
+    in_after P Q asked kept_bytes fates.Pass old (DataReply toggle bytes) new kept at sent takes =
         (subst (Q toggle bytes) (sym (acked_so table cut new sent.waits)) (takes toggle bytes false sent), data_stall toggle bytes)
-    in_after P Q asked fates.Busy old (DataReply toggle bytes) new kept at sent takes =
+    in_after P Q asked kept_bytes fates.Busy old (DataReply toggle bytes) new kept at sent takes =
         (subst (Q toggle bytes) (sym (acked_so table cut new sent.waits)) (takes toggle bytes false sent), data_stall toggle bytes)
-    in_after P Q asked fate old reply new kept at sent takes = (at.holds, at.refuses)
+    in_after P Q asked kept_bytes fate old reply new kept at sent takes = (at.holds, at.refuses)
 
     pub data_together : (t : TransferView) (d : DeviceView) (fate : Fate) (ready : Bool) → is_lost_down fate ≡ false
         → SizeIsKnown cut t.address t.packet t.request → TogetherIn t.request t.awaited t.kept d.stage
         → (let r = served table cut d (record { address = t.address; token = InToken }) ready in
-        IsSent table cut d.stage r.device r.reply → StaysTogether stages.DataIn (brought fate r.reply) (after_answer fate r).stage t)
+        IsSent table cut d.stage r.device r.reply → StaysTogether stages.DataIn (brought fate r.reply) (after_answer table cut fate r).stage t)
     data_together t d fate ready kept size_is both sent =
         let P = TogetherIn t.request t.awaited t.kept in
         let r = served table cut d (record { address = t.address; token = InToken }) ready in
-        let after = in_after P (λ toggle bytes stage. Took toggle bytes t.packet t.awaited t.kept t.request stage) t.request fate d.stage r.reply r.device kept
-        (served_at_in P t.request d t.address ready both (stage_in_data t.request t.awaited t.kept d.state d.stage both)) sent
+        let after = in_after P (λ toggle bytes stage. Took toggle bytes t.packet t.awaited t.kept t.request stage) t.request t.kept fate d.stage r.reply r.device kept
+        (served_at_in P t.request t.kept d t.address ready both (stage_in_data t.request t.awaited t.kept d.state d.stage both)) sent
         (λ toggle bytes lost. took_packet t.address t.packet t.request t.awaited t.kept d.stage r.device toggle bytes lost size_is both) in
         record { together = after.0; refuses = after.1 }
 
-    pub status_in_together : (t : TransferView) (d : DeviceView) (fate : Fate) (ready : Bool) → is_lost_down fate ≡ false → CarriesOut t.request d.stage
+    pub status_in_together : (t : TransferView) (d : DeviceView) (fate : Fate) (ready : Bool) → is_lost_down fate ≡ false → CarriesOut t.request t.kept d.stage
         → (let r = served table cut d (record { address = t.address; token = InToken }) ready in
-        IsSent table cut d.stage r.device r.reply → StaysTogether stages.StatusIn (brought fate r.reply) (after_answer fate r).stage t)
+        IsSent table cut d.stage r.device r.reply → StaysTogether stages.StatusIn (brought fate r.reply) (after_answer table cut fate r).stage t)
     status_in_together t d fate ready kept both sent =
-        let P = CarriesOut t.request in
+        let P = CarriesOut t.request t.kept in
         let r = served table cut d (record { address = t.address; token = InToken }) ready in
-        let after = in_after P (λ toggle bytes stage. toggle ≡ Data1) t.request fate d.stage r.reply r.device kept
-        (served_at_in P t.request d t.address ready both (stage_in_status t.request d.state d.stage both)) sent
-        (λ toggle bytes lost p. status_toggle t.request d.stage toggle both p.was) in
+        let after = in_after P (λ toggle bytes stage. toggle ≡ Data1) t.request t.kept fate d.stage r.reply r.device kept
+        (served_at_in P t.request t.kept d t.address ready both (stage_in_status t.request t.kept d.state d.stage both)) sent
+        (λ toggle bytes lost p. status_toggle t.request t.kept d.stage toggle both p.was) in
         record { together = after.0; refuses = after.1 }
 
     -- the empty OUT of the status stage
@@ -492,7 +539,7 @@ module _ (table : State → Setup → Outcome) (cut : ℕ) where
         of false = record { holds = sent; quiet = tt }
 
     out_after : {A : Type 0} (fate : Fate) (reply : Reply) (new : DeviceView) → is_lost_down fate ≡ false → HasSent new.stage → IsQuiet reply
-        → HasSent (after_answer fate (record { reply = reply; device = new })).stage × (brought fate reply ≡ StallReply → A)
+        → HasSent (after_answer table cut fate (record { reply = reply; device = new })).stage × (brought fate reply ≡ StallReply → A)
     out_after fates.LostDown reply new kept holds quiet = absurd (let w : ⊥ = cc in w)
     out_after fates.LostUp reply new kept holds quiet = (holds, none_stall)
     out_after fate StallReply new kept holds quiet = absurd quiet
@@ -502,20 +549,20 @@ module _ (table : State → Setup → Outcome) (cut : ℕ) where
     out_after fate NoReply new kept holds quiet = (holds, none_stall)
 
     pub status_out_together : (t : TransferView) (d : DeviceView) (fate : Fate) (ready : Bool) → is_lost_down fate ≡ false
-        → HasSent d.stage × IsWhole table (sent_setup t.request) t.kept
+        → HasSent d.stage × IsWhole table at_address (sent_setup t.request) t.kept
         → (let r = served table cut d (record { address = t.address; token = OutToken Data1 [] }) ready in
-        StaysTogether stages.StatusOut (brought fate r.reply) (after_answer fate r).stage t)
+        StaysTogether stages.StatusOut (brought fate r.reply) (after_answer table cut fate r).stage t)
     status_out_together t d fate ready kept both =
         let r = served table cut d (record { address = t.address; token = OutToken Data1 [] }) ready in
         let held = served_at_out d t.address ready both.0 in
-        let after = out_after {A = IsRefused table (sent_setup t.request)} fate r.reply r.device kept held.holds held.quiet in
+        let after = out_after {A = IsRefused table at_address (sent_setup t.request) t.kept} fate r.reply r.device kept held.holds held.quiet in
         record { together = (after.0, both.1); refuses = after.1 }
 
     -- ---- a SETUP that the device has taken
 
-    pub begun_together : (q : Setup) (s : State) (stage : DeviceStage) → IsAsked q → stage ≡ device.begun (sent_setup q) (table s (sent_setup q))
+    pub begun_together : (q : Setup) (s : State) (stage : DeviceStage) → IsAsked q → IsAt table at_address s → stage ≡ device.begun (sent_setup q) (table s (sent_setup q))
         → TogetherBy (stage_after_setup q) q Data1 0 stage
-    begun_together q s stage asked is = subst (TogetherBy (stage_after_setup q) q Data1 0) (sym is) (of (q.length == 0) refl asked.brings (table s r) refl)
+    begun_together q s stage asked is_at is = subst (TogetherBy (stage_after_setup q) q Data1 0) (sym is) (of (q.length == 0) refl asked.brings asked.reads (table s r) refl)
       where
         r : Setup
         r = sent_setup q
@@ -526,17 +573,22 @@ module _ (table : State → Setup → Outcome) (cut : ℕ) where
         none_sent : q.length ≡ 0 → 0 < r.length → ⊥
         none_sent none positive = let w : ⊥ = omega (arith, none, positive, sent_length q) in w
 
-        carries : q.length ≡ 0 → (o : Outcome) → table s r ≡ o → CarriesOut q (device.begun r o)
+        refused : table s r ≡ Refused → IsRefused table at_address r 0
+        refused e = record { state = s; is_at = is_at; answers = e; count_is = refl }
+
+        carries : q.length ≡ 0 → (o : Outcome) → table s r ≡ o → CarriesOut q 0 (device.begun r o)
         carries none (Bytes all) e = absurd (none_sent none ((is_table.answering s r).bytes all e).0)
-        carries none (Done next) e = tt
-        carries none Refused e = (s, e)
+        carries none (Done next) e = record { state = s; is_at = is_at; next = next; answers = e; none = sent_length q ∙ none; count_is = refl }
+        carries none Refused e = refused e
         carries none (Takes judge) e = absurd (none_sent none ((is_table.answering s r).takes judge e).0)
 
-        reads : (q.length ≡ 0 → ⊥) → direction_of q.request_type ≡ directions.In → (o : Outcome) → table s r ≡ o → TogetherIn q Data1 0 (device.begun r o)
-        reads positive way (Bytes all) e = record {
+        reads : (q.length ≡ 0 → ⊥) → direction_of q.request_type ≡ directions.In → reads_descriptor r ≡ true → (o : Outcome) → table s r ≡ o → TogetherIn q Data1 0 (device.begun r o)
+        reads positive way of_descriptor (Bytes all) e = record {
           same = refl;
           state = s;
+          is_at = is_at;
           answers = e;
+          reads = of_descriptor;
           count = 0;
           counted = inl refl;
           awaits = refl;
@@ -544,12 +596,14 @@ module _ (table : State → Setup → Outcome) (cut : ℕ) where
           within = omega arith;
           more = ((is_table.answering s r).bytes all e).0;
         }
-        reads positive way (Done next) e = absurd (positive (sym (sent_length q) ∙ (is_table.answering s r).done next e))
-        reads positive way Refused e = (s, e)
-        reads positive way (Takes judge) e = absurd (in_out (sym way ∙ ((is_table.answering s r).takes judge e).1))
+        reads positive way of_descriptor (Done next) e = absurd (positive (sym (sent_length q) ∙ (is_table.answering s r).done next e))
+        reads positive way of_descriptor Refused e = refused e
+        reads positive way of_descriptor (Takes judge) e = absurd (in_out (sym way ∙ ((is_table.answering s r).takes judge e).1))
 
-        of : (none : Bool) → (q.length == 0) ≡ none → (direction_of q.request_type ≡ directions.In) ⊎ (q.length ≡ 0) → (o : Outcome) → table s r ≡ o
+        of : (none : Bool) → (q.length == 0) ≡ none → (direction_of q.request_type ≡ directions.In) ⊎ (q.length ≡ 0)
+            → (reads_descriptor r ≡ true) ⊎ (q.length ≡ 0) → (o : Outcome) → table s r ≡ o
             → TogetherBy (if none then stages.StatusIn else data_stage (direction_of q.request_type)) q Data1 0 (device.begun r o)
-        of true z brings o e = carries (same_so q.length 0 z) o e
-        of false z (inl way) o e = subst (λ w. TogetherBy (data_stage w) q Data1 0 (device.begun r o)) (sym way) (reads (not_same q.length 0 z) way o e)
-        of false z (inr none) o e = absurd (not_same q.length 0 z none)
+        of true z brings reading o e = carries (same_so q.length 0 z) o e
+        of false z (inl way) (inl of_descriptor) o e = subst (λ w. TogetherBy (data_stage w) q Data1 0 (device.begun r o)) (sym way) (reads (not_same q.length 0 z) way of_descriptor o e)
+        of false z (inr none) reading o e = absurd (not_same q.length 0 z none)
+        of false z (inl way) (inr none) o e = absurd (not_same q.length 0 z none)

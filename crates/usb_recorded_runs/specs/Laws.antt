@@ -19,6 +19,7 @@ use Rattle.usb_bus.specs.Exchanges.{is_lost_down}
 use Rattle.usb_capture.specs.declared.finding.Finding.TheVariants.{MoreThanAsked, OtherBytes, OtherLength, OtherType, RefusesCounted, RefusesGiven, RefusesNamed, RefusesRequired, RefusesStatus}
 use Rattle.usb_capture.specs.declared.asked.Asked.{Asked}
 use Rattle.usb_capture.specs.declared.control_transfer.ControlTransfer.{ControlTransfer}
+use Rattle.usb_capture.specs.declared.ending.Ending.TheVariants.{Unseen}
 use Rattle.usb_capture.specs.declared.frame.Frame.{Frame}
 use Rattle.usb_capture.specs.declared.packet_finding.PacketFinding.TheVariants.{Long, NoHandshake, NoRequest, NoShortPacket, SetupRefused, Toggle}
 use Rattle.usb_capture.specs.declared.reader.CaptureReader.{CaptureReader}
@@ -207,3 +208,18 @@ abbrev pub NoConversationContradicts : Type 0
 NoConversationContradicts =
     (f : DescriptorFile) (speed : Speed) (transfers : List ControlTransfer) → Accepted f speed → AreBytes (file_bytes f) →
     AllByRecursion (IsOfDevice f) transfers → AllByRecursion (λ finding. IsTransferFreeAfter finding [] transfers) never_found
+
+-- Each control transfer of a recorded enumeration shows the device's answer to its request, in a state to which some requests since a
+-- bus reset lead, unless its end wasn't seen.
+abbrev pub TransfersShowAnswers : Type 0
+TransfersShowAnswers =
+    (f : DescriptorFile) (fates : List Fate) (limits : LimitView) (speed : Speed) (choice : Choice) (earlier : List Pair) (n : ℕ) (last : Pair)
+    (times : ℕ → Option ℕ) → Accepted f speed → IsRun f fates (chosen_pair limits speed choice) earlier n last →
+    AllByRecursion (λ t. (t.ending ≡ Unseen) ⊎ IsOfDevice f t) (transfers_in (received times 1 (exchanges f fates earlier n)))
+
+-- So no answer in a recorded enumeration contradicts the device's descriptors: what is found in no answer of a device is found in none.
+abbrev pub NoAnswerContradicts : Type 0
+NoAnswerContradicts =
+    (f : DescriptorFile) (fates : List Fate) (limits : LimitView) (speed : Speed) (choice : Choice) (earlier : List Pair) (n : ℕ) (last : Pair)
+    (times : ℕ → Option ℕ) → Accepted f speed → AreBytes (file_bytes f) → IsRun f fates (chosen_pair limits speed choice) earlier n last →
+    AllByRecursion (λ finding. IsTransferFreeAfter finding [] (transfers_in (received times 1 (exchanges f fates earlier n)))) never_found

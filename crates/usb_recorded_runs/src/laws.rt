@@ -1,5 +1,5 @@
 //! The functions of these laws do nothing: their contracts are the laws.
-ghost use Rattle.usb_recorded_runs.specs.Laws.{CapturedRunsAreRead, DescriptorsHaveLengths, DescriptorsHaveTypes, EnumerationsAreRuns, HandshakesAreLost, NoConversationContradicts, NoCountedDescriptorIsRefused, NoDescriptorChanges, NoDeviceAnswersSo, NoGivenDescriptorIsRefused, NoLongPacketIsFound, NoNamedStringIsRefused, NoPacketIsDamaged, NoPacketIsLong, NoRequiredDescriptorIsRefused, NoShortPacketLacks, NoToggleIsWrong, NoTransferHasMore, RecordedRunsAreRead, RunsOfBytesAreRuns, SetupsAreTaken, TransfersEndRight};
+ghost use Rattle.usb_recorded_runs.specs.Laws.{CapturedRunsAreRead, DescriptorsHaveLengths, DescriptorsHaveTypes, EnumerationsAreRuns, HandshakesAreLost, NoAnswerContradicts, NoConversationContradicts, NoCountedDescriptorIsRefused, NoDescriptorChanges, NoDeviceAnswersSo, NoGivenDescriptorIsRefused, NoLongPacketIsFound, NoNamedStringIsRefused, NoPacketIsDamaged, NoPacketIsLong, NoRequiredDescriptorIsRefused, NoShortPacketLacks, NoToggleIsWrong, NoTransferHasMore, RecordedRunsAreRead, RunsOfBytesAreRuns, SetupsAreTaken, TransfersEndRight, TransfersShowAnswers};
 
 use usb_bus::laws::a_device_keeps_its_table;
 
@@ -147,4 +147,20 @@ pub fn no_conversation_contradicts()
     ensures { NoConversationContradicts }
 {
     a_device_keeps_its_table();
+}
+
+/// Each transfer of a recorded enumeration whose end is seen shows the device's answer: with STALL a request that the device refuses in its
+/// state, and no bytes; as done one that it carries out, without data; and else all bytes of its answer.
+pub fn each_transfer_shows_an_answer()
+    ensures { TransfersShowAnswers }
+{
+    a_device_keeps_its_table();
+}
+
+/// So none of the nine findings is in a recorded enumeration, whatever was lost on the bus.
+pub fn no_answer_contradicts()
+    ensures { NoAnswerContradicts }
+{
+    a_device_keeps_its_table();
+    no_device_answers_so();
 }
