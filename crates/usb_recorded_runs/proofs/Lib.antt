@@ -16,3 +16,6 @@ pub mod SizeLemmas
 pub mod AnswerLemmas
 pub mod TransferLemmas
 pub mod PlaceLemmas
+pub mod NamedParts
+pub mod FullLengths
+pub mod RequestedLemmas
