@@ -19,3 +19,5 @@ pub mod PlaceLemmas
 pub mod NamedParts
 pub mod FullLengths
 pub mod RequestedLemmas
+pub mod RequestRuns
+pub mod DescribedFiles

@@ -2,7 +2,9 @@
 use Rattle.std.specs.Prelude.{◌≡◌, ◌⊎◌, ℕ, true, false, List, [], Option, None}
 use Rattle.std.specs.List.{AllByRecursion}
 use Rattle.usb_wire.specs.Packets.{IsLegal}
+use Rattle.usb_fields.specs.Bytes.{AreBytes}
 use Rattle.usb_file_data.specs.declared.file.DescriptorFile.{DescriptorFile}
+use Rattle.usb_file_data.specs.File.{file_bytes}
 use Rattle.usb_fields.specs.declared.packet.Speed.{Speed}
 use Rattle.usb_host.specs.declared.choice.Choice.{Choice}
 use Rattle.usb_host.specs.Limits.{LimitView}
@@ -12,6 +14,8 @@ use Rattle.usb_bus.specs.declared.fate.Fate.{Fate}
 use Rattle.usb_bus.specs.DamagedRuns.{DamagedRunsAt}
 use Rattle.usb_bus.specs.Enumerate.{Pair, Runs, chosen_pair}
 use Rattle.usb_bus.specs.Exchanges.{is_lost_down}
+use Rattle.usb_capture.specs.declared.asked.Asked.{Asked}
+use Rattle.usb_capture.specs.declared.device_file.DeviceFile.{DeviceFile}
 use Rattle.usb_capture.specs.declared.finding.Finding.TheVariants.{MoreThanAsked, OtherBytes, OtherType, RefusesStatus}
 use Rattle.usb_capture.specs.declared.frame.Frame.{Frame}
 use Rattle.usb_capture.specs.declared.packet_finding.PacketFinding.TheVariants.{Long, NoHandshake, NoRequest, NoShortPacket, SetupRefused, Toggle}
@@ -19,12 +23,15 @@ use Rattle.usb_capture.specs.declared.reader.CaptureReader.{CaptureReader}
 use Rattle.usb_capture.specs.declared.recorded_packet.RecordedPacket.{RecordedPacket}
 use Rattle.usb_capture.specs.declared.transaction.Transaction.{Transaction}
 use Rattle.usb_capture.specs.BusTransfers.{transfers_in}
+use Rattle.usb_capture.specs.DeviceFiles.{IsMade}
+use Rattle.usb_capture.specs.DeviceReadings.{current_after}
 use Rattle.usb_capture.specs.PacketFindings.{damage_in, is_found}
 use Rattle.usb_capture.specs.PacketSizes.{is_long, size_at}
 use Rattle.usb_capture.specs.Reading.{IsRead}
 use Rattle.usb_capture.specs.Recordings.{transactions_in}
 use Rattle.usb_recorded_runs.specs.Captures.{AreOfFrames, Moment, capture_of, frames, times}
 use Rattle.usb_recorded_runs.specs.Exchanges.{exchanges, received, packets_in, transaction_of}
+use Rattle.usb_recorded_runs.specs.Files.{IsOfDescription}
 use Rattle.usb_recorded_runs.specs.Findings.{IsFreeAfter, IsTransferFreeAfter, LosesHandshake}
 
 -- A run from a new pair on, of n transactions under these fates, as that of an enumeration: these are the pairs on the way, the newest
@@ -133,3 +140,13 @@ HandshakesAreLost =
     (λ x. (number : ℕ) (time : Option ℕ) (before : List Transaction) → is_lost_down x.fate ≡ false →
     is_found NoHandshake before (transaction_of number time x) ≡ true → LosesHandshake x)
     (exchanges f fates earlier n)
+
+-- A file that is made of what is kept of a device is that of its description, and so is a dump, of a device with accepted
+-- descriptors, whose numbers are within their widths.
+abbrev pub FilesAreDescriptions : Type 0
+FilesAreDescriptions =
+    (f : DescriptorFile) (fates : List Fate) (limits : LimitView) (speed : Speed) (choice : Choice) (earlier : List Pair) (n : ℕ) (last : Pair)
+    (times : ℕ → Option ℕ) (device : Asked) (made : DeviceFile) → Accepted f speed → AreBytes (file_bytes f) →
+    IsRun f fates (chosen_pair limits speed choice) earlier n last →
+    (let kept = current_after [] (transfers_in (received times 1 (exchanges f fates earlier n))) in
+    IsMade kept device made → IsOfDescription f kept device made)

@@ -1,4 +1,5 @@
 pub mod Exchanges
 pub mod Captures
 pub mod Findings
+pub mod Files
 pub mod Laws

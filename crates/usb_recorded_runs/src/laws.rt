@@ -1,5 +1,5 @@
 //! The functions of these laws do nothing: their contracts are the laws.
-ghost use Rattle.usb_recorded_runs.specs.Laws.{CapturedRunsAreRead, DescriptorsHaveTypes, HandshakesAreLost, NoDescriptorChanges, NoLongPacketIsFound, NoPacketIsDamaged, NoPacketIsLong, NoShortPacketLacks, NoToggleIsWrong, NoTransferHasMore, RecordedRunsAreRead, RunsOfBytesAreRuns, SetupsAreTaken};
+ghost use Rattle.usb_recorded_runs.specs.Laws.{CapturedRunsAreRead, DescriptorsHaveTypes, FilesAreDescriptions, HandshakesAreLost, NoDescriptorChanges, NoLongPacketIsFound, NoPacketIsDamaged, NoPacketIsLong, NoShortPacketLacks, NoToggleIsWrong, NoTransferHasMore, RecordedRunsAreRead, RunsOfBytesAreRuns, SetupsAreTaken};
 
 use usb_bus::laws::a_device_keeps_its_table;
 
@@ -81,3 +81,11 @@ pub fn each_descriptor_has_its_type()
 pub fn a_handshake_lacks_by_a_loss()
     ensures { HandshakesAreLost }
 {}
+
+/// A descriptor file that is made of such a recording is the description's own, byte for byte. Without the other speed, whose
+/// qualifier may not have come, it is the file without it; and a dump is the device descriptor with its configurations.
+pub fn a_device_file_is_the_description()
+    ensures { FilesAreDescriptions }
+{
+    a_device_keeps_its_table();
+}
