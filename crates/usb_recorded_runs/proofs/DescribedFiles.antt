@@ -6,10 +6,11 @@ use Rattle.std.specs.Option.{option_map}
 use Rattle.std.proofs.lemmas.Bool.Decides.{nat_tests}
 use Rattle.std.proofs.lemmas.Grind.{flat_map-append}
 use Rattle.std.proofs.lemmas.List.{append-nil, length-take}
-use Rattle.std.proofs.lemmas.List.Elements.{All-filter}
+use Rattle.std.proofs.lemmas.List.Elements.{All-filter, All-nil, recursion_from_All}
 use Rattle.usb_fields.specs.Bytes.{AreBytes, little_endian}
 use Rattle.usb_fields.specs.Device.{device_bytes, qualifier_bytes}
 use Rattle.usb_fields.specs.Units.{units_bytes}
+use Rattle.usb_fields.specs.declared.packet.Speed.{Speed}
 use Rattle.usb_fields.specs.declared.setup.Setup.{Setup}
 use Rattle.usb_set.specs.declared.tree.Configuration.{Configuration}
 use Rattle.usb_file_data.specs.declared.file.DescriptorFile.{DescriptorFile}
@@ -19,10 +20,10 @@ use Rattle.usb_file_data.specs.File.{each_string_bytes, file_bytes, has_no_layou
 use Rattle.usb_file_data.specs.Findings.{findings}
 use Rattle.usb_file_data.proofs.Sorting.{device_right}
 use Rattle.usb_host.proofs.ReadLemmas.{byte_at}
-use Rattle.usb_device.specs.Accepted.{has_wrong_sets}
+use Rattle.usb_device.specs.Accepted.{Accepted, has_wrong_sets}
 use Rattle.usb_device.specs.Descriptors.{descriptor, other_set_at, qualifier_of, set_at, string_at}
 use Rattle.usb_bus.specs.Asked.{asked_of as asked_file, strings_of, texts_of, without_strings}
-use Rattle.usb_bus.proofs.AskedTexts.{at_drop, drop_next}
+use Rattle.usb_bus.proofs.AskedTexts.{all_asked, at_drop, drop_next}
 use Rattle.usb_capture.specs.declared.asked.Asked.{Asked}
 use Rattle.usb_capture.specs.declared.control_transfer.ControlTransfer.{ControlTransfer}
 use Rattle.usb_capture.specs.DeviceFiles as made
@@ -36,6 +37,7 @@ use Rattle.usb_recorded_runs.proofs.AnswerLemmas.{described_by}
 use Rattle.usb_recorded_runs.proofs.FullLengths.{whole_front}
 use Rattle.usb_recorded_runs.proofs.NamedParts.{front_bytes, named_same}
 use Rattle.usb_recorded_runs.proofs.RequestRuns.{IsAskedAt}
+use Rattle.usb_recorded_runs.proofs.RequestedLemmas.{HasRequest}
 use Rattle.usb_recorded_runs.proofs.SizeLemmas.{IsSound}
 
 or_parts : (a b : Bool) → (a || b) ≡ false → (a ≡ false) × (b ≡ false)
@@ -47,6 +49,17 @@ same_number m n e = grind (arith, nat_tests)
 
 pub packet_eight : (f : DescriptorFile) → findings f ≡ [] → 8 ≤ f.device.packet
 packet_eight f none = let d = device_right f none in grind (arith, nat_tests)
+
+-- ---- the file that is asked for
+
+abbrev asked_with : DescriptorFile → Option Other → DescriptorFile
+asked_with f o =
+    let g : DescriptorFile = record { device = f.device; sets = f.sets; other = o; strings = None } in
+    record g { strings = strings_of f (named_indices g) f.strings }
+
+-- With the other speed, if there is one, it is the whole.
+pub whole_file : (f : DescriptorFile) (speed : Speed) (came : Bool) → Accepted f speed → (if came then f.other else None) ≡ f.other → asked_file (all_with came) f ≡ f
+whole_file f speed came accepted same = ap (asked_with f) same ∙ all_asked f speed accepted
 
 -- ---- readings
 
@@ -81,7 +94,7 @@ module _ (f : DescriptorFile) where
     pub sound : IsSound f.device.packet (described_by f) t
     pub asked : IsAskedAt t.device t.setup
 
-  read_whole : (t : ControlTransfer) → Reads t → 8 ≤ f.device.packet → descriptor f (t.setup.value / 256) (t.setup.value % 256) t.setup.index ≡ Some t.data
+  pub read_whole : (t : ControlTransfer) → Reads t → 8 ≤ f.device.packet → descriptor f (t.setup.value / 256) (t.setup.value % 256) t.setup.index ≡ Some t.data
   read_whole t reads size =
       whole_front f (t.setup.value / 256) (t.setup.value % 256) t.setup.index t.data (reads.sound.front is.is_read is.is_ended is.is_kept) few is.has_all
     where
@@ -99,11 +112,22 @@ module _ (f : DescriptorFile) where
               inr (all ∙ take_all t.setup.length (described_by f t.setup) within)
 
 -- what holds of readings holds of those that are kept
-pub current_all : (P : ControlTransfer → Type 0) (kept ts : List ControlTransfer) → All P kept → AllByRecursion (λ t. is_reading t ≡ true → P t) ts → All P (current_after kept ts)
+current_all : (P : ControlTransfer → Type 0) (kept ts : List ControlTransfer) → All P kept → AllByRecursion (λ t. is_reading t ≡ true → P t) ts → All P (current_after kept ts)
 current_all P kept [] each later = each
 current_all P kept (t ∷ ts) each later =
     let left = λ (old : ControlTransfer). not (is_past (is_other_device t kept) t old) in
     current_all P (current_with t kept) ts (one_more P t (filter left kept) (All-filter left P kept each) later.0) later.1
+
+module _ (f : DescriptorFile) where
+  all_read : (ts : List ControlTransfer) → AllByRecursion (IsSound f.device.packet (described_by f)) ts → AllByRecursion (HasRequest IsAskedAt) ts
+      → AllByRecursion (λ t. is_reading t ≡ true → Reads f t) ts
+  all_read [] sound asked = tt
+  all_read (t ∷ ts) sound asked = (λ read. record { is_read = read; sound = sound.0; asked = asked.0 }, all_read ts sound.1 asked.1)
+
+  -- All that is kept of such transfers are readings.
+  pub reads_kept : (ts : List ControlTransfer) → AllByRecursion (IsSound f.device.packet (described_by f)) ts → AllByRecursion (HasRequest IsAskedAt) ts
+      → AllByRecursion (Reads f) (current_after [] ts)
+  reads_kept ts sound asked = recursion_from_All (Reads f) (current_after [] ts) (current_all (Reads f) [] ts (All-nil (Reads f)) (all_read ts sound asked))
 
 find_holds : (P : ControlTransfer → Type 0) (test : ControlTransfer → Bool) (xs : List ControlTransfer) (t : ControlTransfer) → AllByRecursion P xs → find test xs ≡ Some t
     → P t × (test t ≡ true)
@@ -172,7 +196,7 @@ module _ (kept : List ControlTransfer) where
             ∙ read_whole f t found.0 size
             ∙ ap Some bytes
 
-    some_same : (a b : List ℕ) → Some a ≡ Some b → b ≡ a
+    pub some_same : (a b : List ℕ) → Some a ≡ Some b → b ≡ a
     some_same a b e = cc
 
     -- sets, by the wValue of the first
@@ -203,10 +227,10 @@ module _ (kept : List ControlTransfer) where
 
     -- ---- strings
 
-    abbrev IsIndex : ℕ → Type 0
+    abbrev pub IsIndex : ℕ → Type 0
     IsIndex n = (0 < n) × (n < 256)
 
-    abbrev string_asked : Asked → ℕ → ℕ → Asked
+    abbrev pub string_asked : Asked → ℕ → ℕ → Asked
     string_asked device language n = record device { value = 768 + n % 256; index = language }
 
     module _ (device : Asked) (s : Strings) (is : f.strings ≡ Some s) where
@@ -253,7 +277,7 @@ module _ (kept : List ControlTransfer) where
           ∙ ap₂ ◌++◌ (texts_come l named both.front small both.front_is) (languages_come named ls both.rest small both.rest_is)
           ∙ sym (flat_map-append units_bytes (map (λ n. unwrap_or (units_of f n l) []) named) (texts_of f named ls))
 
-    codes_back : (ls : List ℕ) → codes_in (flat_map little_endian ls) ≡ ls
+    pub codes_back : (ls : List ℕ) → codes_in (flat_map little_endian ls) ≡ ls
     codes_back [] = refl
     codes_back (l ∷ ls) = let same : l % 256 + 256 * (l / 256) ≡ l = omega arith in ap₂ (λ x xs. x ∷ xs) same (codes_back ls)
 
@@ -307,10 +331,10 @@ module _ (kept : List ControlTransfer) where
       counted : (m n : ℕ) → not (m == n) ≡ false → m ≡ n
       counted m n e = grind (arith, nat_tests)
 
-      own_count : length f.sets ≡ f.device.configurations
+      pub own_count : length f.sets ≡ f.device.configurations
       own_count = counted (length f.sets) f.device.configurations (or_parts (not (length f.sets == f.device.configurations)) (is_other_miscounted f.other) sets_right.0).0
 
-      other_count : (o : Other) → f.other ≡ Some o → length o.sets ≡ o.qualifier.configurations
+      pub other_count : (o : Other) → f.other ≡ Some o → length o.sets ≡ o.qualifier.configurations
       other_count o is =
           counted (length o.sets) o.qualifier.configurations
           (sym (ap is_other_miscounted is) ∙ (or_parts (not (length f.sets == f.device.configurations)) (is_other_miscounted f.other) sets_right.0).1)
@@ -337,10 +361,10 @@ module _ (kept : List ControlTransfer) where
             let one : first.one ≡ device_bytes f.device = some_same (device_bytes f.device) first.one (part_is (beside device 256) first.one first.one_is) in
             first.joins ∙ ap₂ ◌++◌ one (sets_come device 512 f.sets (own_at device) 0 f.sets first.rest (omega (arith, own_few, own_count)) refl first.rest_is)
 
-        abbrev other_if : Bool → Option Other
+        abbrev pub other_if : Bool → Option Other
         other_if came = if came then f.other else None
 
-        other_is : (b : List ℕ) → parts kept (other_parts device (part kept (beside device 1536))) ≡ Some b → b ≡ other_bytes (other_if (has_qualifier kept device))
+        pub other_is : (b : List ℕ) → parts kept (other_parts device (part kept (beside device 1536))) ≡ Some b → b ≡ other_bytes (other_if (has_qualifier kept device))
         other_is b e = of (part kept (beside device 1536)) refl e
           where
             of : (q : Option (List ℕ)) → part kept (beside device 1536) ≡ q → parts kept (other_parts device q) ≡ Some b → b ≡ other_bytes (other_if (is_some q))
@@ -361,10 +385,10 @@ module _ (kept : List ControlTransfer) where
                     first.joins ∙ ap₂ ◌++◌ one rest ∙ sym (ap other_bytes at)
 
         -- without strings
-        abbrev front_file : DescriptorFile
+        abbrev pub front_file : DescriptorFile
         front_file = without_strings (all_with (has_qualifier kept device)) f
 
-        layouts_right : has_wrong_layout front_file ≡ false
+        pub layouts_right : has_wrong_layout front_file ≡ false
         layouts_right = of (has_qualifier kept device) (or_parts (list_any has_no_layout f.sets) (list_any has_no_layout (other_sets f.other)) sets_right.1)
           where
             of : (came : Bool) → (list_any has_no_layout f.sets ≡ false) × (list_any has_no_layout (other_sets f.other) ≡ false)
@@ -381,7 +405,7 @@ module _ (kept : List ControlTransfer) where
             of true later = ((some, omega (arith, few)), later)
             of false later = later
 
-        indices_small : (g : DescriptorFile) → AllByRecursion IsIndex (named_indices g)
+        pub indices_small : (g : DescriptorFile) → AllByRecursion IsIndex (named_indices g)
         unfolding named_among
         indices_small g = filter_small (λ n. list_any (λ index. index == n) (string_indices g)) 1 255 (omega arith) (omega arith)
 

@@ -21,3 +21,8 @@ pub mod FullLengths
 pub mod RequestedLemmas
 pub mod RequestRuns
 pub mod DescribedFiles
+pub mod KeptParts
+pub mod FollowLemmas
+pub mod PlaceParts
+pub mod FollowedRuns
+pub mod GivenFiles

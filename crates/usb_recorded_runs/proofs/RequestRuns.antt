@@ -85,7 +85,7 @@ due_setup t stages.StatusIn sent e bytes is = in_setup bytes (token_same _ sent 
 due_setup t stages.Completed sent e bytes is = absurd (let w : ⊥ = cc in w)
 due_setup t (stages.Failed why) sent e bytes is = absurd (let w : ⊥ = cc in w)
 
-abbrev AsksFor : Exchange → Type 0
+abbrev pub AsksFor : Exchange → Type 0
 AsksFor x = (bytes : List ℕ) → x.sent.token ≡ SetupToken bytes → IsAskedAt x.sent.address (setup_at bytes 0)
 
 phase_asks : (limits : LimitView) (phase : HostPhase) (sent : Sent) → wanted phase ≡ WantsSent sent → InOrder limits phase → (bytes : List ℕ) → sent.token ≡ SetupToken bytes
@@ -99,7 +99,7 @@ phase_asks limits (Reading place t k) sent due order bytes is =
 
 -- ---- what is received
 
-token_asks : (token : Token) (address : ℕ) (came : Reply) → ((bytes : List ℕ) → token ≡ SetupToken bytes → IsAskedAt address (setup_at bytes 0)) → (setup : Setup)
+pub token_asks : (token : Token) (address : ℕ) (came : Reply) → ((bytes : List ℕ) → token ≡ SetupToken bytes → IsAskedAt address (setup_at bytes 0)) → (setup : Setup)
     → request_by (token_kind token) (data_received token came) ≡ Some setup → IsAskedAt address setup
 token_asks (SetupToken bytes) address came is setup e = of (length bytes == 8) e
   where
@@ -109,7 +109,7 @@ token_asks (SetupToken bytes) address came is setup e = of (length bytes == 8) e
 token_asks InToken address came is setup e = absurd (let w : ⊥ = cc in w)
 token_asks (OutToken toggle bytes) address came is setup e = absurd (let w : ⊥ = cc in w)
 
-all_of : (times : ℕ → Option ℕ) (number : ℕ) (xs : List Exchange) → AllByRecursion AsksFor xs → AllByRecursion (IsOf IsAskedAt) (received times number xs)
+pub all_of : (times : ℕ → Option ℕ) (number : ℕ) (xs : List Exchange) → AllByRecursion AsksFor xs → AllByRecursion (IsOf IsAskedAt) (received times number xs)
 all_of times number [] each = tt
 all_of times number (x ∷ xs) each = of (is_lost_down x.fate) (all_of times (number + length (packets_of x)) xs each.1)
   where
@@ -124,12 +124,12 @@ module _ (f : DescriptorFile) (list : List Fate) where
   abbrev made_of : DeviceView → Sent → Fate → Exchange
   made_of d sent fate = record { fate = fate; sent = sent; address = d.state.address; answered = answered f d sent fate }
 
-  record OrderedRun (new : Pair) (earlier : List Pair) (n : ℕ) (last : Pair) : Type 0 where
-    asked : AllByRecursion AsksFor (exchanges f list earlier n)
-    limits : last.host.limits ≡ new.host.limits
-    order : InOrder last.host.limits last.host.phase
+  pub record OrderedRun (new : Pair) (earlier : List Pair) (n : ℕ) (last : Pair) : Type 0 where
+    pub asked : AllByRecursion AsksFor (exchanges f list earlier n)
+    pub limits : last.host.limits ≡ new.host.limits
+    pub order : InOrder last.host.limits last.host.phase
 
-  ordered_run : (new : Pair) (earlier : List Pair) (n : ℕ) (last : Pair) → new.host.phase ≡ ResetDue → RunsAt (answer f) f.device.packet list new earlier n last → OrderedRun new earlier n last
+  pub ordered_run : (new : Pair) (earlier : List Pair) (n : ℕ) (last : Pair) → new.host.phase ≡ ResetDue → RunsAt (answer f) f.device.packet list new earlier n last → OrderedRun new earlier n last
   ordered_run new [] n last due (same, none) = record {
     asked = tt;
     limits = ap (λ y. y.host.limits) same;

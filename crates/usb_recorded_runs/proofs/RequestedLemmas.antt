@@ -333,16 +333,22 @@ module _ (Q : ℕ → Setup → Type 0) where
   HasRequest transfer = Q transfer.device transfer.setup
 
   abbrev IsOpen : OpenTransfer → Type 0
-  IsOpen one = HasRequest one.transfer
+  IsOpen one = HasRequest one.transfer × (one.transfer.device ≡ one.id)
 
-  found_request : (id : ℕ) (opens : List OpenTransfer) (transfer : ControlTransfer) → AllByRecursion IsOpen opens → open_with id opens ≡ Some transfer → HasRequest transfer
+  abbrev IsAt : ℕ → ControlTransfer → Type 0
+  IsAt address transfer = HasRequest transfer × (transfer.device ≡ address)
+
+  same_id : (m n : ℕ) → (m == n) ≡ true → m ≡ n
+  same_id m n e = grind (arith, nat_tests)
+
+  found_request : (id : ℕ) (opens : List OpenTransfer) (transfer : ControlTransfer) → AllByRecursion IsOpen opens → open_with id opens ≡ Some transfer → IsAt id transfer
   unfolding open_with
   found_request id [] transfer each is = absurd (let w : ⊥ = cc in w)
-  found_request id (one ∷ opens) transfer each is = of (one.id == id) is (found_request id opens transfer each.1)
+  found_request id (one ∷ opens) transfer each is = of (one.id == id) refl is (found_request id opens transfer each.1)
     where
-      of : (t : Bool) → (if t then Some one.transfer else open_with id opens) ≡ Some transfer → (open_with id opens ≡ Some transfer → HasRequest transfer) → HasRequest transfer
-      of true e later = let same : one.transfer ≡ transfer = cc in subst HasRequest same each.0
-      of false e later = later e
+      of : (t : Bool) → (one.id == id) ≡ t → (if t then Some one.transfer else open_with id opens) ≡ Some transfer → (open_with id opens ≡ Some transfer → IsAt id transfer) → IsAt id transfer
+      of true here e later = let same : one.transfer ≡ transfer = cc in subst (IsAt id) same (each.0.0, each.0.1 ∙ same_id one.id id here)
+      of false here e later = later e
 
   without_request : (id : ℕ) (opens : List OpenTransfer) → AllByRecursion IsOpen opens → AllByRecursion IsOpen (without id opens)
   unfolding without
@@ -357,35 +363,35 @@ module _ (Q : ℕ → Setup → Type 0) where
   push_request [] one is each = (is, tt)
   push_request (first ∷ opens) one is each = (each.0, push_request opens one is each.1)
 
-  packet_request : (packet : Option DataPacket) (transfer : ControlTransfer) → HasRequest transfer → HasRequest (with_packet packet transfer)
-  packet_request None transfer is = is
-  packet_request (Some packet) transfer is = of (nat_le (length transfer.data + length packet.bytes) 65535) _ _ is is
+  packet_request : (address : ℕ) (packet : Option DataPacket) (transfer : ControlTransfer) → IsAt address transfer → IsAt address (with_packet packet transfer)
+  packet_request address None transfer is = is
+  packet_request address (Some packet) transfer is = of (nat_le (length transfer.data + length packet.bytes) 65535) _ _ is is
     where
-      of : (c : Bool) (x y : ControlTransfer) → HasRequest x → HasRequest y → HasRequest (if c then x else y)
+      of : (c : Bool) (x y : ControlTransfer) → IsAt address x → IsAt address y → IsAt address (if c then x else y)
       of true x y p q = p
       of false x y p q = q
 
-  abbrev AllOpen : Pipes → Type 0
+  abbrev pub AllOpen : Pipes → Type 0
   AllOpen pipes = AllByRecursion IsOpen pipes.held
 
-  with_request : (part : Part) (t : Transaction) (transfer : ControlTransfer) (toggle : DataToggle) (pipes : Pipes) → HasRequest transfer → AllOpen pipes
+  with_request : (part : Part) (t : Transaction) (transfer : ControlTransfer) (toggle : DataToggle) (pipes : Pipes) → IsAt t.to.address transfer → AllOpen pipes
       → AllOpen (pipes_with part t transfer toggle pipes)
-  with_request parts.Data t transfer toggle pipes is each = push_request pipes.held (opened t.to.address (with_packet t.data transfer)) (packet_request t.data transfer is) each
+  with_request parts.Data t transfer toggle pipes is each = push_request pipes.held (opened t.to.address (with_packet t.data transfer)) (packet_request t.to.address t.data transfer is) each
   with_request parts.Neither t transfer toggle pipes is each = push_request pipes.held (opened t.to.address transfer) is each
   with_request (parts.Status ending) t transfer toggle pipes is each = each
 
-  abbrev IfGiven : Option ControlTransfer → Type 0
-  IfGiven None = Unit {0}
-  IfGiven (Some transfer) = HasRequest transfer
+  abbrev IfGiven : ℕ → Option ControlTransfer → Type 0
+  IfGiven address None = Unit {0}
+  IfGiven address (Some transfer) = IsAt address transfer
 
-  part_given : (part : Part) (t : Transaction) (transfer : ControlTransfer) → HasRequest transfer → IfGiven (over_with_part part t transfer)
+  part_given : (part : Part) (t : Transaction) (transfer : ControlTransfer) → IsAt t.to.address transfer → IfGiven t.to.address (over_with_part part t transfer)
   part_given (parts.Status ending) t transfer is = is
   part_given parts.Data t transfer is = tt
   part_given parts.Neither t transfer is = tt
 
   record Goes (t : Transaction) (pipes : Pipes) : Type 0 where
     after : AllOpen (pipes_after t pipes)
-    given : IfGiven (transfer_over t pipes)
+    given : IfGiven t.to.address (transfer_over t pipes)
 
   goes : (t : Transaction) (pipes : Pipes) → IsOf t → AllOpen pipes → Goes t pipes
   goes t pipes is each = of (request_of t) (open_with t.to.address pipes.held) refl refl
@@ -394,17 +400,17 @@ module _ (Q : ℕ → Setup → Type 0) where
       left = without_request t.to.address pipes.held each
 
       so : (r : Option Setup) (o : Option ControlTransfer) → request_of t ≡ r → open_with t.to.address pipes.held ≡ o
-          → AllOpen (pipes_by r o t (closed t.to.address pipes)) → IfGiven (over_by r o t pipes) → Goes t pipes
+          → AllOpen (pipes_by r o t (closed t.to.address pipes)) → IfGiven t.to.address (over_by r o t pipes) → Goes t pipes
       so r o a b after given = record {
         after = subst (λ r. AllOpen (pipes_by r (open_with t.to.address pipes.held) t (closed t.to.address pipes))) (sym a)
             (subst (λ o. AllOpen (pipes_by r o t (closed t.to.address pipes))) (sym b) after);
-        given = subst (λ r. IfGiven (over_by r (open_with t.to.address pipes.held) t pipes)) (sym a) (subst (λ o. IfGiven (over_by r o t pipes)) (sym b) given);
+        given = subst (λ r. IfGiven t.to.address (over_by r (open_with t.to.address pipes.held) t pipes)) (sym a) (subst (λ o. IfGiven t.to.address (over_by r o t pipes)) (sym b) given);
       }
 
       of : (r : Option Setup) (o : Option ControlTransfer) → request_of t ≡ r → open_with t.to.address pipes.held ≡ o → Goes t pipes
-      of (Some setup) None a b = so (Some setup) None a b (push_request (without t.to.address pipes.held) _ (is setup a) left) tt
+      of (Some setup) None a b = so (Some setup) None a b (push_request (without t.to.address pipes.held) _ (is setup a, refl) left) tt
       of (Some setup) (Some transfer) a b =
-          so (Some setup) (Some transfer) a b (push_request (without t.to.address pipes.held) _ (is setup a) left) (found_request t.to.address pipes.held transfer each b)
+          so (Some setup) (Some transfer) a b (push_request (without t.to.address pipes.held) _ (is setup a, refl) left) (found_request t.to.address pipes.held transfer each b)
       of None None a b = so None None a b left tt
       of None (Some transfer) a b =
           let one = found_request t.to.address pipes.held transfer each b in
@@ -412,15 +418,26 @@ module _ (Q : ℕ → Setup → Type 0) where
           (with_request (part_at t transfer (closed t.to.address pipes)) t transfer (toggle_after (part_at t transfer (closed t.to.address pipes)) t (toggle_at t.to.address (closed t.to.address pipes))) (closed t.to.address pipes) one left)
           (part_given (part_at t transfer pipes) t transfer one)
 
-  given_first : (o : Option ControlTransfer) (later : List ControlTransfer) → IfGiven o → AllByRecursion HasRequest later → AllByRecursion HasRequest (option_to_list o ++ later)
-  given_first None later is each = each
-  given_first (Some transfer) later is each = (is, each)
+  given_first : (address : ℕ) (o : Option ControlTransfer) (later : List ControlTransfer) → IfGiven address o → AllByRecursion HasRequest later → AllByRecursion HasRequest (option_to_list o ++ later)
+  given_first address None later is each = each
+  given_first address (Some transfer) later is each = (is.0, each)
 
   all_given : (pipes : Pipes) (ts : List Transaction) → AllByRecursion IsOf ts → AllOpen pipes → AllByRecursion HasRequest (given_in pipes_after transfer_over pipes ts)
   all_given pipes [] is each = tt
   all_given pipes (t ∷ ts) is each =
       let now = goes t pipes is.0 each in
-      given_first (transfer_over t pipes) (given_in pipes_after transfer_over (pipes_after t pipes) ts) now.given (all_given (pipes_after t pipes) ts is.1 now.after)
+      given_first t.to.address (transfer_over t pipes) (given_in pipes_after transfer_over (pipes_after t pipes) ts) now.given (all_given (pipes_after t pipes) ts is.1 now.after)
+
+  all_then : (pipes : Pipes) (ts : List Transaction) → AllByRecursion IsOf ts → AllOpen pipes → AllOpen (after_all pipes_after transfer_over pipes ts)
+  all_then pipes [] is each = each
+  all_then pipes (t ∷ ts) is each = all_then (pipes_after t pipes) ts is.1 (goes t pipes is.0 each).after
+
+  -- A transfer that is over with a transaction is of its address.
+  pub over_address : (ts : List Transaction) (t : Transaction) (transfer : ControlTransfer) → AllByRecursion IsOf ts → IsOf t → transfer_over t (pipes_in ts) ≡ Some transfer
+      → transfer.device ≡ t.to.address
+  over_address ts t transfer each is e =
+      let given = (goes t (pipes_in ts) is (all_then none_open ts each tt)).given in
+      let here : IfGiven t.to.address (Some transfer) = subst (IfGiven t.to.address) e given in here.1
 
   -- What holds of the request of each transaction holds of that of each transfer.
   pub all_requests : (ts : List Transaction) → AllByRecursion IsOf ts → AllByRecursion HasRequest (transfers_in ts)

@@ -160,7 +160,7 @@ module _ (size : ℕ) (f : DescriptorFile) where
 -- ---- the type of a descriptor
 
 -- A descriptor, if there is one, has this type in its second byte.
-abbrev TypeIs : ℕ → Option (List ℕ) → Type 0
+abbrev pub TypeIs : ℕ → Option (List ℕ) → Type 0
 TypeIs kind None = Unit {0}
 TypeIs kind (Some b) = slice_index b 1 ≡ kind
 
@@ -213,7 +213,7 @@ other_type None index none = tt
 other_type (Some other) index none = sets_type kinds.OtherSpeed other.sets index none
 
 -- each descriptor of accepted ones has the type that it is asked for by
-descriptor_type : (f : DescriptorFile) (kind index language : ℕ) → has_wrong_kind f ≡ false → TypeIs kind (descriptor f kind index language)
+pub descriptor_type : (f : DescriptorFile) (kind index language : ℕ) → has_wrong_kind f ≡ false → TypeIs kind (descriptor f kind index language)
 descriptor_type f kind index language right = of (kind == 1) (kind == 2) (kind == 3) (kind == 6) (kind == 7) refl refl refl refl refl
   where
     same : (n : ℕ) (is : Bool) → (kind == n) ≡ is → is ≡ true → n ≡ kind
@@ -239,7 +239,7 @@ descriptor_type f kind index language right = of (kind == 1) (kind == 2) (kind =
 less_so : (n : ℕ) → nat_lt 1 n ≡ true → 1 < n
 less_so n e = grind (arith, nat_tests)
 
-front_type : (kind : ℕ) (o : Option (List ℕ)) (bytes : List ℕ) → TypeIs kind o → IsFront bytes (unwrap_or o []) → 1 < length bytes → slice_index bytes 1 ≡ kind
+pub front_type : (kind : ℕ) (o : Option (List ℕ)) (bytes : List ℕ) → TypeIs kind o → IsFront bytes (unwrap_or o []) → 1 < length bytes → slice_index bytes 1 ≡ kind
 front_type kind None [] is front some = absurd (let w : ⊥ = omega (arith, some) in w)
 front_type kind None (x ∷ bytes) is front some = absurd (let e : x ∷ (bytes ++ front.0) ≡ [] = front.1 in let w : ⊥ = cc in w)
 front_type kind (Some b) bytes is front some = sym (get_or_append_left bytes front.0 0 1 some) ∙ ap (λ z. slice_index z 1) front.1 ∙ is
@@ -254,7 +254,7 @@ type_right size f t right is = not_other (brings_descriptor t) (slice_index t.da
     front_type (t.setup.value / 256) (descriptor f (t.setup.value / 256) (t.setup.value % 256) t.setup.index) t.data
     (descriptor_type f (t.setup.value / 256) (t.setup.value % 256) t.setup.index right) (is.front parts.is_read parts.is_ended parts.is_kept) (less_so (length t.data) parts.of_type))
 
-accepted_kinds : (f : DescriptorFile) → has_wrong_sets f ≡ false → has_wrong_kind f ≡ false
+pub accepted_kinds : (f : DescriptorFile) → has_wrong_sets f ≡ false → has_wrong_kind f ≡ false
 unfolding has_wrong_sets
 accepted_kinds f e = (or_parts (has_wrong_count f) (has_wrong_kind f) (or_parts (has_wrong_count f || has_wrong_kind f) (has_wrong_layout f) e).0).1
 

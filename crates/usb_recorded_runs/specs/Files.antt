@@ -1,5 +1,5 @@
 -- The descriptor file that a recording of an enumeration gives, beside the description of the device (USB 2.0, 9.4.3 and 9.6).
-use Rattle.std.specs.Prelude.{◌≡◌, ◌⊎◌, ◌++◌, Bool, true, List, None, is_some}
+use Rattle.std.specs.Prelude.{◌≡◌, ◌⊎◌, ◌++◌, ℕ, Bool, true, List, Some, None, is_some}
 use Rattle.usb_fields.specs.Device.{device_bytes}
 use Rattle.usb_file_data.specs.declared.file.DescriptorFile.{DescriptorFile}
 use Rattle.usb_file_data.specs.File.{file_bytes, sets_bytes}
@@ -10,7 +10,8 @@ use Rattle.usb_capture.specs.declared.asked.Asked.{Asked}
 use Rattle.usb_capture.specs.declared.control_transfer.ControlTransfer.{ControlTransfer}
 use Rattle.usb_capture.specs.declared.device_file.DeviceFile.{DeviceFile}
 use Rattle.usb_capture.specs.declared.device_file.DeviceFile.TheVariants.{File, Dump}
-use Rattle.usb_capture.specs.DeviceFiles.{part}
+use Rattle.usb_capture.specs.DeviceFiles as made
+use Rattle.usb_capture.specs.DeviceFiles.{IsDescriptor, part}
 use Rattle.usb_capture.specs.Findings.{beside}
 
 -- all of a file, with the other speed or without it
@@ -28,3 +29,11 @@ IsOfDescription f kept device (File bytes) =
     (bytes.items ≡ file_bytes (asked_of (all_with (has_qualifier kept device)) f))
     × ((has_qualifier kept device ≡ true) ⊎ (f.other ≡ None) → bytes.items ≡ file_bytes f)
 IsOfDescription f kept device (Dump bytes) = bytes.items ≡ device_bytes f.device ++ sets_bytes f.sets
+
+-- the device that has this address
+abbrev pub at_address : ℕ → Asked
+at_address address = record { bus = 0; device = address; value = 256; index = 0 }
+
+-- All parts of a file of the device are kept, and these are its bytes.
+abbrev pub GivesFile : List ControlTransfer → Asked → List ℕ → Type 0
+GivesFile kept device bytes = (d : List ℕ) × IsDescriptor kept device d × (made.file_bytes kept device d ≡ Some bytes)

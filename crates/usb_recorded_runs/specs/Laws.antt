@@ -1,5 +1,5 @@
 -- What holds of a recording of a host and a device that enumerate over a bus that loses packets.
-use Rattle.std.specs.Prelude.{◌≡◌, ◌⊎◌, ℕ, true, false, List, [], Option, None}
+use Rattle.std.specs.Prelude.{◌≡◌, ◌⊎◌, ℕ, true, false, List, [], Option, Some, None, Ok}
 use Rattle.std.specs.List.{AllByRecursion}
 use Rattle.usb_wire.specs.Packets.{IsLegal}
 use Rattle.usb_fields.specs.Bytes.{AreBytes}
@@ -7,12 +7,13 @@ use Rattle.usb_file_data.specs.declared.file.DescriptorFile.{DescriptorFile}
 use Rattle.usb_file_data.specs.File.{file_bytes}
 use Rattle.usb_fields.specs.declared.packet.Speed.{Speed}
 use Rattle.usb_host.specs.declared.choice.Choice.{Choice}
-use Rattle.usb_host.specs.Limits.{LimitView}
+use Rattle.usb_host.specs.Limits.{IsInRange, LimitView}
+use Rattle.usb_host.specs.Steps.{outcome_of}
 use Rattle.usb_device.specs.Accepted.{Accepted}
 use Rattle.usb_device.specs.Requests.{answer}
 use Rattle.usb_bus.specs.declared.fate.Fate.{Fate}
 use Rattle.usb_bus.specs.DamagedRuns.{DamagedRunsAt}
-use Rattle.usb_bus.specs.Enumerate.{Pair, Runs, chosen_pair}
+use Rattle.usb_bus.specs.Enumerate.{Pair, Runs, chosen_pair, new_pair}
 use Rattle.usb_bus.specs.Exchanges.{is_lost_down}
 use Rattle.usb_capture.specs.declared.asked.Asked.{Asked}
 use Rattle.usb_capture.specs.declared.device_file.DeviceFile.{DeviceFile}
@@ -31,7 +32,7 @@ use Rattle.usb_capture.specs.Reading.{IsRead}
 use Rattle.usb_capture.specs.Recordings.{transactions_in}
 use Rattle.usb_recorded_runs.specs.Captures.{AreOfFrames, Moment, capture_of, frames, times}
 use Rattle.usb_recorded_runs.specs.Exchanges.{exchanges, received, packets_in, transaction_of}
-use Rattle.usb_recorded_runs.specs.Files.{IsOfDescription}
+use Rattle.usb_recorded_runs.specs.Files.{GivesFile, IsOfDescription, at_address}
 use Rattle.usb_recorded_runs.specs.Findings.{IsFreeAfter, IsTransferFreeAfter, LosesHandshake}
 
 -- A run from a new pair on, of n transactions under these fates, as that of an enumeration: these are the pairs on the way, the newest
@@ -150,3 +151,12 @@ FilesAreDescriptions =
     IsRun f fates (chosen_pair limits speed choice) earlier n last →
     (let kept = current_after [] (transfers_in (received times 1 (exchanges f fates earlier n))) in
     IsMade kept device made → IsOfDescription f kept device made)
+
+-- And where an enumeration that asks for all has succeeded, all parts are kept of the device at the address that it was given: the file
+-- that is made of them is its description's own.
+abbrev pub SuccessesGiveFiles : Type 0
+SuccessesGiveFiles =
+    (f : DescriptorFile) (fates : List Fate) (limits : LimitView) (speed : Speed) (earlier : List Pair) (n : ℕ) (last : Pair) (times : ℕ → Option ℕ)
+    (g : DescriptorFile) → Accepted f speed → AreBytes (file_bytes f) → IsInRange limits.address limits.attempts →
+    IsRun f fates (new_pair limits speed) earlier n last → outcome_of last.host.phase ≡ Some (Ok g) →
+    GivesFile (current_after [] (transfers_in (received times 1 (exchanges f fates earlier n)))) (at_address limits.address) (file_bytes f)

@@ -1,7 +1,7 @@
 //! The functions of these laws do nothing: their contracts are the laws.
-ghost use Rattle.usb_recorded_runs.specs.Laws.{CapturedRunsAreRead, DescriptorsHaveTypes, FilesAreDescriptions, HandshakesAreLost, NoDescriptorChanges, NoLongPacketIsFound, NoPacketIsDamaged, NoPacketIsLong, NoShortPacketLacks, NoToggleIsWrong, NoTransferHasMore, RecordedRunsAreRead, RunsOfBytesAreRuns, SetupsAreTaken};
+ghost use Rattle.usb_recorded_runs.specs.Laws.{CapturedRunsAreRead, DescriptorsHaveTypes, FilesAreDescriptions, HandshakesAreLost, NoDescriptorChanges, NoLongPacketIsFound, NoPacketIsDamaged, NoPacketIsLong, NoShortPacketLacks, NoToggleIsWrong, NoTransferHasMore, RecordedRunsAreRead, RunsOfBytesAreRuns, SetupsAreTaken, SuccessesGiveFiles};
 
-use usb_bus::laws::a_device_keeps_its_table;
+use usb_bus::laws::{a_device_keeps_its_table, an_enumeration_ends_well};
 
 /// A run over a bus of bytes that changes no bit is a run under fates, and each packet of it that arrives is legal.
 pub fn a_run_of_bytes_is_a_run()
@@ -88,4 +88,12 @@ pub fn a_device_file_is_the_description()
     ensures { FilesAreDescriptions }
 {
     a_device_keeps_its_table();
+}
+
+/// Where the enumeration has succeeded there is such a file, with all that the description has.
+pub fn an_enumeration_gives_its_file()
+    ensures { SuccessesGiveFiles }
+{
+    a_device_keeps_its_table();
+    an_enumeration_ends_well();
 }
