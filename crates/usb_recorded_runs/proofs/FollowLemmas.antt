@@ -1,9 +1,8 @@
 -- The transfer of a host, and the one that a recorder has open at its address: the recorder has the bytes that the host has kept.
-use Rattle.std.proofs.Common.{◌≡◌, ◌⊎◌, inl, inr, ◌==◌, ◌&&◌, ◌||◌, ◌<◌, ◌≤◌, ◌+◌, nat_le, nat_lt, ℕ, Bool, true, false, not, if◌then◌else◌, List, [], ◌∷◌, ◌++◌, length, refl, sym, ◌∙◌, ap, subst, arith, length-append}
-use Rattle.std.specs.Prelude.{Option, Some, None, Result, slice_index_or, slice_set}
+use Rattle.std.proofs.Common.{◌≡◌, ◌⊎◌, inl, inr, ◌==◌, ◌||◌, ◌<◌, ◌≤◌, ◌+◌, nat_le, nat_lt, ℕ, Bool, true, false, if◌then◌else◌, List, [], ◌∷◌, ◌++◌, length, refl, sym, ◌∙◌, ap, subst, arith, length-append}
+use Rattle.std.specs.Prelude.{Option, Some, None, Result}
 use Rattle.std.proofs.lemmas.Bool.Decides.{nat_tests}
 use Rattle.std.proofs.lemmas.List.{get_or-set_same}
-use Rattle.usb_wire.specs.declared.pid.Handshake.TheVariants as handshakes
 use Rattle.usb_fields.specs.declared.packet.Toggle.{Toggle}
 use Rattle.usb_fields.specs.declared.packet.Toggle.TheVariants.{Data0, Data1}
 use Rattle.usb_fields.specs.declared.setup.Direction.{Direction}
@@ -28,8 +27,8 @@ use Rattle.usb_capture.specs.declared.data_toggle.Part.{Part}
 use Rattle.usb_capture.specs.declared.data_toggle.Part.TheVariants as parts
 use Rattle.usb_capture.specs.declared.ending.Ending.TheVariants as endings
 use Rattle.usb_capture.specs.declared.transaction.Transaction.{Transaction}
-use Rattle.usb_capture.specs.BusTransfers.{Pipes, begun_by, closed, data_direction, ended_so, first_toggle, has_toggle, over_by, over_with_part, part_by, part_in, pipes_after, pipes_by, pipes_with, request_of, toggle_after, toggle_at, transfer_over, with_bytes, with_open}
-use Rattle.usb_capture.specs.Transfers.{open_with, opened, without}
+use Rattle.usb_capture.specs.BusTransfers.{Pipes, begun_by, closed, data_direction, ended_so, first_toggle, has_toggle, over_by, over_with_part, part_in, pipes_after, pipes_by, pipes_with, request_of, toggle_after, toggle_at, transfer_over, with_bytes, with_open}
+use Rattle.usb_capture.specs.Transfers.{open_with, without}
 use Rattle.usb_capture.proofs.OpenTransfers.{push_found, without_none}
 use Rattle.usb_recorded_runs.proofs.PipeLemmas.{Sound}
 use Rattle.usb_recorded_runs.proofs.ReceivedLemmas.{received_in}

@@ -1,39 +1,34 @@
 -- In a run, what a host has read is kept in the recording.
-use Rattle.std.proofs.Common.{◌≡◌, ◌⊎◌, inl, inr, ◌==◌, ◌&&◌, ◌||◌, ◌<◌, ◌≤◌, ◌+◌, ◌-◌, ◌*◌, ◌/◌, ◌%◌, nat_lt, ℕ, suc, Bool, true, false, not, if◌then◌else◌, List, [], ◌∷◌, ◌++◌, length, refl, sym, ◌∙◌, ap, subst, arith}
-use Rattle.std.specs.Prelude.{Option, Some, None, Result, Ok, slice_index, unwrap_or}
-use Rattle.std.specs.List.{All, AllByRecursion}
+use Rattle.std.proofs.Common.{◌≡◌, ◌⊎◌, inl, inr, ◌==◌, ◌&&◌, ◌<◌, ◌≤◌, ◌+◌, ◌-◌, ◌*◌, ◌/◌, ◌%◌, nat_lt, ℕ, Bool, true, false, not, if◌then◌else◌, List, [], ◌∷◌, ◌++◌, length, refl, sym, ◌∙◌, ap, subst, arith}
+use Rattle.std.specs.Prelude.{Option, Some, None, Result, slice_index, unwrap_or}
+use Rattle.std.specs.List.{AllByRecursion}
 use Rattle.std.specs.Option.{option_to_list}
 use Rattle.std.proofs.lemmas.Bool.Decides.{nat_tests}
 use Rattle.std.proofs.lemmas.List.{append-nil}
-use Rattle.std.proofs.lemmas.List.Elements.{All-nil, recursion_from_All}
-use Rattle.usb_fields.specs.declared.packet.Toggle.TheVariants.{Data1}
 use Rattle.usb_fields.specs.declared.setup.Direction.TheVariants as directions
 use Rattle.usb_fields.specs.declared.setup.Setup.{Setup}
-use Rattle.usb_fields.specs.Packets.{InToken, NoReply, OutToken, Reply, Sent, SetupToken}
-use Rattle.usb_fields.specs.Setup.{direction_of, setup_bytes}
+use Rattle.usb_fields.specs.Packets.{NoReply, Reply, Sent}
+use Rattle.usb_fields.specs.Setup.{direction_of}
 use Rattle.usb_set.specs.Descriptors.{type_number}
 use Rattle.usb_set.specs.declared.fault.SetFault.{SetFault}
 use Rattle.usb_set.specs.declared.decoder.Progress.{Progress}
 use Rattle.usb_set.specs.declared.tree.SetKind.{SetKind}
-use Rattle.usb_set.specs.declared.tree.SetKind.TheVariants as kinds
 use Rattle.usb_file_data.specs.declared.file.DescriptorFile.{DescriptorFile}
 use Rattle.usb_file_data.specs.File.{has_wrong_kind}
 use Rattle.usb_host.specs.declared.choice.NamedStrings.{NamedStrings}
 use Rattle.usb_host.specs.declared.choice.Terms.{Terms}
-use Rattle.usb_host.specs.declared.step.Trouble.{Trouble}
 use Rattle.usb_host.specs.declared.transfer.TransferStage.{TransferStage}
 use Rattle.usb_host.specs.declared.transfer.TransferStage.TheVariants as stages
 use Rattle.usb_host.specs.declared.why.Why.TheVariants as whys
-use Rattle.usb_host.specs.Keeping as kept
 use Rattle.usb_host.specs.Keeping.{Kept, nothing_kept}
 use Rattle.usb_host.specs.Limits.{IsInRange, LimitView}
 use Rattle.usb_host.specs.Order.{asks, done_leads, ends_lacking, refused_leads, sets_of, spared, stand_in}
 use Rattle.usb_host.specs.Place.{Place, First, Address, Device, Header, Set, Qualifier, Languages, Text, Configure, Reported, Stopped}
 use Rattle.usb_host.specs.Plan.{Plan, Begin, Success, GivesUp}
 use Rattle.usb_host.specs.Read.{get_descriptor}
-use Rattle.usb_host.specs.Steps.{Ended, HostPhase, HostView, Reading, ResetDue, TakesIn, KeepsReceived, TakesReceived, WantsReset, WantsSent, blames_bus, completed_leads, enter, entered, goes_on, read_leads, reset, reset_in, sends, settled, terms_of, wanted}
+use Rattle.usb_host.specs.Steps.{Ended, HostPhase, HostView, Reading, ResetDue, TakesIn, KeepsReceived, WantsReset, WantsSent, blames_bus, completed_leads, enter, entered, goes_on, read_leads, reset, reset_in, sends, settled, terms_of, wanted}
 use Rattle.usb_host.specs.Terms.{forgives_any}
-use Rattle.usb_host.specs.Transfer.{TransferView, addressed, begun, taken, token_due}
+use Rattle.usb_host.specs.Transfer.{TransferView, addressed, taken, token_due}
 use Rattle.usb_device.specs.Descriptors.{descriptor}
 use Rattle.usb_device.specs.Requests.{answer}
 use Rattle.usb_device.specs.Step.{DeviceView}
@@ -45,12 +40,10 @@ use Rattle.usb_bus.specs.Enumerate.{IsTransactionAt, Pair, RunsAt, answered}
 use Rattle.usb_bus.specs.Exchanges.{is_lost_ack, is_lost_down}
 use Rattle.usb_bus.specs.Log.{count_before}
 use Rattle.usb_bus.specs.Run.{fate_at}
-use Rattle.usb_capture.specs.declared.asked.Asked.{Asked}
 use Rattle.usb_capture.specs.declared.control_transfer.ControlTransfer.{ControlTransfer}
-use Rattle.usb_capture.specs.declared.ending.Ending.TheVariants as endings
 use Rattle.usb_capture.specs.declared.transaction.Transaction.{Transaction}
 use Rattle.usb_capture.specs.BusTransfers.{Pipes, none_open, pipes_after, pipes_in, transfer_over, transfers_in}
-use Rattle.usb_capture.specs.DeviceReadings.{current_after, current_with}
+use Rattle.usb_capture.specs.DeviceReadings.{current_after}
 use Rattle.usb_capture.specs.Findings.{asked_of, is_same, sets_address}
 use Rattle.usb_capture.specs.Readings.{is_done, is_reading, is_whole, reads_descriptor}
 use Rattle.usb_capture.proofs.Folds.{after_push, given_push}
@@ -62,7 +55,7 @@ use Rattle.usb_recorded_runs.proofs.KeptParts.{Has, arrives, at_address, current
 use Rattle.usb_recorded_runs.proofs.KnownRuns.{IsLegalSent, IsSmall, all_front, all_last, due_low, one_received, received_push, run_right}
 use Rattle.usb_recorded_runs.proofs.LengthLemmas.{IsShortIn}
 use Rattle.usb_recorded_runs.proofs.PipeLemmas.{Sound}
-use Rattle.usb_recorded_runs.proofs.PlaceParts.{Fits, HasParts, HasType, IsKept, IsOfDevice, asks_for, done_parts, parts_stay, read_parts, refused_parts}
+use Rattle.usb_recorded_runs.proofs.PlaceParts.{Fits, HasParts, IsOfDevice, asks_for, done_parts, parts_stay, read_parts, refused_parts}
 use Rattle.usb_recorded_runs.proofs.ReceivedLemmas.{received_in}
 use Rattle.usb_recorded_runs.proofs.RequestRuns.{AsksFor, IsAskedAt, all_of, ordered_run, recorded, token_asks}
 use Rattle.usb_recorded_runs.proofs.RequestedLemmas.{Asks, HasRequest, InOrder, IsLong, IsOf, all_requests, over_address, plan_of, plan_taken}

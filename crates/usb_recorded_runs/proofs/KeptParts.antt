@@ -1,15 +1,15 @@
 -- What is kept of a device's descriptors stays, unless the device gets another address.
-use Rattle.std.proofs.Common.{◌≡◌, ◌⊎◌, inl, inr, ◌==◌, ◌&&◌, ◌||◌, ◌≤◌, ◌/◌, ◌%◌, ℕ, Bool, true, false, not, if◌then◌else◌, List, [], ◌∷◌, ◌++◌, length, refl, sym, ◌∙◌, ap, subst, arith}
+use Rattle.std.proofs.Common.{◌≡◌, ◌==◌, ◌&&◌, ◌||◌, ◌≤◌, ◌/◌, ◌%◌, ℕ, Bool, true, false, not, if◌then◌else◌, List, [], ◌∷◌, ◌++◌, length, refl, sym, ◌∙◌, ap, subst, arith}
 use Rattle.std.specs.Prelude.{Option, Some, None, IsSome, is_some, cond, filter}
-use Rattle.std.specs.List.{AllByRecursion, find, list_any, zip}
-use Rattle.std.specs.Option.{option_map, option_or, option_to_list}
+use Rattle.std.specs.List.{AllByRecursion, find, list_any}
+use Rattle.std.specs.Option.{option_or}
 use Rattle.std.proofs.lemmas.Bool.Decides.{nat_tests}
 use Rattle.std.proofs.lemmas.List.Folds.{find-append}
 use Rattle.usb_file_data.specs.declared.file.DescriptorFile.{DescriptorFile}
 use Rattle.usb_device.specs.Descriptors.{descriptor}
 use Rattle.usb_capture.specs.declared.asked.Asked.{Asked}
 use Rattle.usb_capture.specs.declared.control_transfer.ControlTransfer.{ControlTransfer}
-use Rattle.usb_capture.specs.DeviceReadings.{current_after, current_with, gives_address, is_other_descriptor, is_other_device, is_past, reads_device}
+use Rattle.usb_capture.specs.DeviceReadings.{current_after, current_with, is_other_descriptor, is_other_device, is_past}
 use Rattle.usb_capture.specs.Findings.{asked_of, differ, is_same, sets_address}
 use Rattle.usb_capture.specs.Readings.{is_again, is_reading, without_again}
 use Rattle.usb_capture.proofs.FilterLemmas.{still_there}

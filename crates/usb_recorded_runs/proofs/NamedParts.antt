@@ -1,10 +1,10 @@
 -- The strings that a file's descriptors name, by their bytes: those of its tree.
-use Rattle.std.proofs.Common.{◌≡◌, ◌<◌, ◌+◌, ◌==◌, ◌||◌, ◌*◌, ℕ, zero, suc, Bool, true, false, if◌then◌else◌, List, [], ◌∷◌, ◌++◌, length, map, take, drop, append_assoc, refl, sym, ◌∙◌, ap, ap₂, arith}
+use Rattle.std.proofs.Common.{◌≡◌, ◌<◌, ◌+◌, ◌==◌, ◌||◌, ℕ, zero, suc, Bool, true, false, if◌then◌else◌, List, [], ◌∷◌, ◌++◌, length, map, take, drop, refl, sym, ◌∙◌, ap, ap₂, arith}
 use Rattle.std.specs.Prelude.{Option, Some, None, filter, is_some, nat_lt, slice_index}
 use Rattle.std.specs.List.{flat_map, list_any, range_with_len}
 use Rattle.std.proofs.lemmas.Bool.Decides.{nat_tests}
 use Rattle.std.proofs.lemmas.Grind.{flat_map-append}
-use Rattle.std.proofs.lemmas.List.{append-nil, map-append}
+use Rattle.std.proofs.lemmas.List.{map-append}
 use Rattle.std.proofs.lemmas.List.Folds.{list_any-append}
 use Rattle.std.proofs.Math.Seq.{take-append_seam, drop-append_seam}
 use Rattle.usb_fields.specs.declared.device.DeviceDescriptor.{DeviceDescriptor}
@@ -19,12 +19,12 @@ use Rattle.usb_set.specs.declared.tree.Configuration.{Configuration}
 use Rattle.usb_set.specs.declared.tree.SetKind.{SetKind}
 use Rattle.usb_set.specs.declared.tree.SetKind.TheVariants as kinds
 use Rattle.usb_set.specs.declared.fault.EncodeFault.TheVariants.{RawKind, Tail, TooLong}
-use Rattle.usb_set.specs.Descriptors.{Descriptor, configuration_descriptor, descriptor_bytes, endpoint_descriptor, extra_descriptor, type_number, typed_length}
-use Rattle.usb_set.specs.Layout.{endpoint_descriptors, has_long_descriptor, has_typed_raw, is_typed_raw, later_descriptors, refusal_of, set_descriptors, set_length, setting_descriptors}
-use Rattle.usb_set.specs.Owners.{association_in, associations_of, extras_of, setting_extras}
+use Rattle.usb_set.specs.Descriptors.{Descriptor, configuration_descriptor, descriptor_bytes, extra_descriptor, type_number, typed_length}
+use Rattle.usb_set.specs.Layout.{endpoint_descriptors, has_long_descriptor, has_typed_raw, is_typed_raw, later_descriptors, set_descriptors, set_length, setting_descriptors}
+use Rattle.usb_set.specs.Owners.{association_in, associations_of, setting_extras}
 use Rattle.usb_file_data.specs.declared.file.DescriptorFile.{DescriptorFile}
 use Rattle.usb_file_data.specs.declared.file.Other.{Other}
-use Rattle.usb_file_data.specs.File.{association_string_index, device_string_indices, has_no_layout, interface_string_index, has_wrong_layout, named_among, named_indices, other_bytes, other_sets, set_string_indices, sets_bytes, string_indices, whole_set}
+use Rattle.usb_file_data.specs.File.{association_string_index, has_no_layout, interface_string_index, has_wrong_layout, named_among, named_indices, other_bytes, other_sets, set_string_indices, sets_bytes, string_indices, whole_set}
 use Rattle.usb_capture.specs.DeviceFiles.{named_by}
 use Rattle.usb_capture.specs.Findings.{device_names, names, string_index}
 use Rattle.usb_capture.proofs.NamedLemmas.{names_end, names_step}

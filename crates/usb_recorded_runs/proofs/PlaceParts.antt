@@ -1,12 +1,11 @@
 -- What a host has read at a place of its order is kept in a recording.
-use Rattle.std.proofs.Common.{◌≡◌, ◌⊎◌, inl, inr, ◌==◌, ◌&&◌, ◌||◌, ◌<◌, ◌≤◌, ◌+◌, ◌*◌, ◌/◌, ◌%◌, nat_lt, ℕ, zero, suc, Bool, true, false, not, if◌then◌else◌, List, [], ◌∷◌, ◌++◌, length, take, refl, sym, ◌∙◌, ap, subst, arith, length-append}
+use Rattle.std.proofs.Common.{◌≡◌, ◌⊎◌, inl, inr, ◌==◌, ◌&&◌, ◌||◌, ◌<◌, ◌+◌, ◌*◌, ◌/◌, nat_lt, ℕ, Bool, true, false, not, if◌then◌else◌, List, [], ◌∷◌, ◌++◌, length, take, refl, sym, ◌∙◌, ap, subst, arith, length-append}
 use Rattle.std.specs.Prelude.{Option, Some, None, slice_index}
 use Rattle.std.proofs.lemmas.Bool.Decides.{nat_tests}
 use Rattle.std.proofs.lemmas.List.{get_or_append_left}
 use Rattle.usb_fields.specs.Bytes.{little_endian_at}
 use Rattle.usb_fields.specs.declared.device.DeviceDescriptor.{DeviceDescriptor}
 use Rattle.usb_fields.specs.declared.qualifier.Qualifier.{Qualifier}
-use Rattle.usb_fields.specs.Device.{device_bytes, qualifier_bytes}
 use Rattle.usb_fields.specs.Units.{units_bytes}
 use Rattle.usb_fields.proofs.UnitLemmas.{length-flat_map}
 use Rattle.usb_set.specs.declared.tree.Configuration.{Configuration}
@@ -25,9 +24,8 @@ use Rattle.usb_host.specs.Order.{after_sets, bytes_lead, declared_sets, device_l
 use Rattle.usb_host.specs.declared.why.Why.TheVariants.{Malformed}
 use Rattle.usb_host.specs.Place.{Place, First, Address, Device, Header, Set, Qualifier as SecondSpeed, Languages, Text, Configure, Reported, Stopped}
 use Rattle.usb_host.specs.Read.{device_of, get_descriptor, is_first, may_have_second, qualifier_of, same_bytes, total_in, total_said, units_of}
-use Rattle.usb_host.specs.Steps.{completed_leads, read_leads}
+use Rattle.usb_host.specs.Steps.{read_leads}
 use Rattle.usb_host.specs.Terms.{is_asked}
-use Rattle.usb_host.specs.Transfer.{TransferView}
 use Rattle.usb_host.proofs.ReadLemmas.{device_written, qualifier_written, units_written}
 use Rattle.usb_capture.specs.declared.control_transfer.ControlTransfer.{ControlTransfer}
 use Rattle.usb_capture.specs.Readings.{is_whole}

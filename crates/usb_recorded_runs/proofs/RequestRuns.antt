@@ -1,5 +1,5 @@
 -- The requests of the transfers that a recorder makes of a run.
-use Rattle.std.proofs.Common.{◌≡◌, ◌⊎◌, inl, inr, ◌==◌, ◌&&◌, ◌<◌, ◌≤◌, ◌+◌, ◌-◌, ℕ, suc, Bool, true, false, if◌then◌else◌, List, [], ◌∷◌, ◌++◌, length, refl, sym, ◌∙◌, ap, subst, arith}
+use Rattle.std.proofs.Common.{◌≡◌, inl, inr, ◌==◌, ◌≤◌, ◌+◌, ◌-◌, ℕ, Bool, true, false, if◌then◌else◌, List, [], ◌∷◌, ◌++◌, length, refl, sym, ◌∙◌, ap, subst, arith}
 use Rattle.std.specs.Prelude.{Option, Some, None}
 use Rattle.std.specs.List.{AllByRecursion}
 use Rattle.usb_fields.specs.declared.setup.Setup.{Setup}
@@ -18,7 +18,7 @@ use Rattle.usb_device.specs.Requests.{answer}
 use Rattle.usb_device.specs.Step.{DeviceView}
 use Rattle.usb_bus.specs.declared.fate.Fate.{Fate}
 use Rattle.usb_bus.specs.Bus.{brought}
-use Rattle.usb_bus.specs.Enumerate.{IsTransactionAt, Pair, RunsAt, answered}
+use Rattle.usb_bus.specs.Enumerate.{Pair, RunsAt, answered}
 use Rattle.usb_bus.specs.Exchanges.{is_lost_down}
 use Rattle.usb_bus.specs.Log.{count_before}
 use Rattle.usb_bus.specs.Run.{fate_at}

@@ -1,6 +1,6 @@
 -- The requests of a host, and those of the transfers that a recorder makes of what it has received.
-use Rattle.std.proofs.Common.{◌≡◌, ◌⊎◌, inl, inr, ◌==◌, ◌&&◌, ◌||◌, ◌<◌, ◌≤◌, ◌+◌, ◌*◌, ◌/◌, ◌%◌, nat_lt, nat_le, ℕ, suc, take, Bool, true, false, not, if◌then◌else◌, List, [], ◌∷◌, ◌++◌, length, refl, sym, ◌∙◌, ap, subst, arith}
-use Rattle.std.specs.Prelude.{Option, Some, None, Result, slice_index}
+use Rattle.std.proofs.Common.{◌≡◌, inl, inr, ◌==◌, ◌&&◌, ◌||◌, ◌<◌, ◌+◌, ◌*◌, nat_lt, nat_le, ℕ, take, Bool, true, false, not, if◌then◌else◌, List, [], ◌∷◌, ◌++◌, length, refl, sym, ◌∙◌, ap, subst, arith}
+use Rattle.std.specs.Prelude.{Option, Some, None, slice_index}
 use Rattle.std.specs.List.{AllByRecursion}
 use Rattle.std.specs.Option.{option_to_list}
 use Rattle.std.proofs.lemmas.Bool.Decides.{nat_tests}
@@ -10,11 +10,7 @@ use Rattle.usb_fields.specs.declared.packet.Toggle.{Toggle}
 use Rattle.usb_fields.specs.declared.packet.Toggle.TheVariants.{Data0, Data1}
 use Rattle.usb_fields.specs.declared.qualifier.Qualifier.{Qualifier}
 use Rattle.usb_fields.specs.declared.setup.Setup.{Setup}
-use Rattle.usb_fields.specs.Device.{device_bytes, device_of_bytes}
-use Rattle.usb_fields.specs.Packets.{AckReply, DataReply, InToken, NakReply, NoReply, OutToken, Reply, Sent, SetupToken, StallReply, Token, is_same_toggle}
-use Rattle.usb_fields.specs.Setup.{setup_bytes}
-use Rattle.usb_set.specs.declared.fault.SetFault.{SetFault}
-use Rattle.usb_set.specs.declared.decoder.Progress.{Progress}
+use Rattle.usb_fields.specs.Packets.{DataReply, NakReply, NoReply, Reply, is_same_toggle}
 use Rattle.usb_set.specs.declared.tree.Configuration.{Configuration}
 use Rattle.usb_set.specs.declared.tree.SetKind.{SetKind}
 use Rattle.usb_set.specs.declared.tree.SetKind.TheVariants as kinds
@@ -36,9 +32,9 @@ use Rattle.usb_host.specs.Order.{after_sets, asks, bytes_lead, declared_sets, de
 use Rattle.usb_host.specs.Place.{Place, First, Address, Device, Header, Set, Qualifier as SecondSpeed, Languages, Text, Configure, Reported, Stopped}
 use Rattle.usb_host.specs.Plan.{Plan, Begin, Success, GivesUp}
 use Rattle.usb_host.specs.Read.{device_of, is_first, may_have_second, qualifier_of, same_bytes, total_in, total_said, units_of}
-use Rattle.usb_host.specs.Steps.{Ended, HostPhase, HostView, Reading, ResetDue, TakesIn, TakesReceived, WantsReset, WantsSent, blames_bus, completed_leads, enter, entered, goes_on, read_leads, reset, reset_in, sends, settled, terms_of, wanted}
+use Rattle.usb_host.specs.Steps.{Ended, HostPhase, HostView, Reading, ResetDue, TakesIn, TakesReceived, blames_bus, completed_leads, enter, entered, goes_on, read_leads, reset, reset_in, settled, terms_of}
 use Rattle.usb_host.specs.Terms.{is_asked}
-use Rattle.usb_host.specs.Transfer.{Taken, TransferView, addressed, delayed, due, struck, taken, taken_at, taken_data, taken_status, token_due}
+use Rattle.usb_host.specs.Transfer.{Taken, TransferView, delayed, struck, taken, taken_at, taken_data, taken_status}
 use Rattle.usb_capture.specs.declared.control_transfer.ControlTransfer.{ControlTransfer}
 use Rattle.usb_capture.specs.declared.data_toggle.DataToggle.{DataToggle}
 use Rattle.usb_capture.specs.declared.data_toggle.Part.{Part}
@@ -46,10 +42,9 @@ use Rattle.usb_capture.specs.declared.data_toggle.Part.TheVariants as parts
 use Rattle.usb_capture.specs.declared.open_transfer.OpenTransfer.{OpenTransfer}
 use Rattle.usb_capture.specs.declared.transaction.DataPacket.{DataPacket}
 use Rattle.usb_capture.specs.declared.transaction.Transaction.{Transaction}
-use Rattle.usb_capture.specs.BusTransfers.{Pipes, closed, none_open, over_by, over_with_part, part_at, pipes_after, pipes_by, pipes_in, pipes_with, request_of, toggle_after, toggle_at, transfer_over, transfers_in, with_bytes, with_packet}
+use Rattle.usb_capture.specs.BusTransfers.{Pipes, closed, none_open, over_by, over_with_part, part_at, pipes_after, pipes_by, pipes_in, pipes_with, request_of, toggle_after, toggle_at, transfer_over, transfers_in, with_packet}
 use Rattle.usb_capture.specs.Folds.{after_all, given_in}
 use Rattle.usb_capture.specs.Transfers.{open_with, opened, without}
-use Rattle.usb_recorded_runs.proofs.AnswerLemmas.{described_by}
 
 -- ---- the plan of a host's transfer
 

@@ -1,4 +1,4 @@
-use Rattle.std.proofs.Common.{◌≡◌, ◌≤◌, ◌<◌, false, ℕ, List, [], refl, sym, ◌∙◌, ap, subst}
+use Rattle.std.proofs.Common.{◌≡◌, ◌≤◌, false, ℕ, List, [], refl, ◌∙◌, ap, subst}
 use Rattle.std.specs.Prelude.{Option, Some, None, Ok, IsSome}
 use Rattle.std.specs.List.{AllByRecursion}
 use Rattle.usb_fields.specs.Bytes.{AreBytes}
@@ -7,7 +7,7 @@ use Rattle.usb_fields.specs.declared.packet.Speed.{Speed}
 use Rattle.usb_file_data.specs.declared.file.DescriptorFile.{DescriptorFile}
 use Rattle.usb_file_data.specs.File.{file_bytes, has_wrong_kind, named_indices}
 use Rattle.usb_host.specs.Limits.{LimitView}
-use Rattle.usb_host.specs.Place.{Place, First, Address, Device, Header, Set, Qualifier, Languages, Text, Configure, Reported, Stopped}
+use Rattle.usb_host.specs.Place.{First, Address, Device, Header, Set, Qualifier, Languages, Text, Configure, Reported, Stopped}
 use Rattle.usb_host.specs.Steps.{Ended, HostPhase, Reading, ResetDue, outcome_of}
 use Rattle.usb_device.specs.Accepted.{Accepted}
 use Rattle.usb_bus.specs.declared.enumeration.Run.{Run}
