@@ -1,6 +1,6 @@
 -- In a run, what a host has read is kept in the recording.
 use Rattle.std.proofs.Common.{◌≡◌, ◌⊎◌, inl, inr, ◌==◌, ◌&&◌, ◌<◌, ◌≤◌, ◌+◌, ◌-◌, ◌*◌, ◌/◌, ◌%◌, nat_lt, ℕ, Bool, true, false, not, if◌then◌else◌, List, [], ◌∷◌, ◌++◌, length, refl, sym, ◌∙◌, ap, subst, arith}
-use Rattle.std.specs.Prelude.{Option, Some, None, Result, slice_index, unwrap_or}
+use Rattle.std.specs.Prelude.{Option, Some, None, Result, Ok, slice_index, unwrap_or}
 use Rattle.std.specs.List.{AllByRecursion}
 use Rattle.std.specs.Option.{option_to_list}
 use Rattle.std.proofs.lemmas.Bool.Decides.{nat_tests}
@@ -14,7 +14,7 @@ use Rattle.usb_set.specs.declared.fault.SetFault.{SetFault}
 use Rattle.usb_set.specs.declared.decoder.Progress.{Progress}
 use Rattle.usb_set.specs.declared.tree.SetKind.{SetKind}
 use Rattle.usb_file_data.specs.declared.file.DescriptorFile.{DescriptorFile}
-use Rattle.usb_file_data.specs.File.{has_wrong_kind}
+use Rattle.usb_file_data.specs.File.{has_wrong_kind, named_indices}
 use Rattle.usb_host.specs.declared.choice.NamedStrings.{NamedStrings}
 use Rattle.usb_host.specs.declared.choice.Terms.{Terms}
 use Rattle.usb_host.specs.declared.transfer.TransferStage.{TransferStage}
@@ -26,7 +26,7 @@ use Rattle.usb_host.specs.Order.{asks, done_leads, ends_lacking, refused_leads, 
 use Rattle.usb_host.specs.Place.{Place, First, Address, Device, Header, Set, Qualifier, Languages, Text, Configure, Reported, Stopped}
 use Rattle.usb_host.specs.Plan.{Plan, Begin, Success, GivesUp}
 use Rattle.usb_host.specs.Read.{get_descriptor}
-use Rattle.usb_host.specs.Steps.{Ended, HostPhase, HostView, Reading, ResetDue, TakesIn, KeepsReceived, WantsReset, WantsSent, blames_bus, completed_leads, enter, entered, goes_on, read_leads, reset, reset_in, sends, settled, terms_of, wanted}
+use Rattle.usb_host.specs.Steps.{Ended, HostPhase, HostView, Reading, ResetDue, TakesIn, KeepsReceived, WantsReset, WantsSent, blames_bus, completed_leads, enter, entered, goes_on, read_leads, reset, reset_in, sends, settled, terms_of, wanted, outcome_of}
 use Rattle.usb_host.specs.Terms.{forgives_any}
 use Rattle.usb_host.specs.Transfer.{TransferView, addressed, taken, token_due}
 use Rattle.usb_device.specs.Descriptors.{descriptor}
@@ -55,7 +55,7 @@ use Rattle.usb_recorded_runs.proofs.KeptParts.{Has, arrives, at_address, current
 use Rattle.usb_recorded_runs.proofs.KnownRuns.{IsLegalSent, IsSmall, all_front, all_last, due_low, one_received, received_push, run_right}
 use Rattle.usb_recorded_runs.proofs.LengthLemmas.{IsShortIn}
 use Rattle.usb_recorded_runs.proofs.PipeLemmas.{Sound}
-use Rattle.usb_recorded_runs.proofs.PlaceParts.{Fits, HasParts, IsOfDevice, asks_for, done_parts, parts_stay, read_parts, refused_parts}
+use Rattle.usb_recorded_runs.proofs.PlaceParts.{Fits, HasFile, HasParts, HasStrings, IsOfDevice, asks_for, done_parts, parts_stay, read_parts, refused_parts}
 use Rattle.usb_recorded_runs.proofs.ReceivedLemmas.{received_in}
 use Rattle.usb_recorded_runs.proofs.RequestRuns.{AsksFor, IsAskedAt, all_of, ordered_run, recorded, token_asks}
 use Rattle.usb_recorded_runs.proofs.RequestedLemmas.{Asks, HasRequest, InOrder, IsLong, IsOf, all_requests, over_address, plan_of, plan_taken}
@@ -384,6 +384,25 @@ module _ (f : DescriptorFile) (size : 8 ≤ f.device.packet) (kinds_right : has_
   pub reset_followed : (K : List ControlTransfer) (pipes : Pipes) (v w : HostView) → v.limits ≡ limits → wanted v.phase ≡ WantsReset → w ≡ reset v → FollowedIn K pipes v.phase
       → FollowedIn K pipes w.phase
   reset_followed K pipes v w same e is h = subst (λ u. FollowedIn K pipes u.phase) (sym is) (reset_in_followed K pipes v v.phase same e refl h)
+
+-- a host that has succeeded is at the end of its order
+pub ended_parts : (f : DescriptorFile) (size : 8 ≤ f.device.packet) (right : has_wrong_kind f ≡ false) (limits : LimitView) (range : 1 ≤ limits.address) (K : List ControlTransfer) (pipes : Pipes)
+    (g : DescriptorFile) (phase : HostPhase) → outcome_of phase ≡ Some (Ok g) → FollowedIn f size right limits range K pipes phase
+    → HasFile f limits.address K g × HasStrings f limits.address K (named_indices g) g.strings
+ended_parts f size right limits range K pipes g ResetDue e has = absurd (let w : ⊥ = cc in w)
+ended_parts f size right limits range K pipes g (Reading place t k) e has = absurd (let w : ⊥ = cc in w)
+ended_parts f size right limits range K pipes g (Ended First) e has = absurd (let w : ⊥ = cc in w)
+ended_parts f size right limits range K pipes g (Ended (Address early)) e has = absurd (let w : ⊥ = cc in w)
+ended_parts f size right limits range K pipes g (Ended (Device early)) e has = absurd (let w : ⊥ = cc in w)
+ended_parts f size right limits range K pipes g (Ended (Header kind h)) e has = absurd (let w : ⊥ = cc in w)
+ended_parts f size right limits range K pipes g (Ended (Set kind h total)) e has = absurd (let w : ⊥ = cc in w)
+ended_parts f size right limits range K pipes g (Ended (Qualifier h)) e has = absurd (let w : ⊥ = cc in w)
+ended_parts f size right limits range K pipes g (Ended (Languages h named)) e has = absurd (let w : ⊥ = cc in w)
+ended_parts f size right limits range K pipes g (Ended (Text h s named)) e has = absurd (let w : ⊥ = cc in w)
+ended_parts f size right limits range K pipes g (Ended (Configure h)) e has = absurd (let w : ⊥ = cc in w)
+ended_parts f size right limits range K pipes g (Ended (Reported h)) e has =
+    let same : h ≡ g = cc in subst (λ x. HasFile f limits.address K x × HasStrings f limits.address K (named_indices x) x.strings) same has
+ended_parts f size right limits range K pipes g (Ended (Stopped trouble)) e has = absurd (let w : ⊥ = cc in w)
 
 -- ---- a run
 

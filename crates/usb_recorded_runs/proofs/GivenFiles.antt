@@ -21,7 +21,7 @@ use Rattle.usb_capture.specs.declared.control_transfer.ControlTransfer.{ControlT
 use Rattle.usb_capture.specs.DeviceFiles as made
 use Rattle.usb_capture.specs.DeviceFiles.{IsDescriptor, codes_in, configurations, data_of, dump_parts, named_by, other_parts, part, parts, string_bytes, string_parts, strings_in}
 use Rattle.usb_capture.specs.Findings.{asked_of, beside, is_same}
-use Rattle.usb_recorded_runs.specs.Files.{has_qualifier}
+use Rattle.usb_recorded_runs.specs.Files.{GivesDump, has_qualifier}
 use Rattle.usb_recorded_runs.proofs.DescribedFiles.{IsIndex, Reads, codes_back, dump_is, front_file, indices_small, layouts_right, other_count, other_if, other_is, own_count, part_is, some_same, string_asked}
 use Rattle.usb_recorded_runs.proofs.KeptParts.{Has}
 use Rattle.usb_recorded_runs.proofs.NamedParts.{front_bytes, named_same}
@@ -152,9 +152,9 @@ module _ (K : List ControlTransfer) where
 
     -- ---- the file
 
-    module _ (has : HasFile f address K f) (strings : HasStrings f address K (named_indices f) f.strings) where
-      pub descriptor_there : IsDescriptor K device d
-      descriptor_there = (of (part K (beside device 256)) refl (part_some (beside device 256) has.device), refl)
+    module _ (first : Has K (beside device 256)) (sets : (i : ℕ) → i < length f.sets → Has K (beside device (512 + i))) where
+      descriptor_is : IsDescriptor K device d
+      descriptor_is = (of (part K (beside device 256)) refl (part_some (beside device 256) first), refl)
         where
           of : (o : Option (List ℕ)) → part K (beside device 256) ≡ o → IsSome o → o ≡ Some d
           of None e some = none_some some
@@ -163,7 +163,19 @@ module _ (K : List ControlTransfer) where
       dump_some : IsSome (parts K (dump_parts device d))
       dump_some =
           parts_some (beside device 256 ∷ configurations device 512 f.device.configurations)
-          (has.device, all_in device 512 0 f.device.configurations (λ i less. has.sets i (omega (arith, less, own_count K f each size fits right))))
+          (first, all_in device 512 0 f.device.configurations (λ i less. sets i (omega (arith, less, own_count K f each size fits right))))
+
+      -- the dump
+      pub dump_there : GivesDump K device (device_bytes f.device ++ sets_bytes f.sets)
+      dump_there = (d, descriptor_is, of (parts K (dump_parts device d)) refl dump_some)
+        where
+          of : (o : Option (List ℕ)) → parts K (dump_parts device d) ≡ o → IsSome o → o ≡ Some (device_bytes f.device ++ sets_bytes f.sets)
+          of None e some = none_some some
+          of (Some x) e some = ap Some (dump_is K f each size fits right device d descriptor_is x e)
+
+    module _ (has : HasFile f address K f) (strings : HasStrings f address K (named_indices f) f.strings) where
+      pub descriptor_there : IsDescriptor K device d
+      descriptor_there = descriptor_is has.device has.sets
 
       other_some : IsSome (parts K (other_parts device (part K (beside device 1536))))
       other_some = of (part K (beside device 1536)) refl
@@ -209,7 +221,7 @@ module _ (K : List ControlTransfer) where
           ap named_by joined ∙ named_same g (layouts_right K f each size fits right device d descriptor_there) ∙ ap (λ o. named_indices (without o)) other_there
 
       pub file_there : IsSome (made.file_bytes K device d)
-      file_there = of (parts K (dump_parts device d)) (parts K (other_parts device (part K (beside device 1536)))) refl refl dump_some other_some
+      file_there = of (parts K (dump_parts device d)) (parts K (other_parts device (part K (beside device 1536)))) refl refl (dump_some has.device has.sets) other_some
         where
           of : (x y : Option (List ℕ)) → parts K (dump_parts device d) ≡ x → parts K (other_parts device (part K (beside device 1536))) ≡ y → IsSome x → IsSome y
               → IsSome (option_and_then (λ sets. option_map (λ strings. sets ++ strings) (string_bytes K device sets)) (option_and_then (λ main. option_map (λ other. main ++ other) y) x))

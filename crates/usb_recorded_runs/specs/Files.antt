@@ -11,7 +11,7 @@ use Rattle.usb_capture.specs.declared.control_transfer.ControlTransfer.{ControlT
 use Rattle.usb_capture.specs.declared.device_file.DeviceFile.{DeviceFile}
 use Rattle.usb_capture.specs.declared.device_file.DeviceFile.TheVariants.{File, Dump}
 use Rattle.usb_capture.specs.DeviceFiles as made
-use Rattle.usb_capture.specs.DeviceFiles.{IsDescriptor, part}
+use Rattle.usb_capture.specs.DeviceFiles.{IsDescriptor, dump_parts, part, parts}
 use Rattle.usb_capture.specs.Findings.{beside}
 
 -- all of a file, with the other speed or without it
@@ -37,3 +37,7 @@ at_address address = record { bus = 0; device = address; value = 256; index = 0 
 -- All parts of a file of the device are kept, and these are its bytes.
 abbrev pub GivesFile : List ControlTransfer → Asked → List ℕ → Type 0
 GivesFile kept device bytes = (d : List ℕ) × IsDescriptor kept device d × (made.file_bytes kept device d ≡ Some bytes)
+
+-- The device descriptor and the configurations that it counts are kept, and these are their bytes.
+abbrev pub GivesDump : List ControlTransfer → Asked → List ℕ → Type 0
+GivesDump kept device bytes = (d : List ℕ) × IsDescriptor kept device d × (parts kept (dump_parts device d) ≡ Some bytes)

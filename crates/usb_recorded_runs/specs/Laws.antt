@@ -1,14 +1,16 @@
 -- What holds of a recording of a host and a device that enumerate over a bus that loses packets.
-use Rattle.std.specs.Prelude.{◌≡◌, ◌⊎◌, ℕ, true, false, List, [], Option, Some, None, Ok}
+use Rattle.std.specs.Prelude.{◌≡◌, ◌⊎◌, ◌++◌, ℕ, true, false, List, [], Option, Some, None, Ok}
 use Rattle.std.specs.List.{AllByRecursion}
 use Rattle.usb_wire.specs.Packets.{IsLegal}
 use Rattle.usb_fields.specs.Bytes.{AreBytes}
+use Rattle.usb_fields.specs.Device.{device_bytes}
 use Rattle.usb_file_data.specs.declared.file.DescriptorFile.{DescriptorFile}
-use Rattle.usb_file_data.specs.File.{file_bytes}
+use Rattle.usb_file_data.specs.File.{file_bytes, sets_bytes}
 use Rattle.usb_fields.specs.declared.packet.Speed.{Speed}
 use Rattle.usb_host.specs.declared.choice.Choice.{Choice}
 use Rattle.usb_host.specs.Limits.{IsInRange, LimitView}
 use Rattle.usb_host.specs.Steps.{outcome_of}
+use Rattle.usb_host.specs.Terms.{forgives_any}
 use Rattle.usb_device.specs.Accepted.{Accepted}
 use Rattle.usb_device.specs.Requests.{answer}
 use Rattle.usb_bus.specs.declared.fate.Fate.{Fate}
@@ -32,7 +34,7 @@ use Rattle.usb_capture.specs.Reading.{IsRead}
 use Rattle.usb_capture.specs.Recordings.{transactions_in}
 use Rattle.usb_recorded_runs.specs.Captures.{AreOfFrames, Moment, capture_of, frames, times}
 use Rattle.usb_recorded_runs.specs.Exchanges.{exchanges, received, packets_in, transaction_of}
-use Rattle.usb_recorded_runs.specs.Files.{GivesFile, IsOfDescription, at_address}
+use Rattle.usb_recorded_runs.specs.Files.{GivesDump, GivesFile, IsOfDescription, at_address}
 use Rattle.usb_recorded_runs.specs.Findings.{IsFreeAfter, IsTransferFreeAfter, LosesHandshake}
 
 -- A run from a new pair on, of n transactions under these fates, as that of an enumeration: these are the pairs on the way, the newest
@@ -160,3 +162,12 @@ SuccessesGiveFiles =
     (g : DescriptorFile) → Accepted f speed → AreBytes (file_bytes f) → IsInRange limits.address limits.attempts →
     IsRun f fates (new_pair limits speed) earlier n last → outcome_of last.host.phase ≡ Some (Ok g) →
     GivesFile (current_after [] (transfers_in (received times 1 (exchanges f fates earlier n)))) (at_address limits.address) (file_bytes f)
+
+-- Where it has asked for less, and passes over no string, there is at least the dump.
+abbrev pub SuccessesGiveDumps : Type 0
+SuccessesGiveDumps =
+    (f : DescriptorFile) (fates : List Fate) (limits : LimitView) (speed : Speed) (choice : Choice) (earlier : List Pair) (n : ℕ) (last : Pair)
+    (times : ℕ → Option ℕ) (g : DescriptorFile) → Accepted f speed → AreBytes (file_bytes f) → IsInRange limits.address limits.attempts →
+    forgives_any choice.strings ≡ false → IsRun f fates (chosen_pair limits speed choice) earlier n last → outcome_of last.host.phase ≡ Some (Ok g) →
+    GivesDump (current_after [] (transfers_in (received times 1 (exchanges f fates earlier n)))) (at_address limits.address)
+    (device_bytes f.device ++ sets_bytes f.sets)

@@ -1,5 +1,5 @@
 //! The functions of these laws do nothing: their contracts are the laws.
-ghost use Rattle.usb_recorded_runs.specs.Laws.{CapturedRunsAreRead, DescriptorsHaveTypes, FilesAreDescriptions, HandshakesAreLost, NoDescriptorChanges, NoLongPacketIsFound, NoPacketIsDamaged, NoPacketIsLong, NoShortPacketLacks, NoToggleIsWrong, NoTransferHasMore, RecordedRunsAreRead, RunsOfBytesAreRuns, SetupsAreTaken, SuccessesGiveFiles};
+ghost use Rattle.usb_recorded_runs.specs.Laws.{CapturedRunsAreRead, DescriptorsHaveTypes, FilesAreDescriptions, HandshakesAreLost, NoDescriptorChanges, NoLongPacketIsFound, NoPacketIsDamaged, NoPacketIsLong, NoShortPacketLacks, NoToggleIsWrong, NoTransferHasMore, RecordedRunsAreRead, RunsOfBytesAreRuns, SetupsAreTaken, SuccessesGiveDumps, SuccessesGiveFiles};
 
 use usb_bus::laws::{a_device_keeps_its_table, an_enumeration_ends_well};
 
@@ -93,6 +93,14 @@ pub fn a_device_file_is_the_description()
 /// Where the enumeration has succeeded there is such a file, with all that the description has.
 pub fn an_enumeration_gives_its_file()
     ensures { SuccessesGiveFiles }
+{
+    a_device_keeps_its_table();
+    an_enumeration_ends_well();
+}
+
+/// Of a host that has asked for less there is at least the dump, if it takes no device whose strings are missing.
+pub fn an_enumeration_gives_its_dump()
+    ensures { SuccessesGiveDumps }
 {
     a_device_keeps_its_table();
     an_enumeration_ends_well();

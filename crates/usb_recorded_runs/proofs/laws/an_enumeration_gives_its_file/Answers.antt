@@ -5,21 +5,18 @@ use Rattle.usb_fields.specs.Bytes.{AreBytes}
 use Rattle.usb_fields.specs.Device.{device_bytes}
 use Rattle.usb_fields.specs.declared.packet.Speed.{Speed}
 use Rattle.usb_file_data.specs.declared.file.DescriptorFile.{DescriptorFile}
-use Rattle.usb_file_data.specs.File.{file_bytes, has_wrong_kind, named_indices}
-use Rattle.usb_host.specs.Limits.{LimitView}
-use Rattle.usb_host.specs.Place.{First, Address, Device, Header, Set, Qualifier, Languages, Text, Configure, Reported, Stopped}
-use Rattle.usb_host.specs.Steps.{Ended, HostPhase, Reading, ResetDue, outcome_of}
+use Rattle.usb_file_data.specs.File.{file_bytes, named_indices}
 use Rattle.usb_device.specs.Accepted.{Accepted}
 use Rattle.usb_bus.specs.declared.enumeration.Run.{Run}
 use Rattle.usb_bus.specs.Enumerate.{new_pair}
 use Rattle.usb_capture.specs.declared.control_transfer.ControlTransfer.{ControlTransfer}
-use Rattle.usb_capture.specs.BusTransfers.{Pipes, pipes_in, transfers_in}
+use Rattle.usb_capture.specs.BusTransfers.{pipes_in, transfers_in}
 use Rattle.usb_capture.specs.DeviceFiles as made
 use Rattle.usb_capture.specs.DeviceReadings.{current_after}
 use Rattle.usb_recorded_runs.specs.Exchanges.{exchanges, received}
 use Rattle.usb_recorded_runs.specs.Files.{GivesFile, at_address, has_qualifier}
 use Rattle.usb_recorded_runs.proofs.DescribedFiles.{Reads, file_is, packet_eight, reads_kept, whole_file}
-use Rattle.usb_recorded_runs.proofs.FollowedRuns.{FollowedIn, followed_run}
+use Rattle.usb_recorded_runs.proofs.FollowedRuns.{ended_parts, followed_run}
 use Rattle.usb_recorded_runs.proofs.GivenFiles.{descriptor_there, file_there, other_there}
 use Rattle.usb_recorded_runs.proofs.KnownRuns.{all_small, run_right}
 use Rattle.usb_recorded_runs.proofs.LengthLemmas.{short_run}
@@ -28,25 +25,6 @@ use Rattle.usb_recorded_runs.proofs.RequestRuns.{run_requests}
 use Rattle.usb_recorded_runs.proofs.RunLemmas.{regular_plain}
 use Rattle.usb_recorded_runs.proofs.TransferLemmas.{accepted_kinds}
 use Rattle.usb_recorded_runs.proofs.laws.an_enumeration_gives_its_file.Goals as goal
-
--- a host that has succeeded is at the end of its order
-ended_parts : (f : DescriptorFile) (size : 8 ≤ f.device.packet) (right : has_wrong_kind f ≡ false) (limits : LimitView) (range : 1 ≤ limits.address) (K : List ControlTransfer) (pipes : Pipes)
-    (g : DescriptorFile) (phase : HostPhase) → outcome_of phase ≡ Some (Ok g) → FollowedIn f size right limits range K pipes phase
-    → HasFile f limits.address K g × HasStrings f limits.address K (named_indices g) g.strings
-ended_parts f size right limits range K pipes g ResetDue e has = absurd (let w : ⊥ = cc in w)
-ended_parts f size right limits range K pipes g (Reading place t k) e has = absurd (let w : ⊥ = cc in w)
-ended_parts f size right limits range K pipes g (Ended First) e has = absurd (let w : ⊥ = cc in w)
-ended_parts f size right limits range K pipes g (Ended (Address early)) e has = absurd (let w : ⊥ = cc in w)
-ended_parts f size right limits range K pipes g (Ended (Device early)) e has = absurd (let w : ⊥ = cc in w)
-ended_parts f size right limits range K pipes g (Ended (Header kind h)) e has = absurd (let w : ⊥ = cc in w)
-ended_parts f size right limits range K pipes g (Ended (Set kind h total)) e has = absurd (let w : ⊥ = cc in w)
-ended_parts f size right limits range K pipes g (Ended (Qualifier h)) e has = absurd (let w : ⊥ = cc in w)
-ended_parts f size right limits range K pipes g (Ended (Languages h named)) e has = absurd (let w : ⊥ = cc in w)
-ended_parts f size right limits range K pipes g (Ended (Text h s named)) e has = absurd (let w : ⊥ = cc in w)
-ended_parts f size right limits range K pipes g (Ended (Configure h)) e has = absurd (let w : ⊥ = cc in w)
-ended_parts f size right limits range K pipes g (Ended (Reported h)) e has =
-    let same : h ≡ g = cc in subst (λ x. HasFile f limits.address K x × HasStrings f limits.address K (named_indices x) x.strings) same has
-ended_parts f size right limits range K pipes g (Ended (Stopped trouble)) e has = absurd (let w : ⊥ = cc in w)
 
 -- the file of what is kept, of which each part is there
 given : (f : DescriptorFile) (speed : Speed) (K : List ControlTransfer) (address : ℕ) → Accepted f speed → AreBytes (file_bytes f) → AllByRecursion (Reads f) K → HasFile f address K f
