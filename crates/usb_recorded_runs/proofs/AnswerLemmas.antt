@@ -2,7 +2,7 @@
 use Rattle.std.proofs.Common.{◌≡◌, ◌⊎◌, inl, inr, ◌<◌, ◌≤◌, ◌/◌, ◌%◌, ◌-◌, ◌==◌, ◌&&◌, min, ℕ, zero, suc, Bool, true, false, if◌then◌else◌, List, [], ◌∷◌, ◌++◌, append_assoc, length, take, drop, refl, sym, ◌∙◌, ap, subst, arith, length-append}
 use Rattle.std.specs.Prelude.{Option, Some, None, unwrap_or, nat_lt, slice_index}
 use Rattle.std.proofs.lemmas.Bool.Decides.{nat_tests}
-use Rattle.std.proofs.lemmas.List.{get_or-take, get_or_append_left, length-take, take-append-drop}
+use Rattle.std.proofs.lemmas.List.{append-nil, get_or-take, get_or_append_left, length-take, take-append-drop}
 use Rattle.usb_fields.specs.declared.device.DeviceDescriptor.{DeviceDescriptor}
 use Rattle.usb_fields.specs.declared.setup.Setup.{Setup}
 use Rattle.usb_fields.specs.Device.{device_bytes}
@@ -15,7 +15,7 @@ use Rattle.usb_device.specs.Requests.{Bytes, Done, answer, answer_of, gives}
 use Rattle.usb_recorded_runs.proofs.FrontLemmas.{front_joins}
 use Rattle.usb_capture.specs.Readings.{is_whole, reads_descriptor}
 pub use Rattle.usb_recorded_runs.specs.Findings.{described_by}
-use Rattle.usb_recorded_runs.proofs.SizeLemmas.{Fronts, IsFront, TellsLong, TellsSize}
+use Rattle.usb_recorded_runs.proofs.SizeLemmas.{Fronts, IsFront, IsNoneOrAll, TellsLong, TellsSize}
 
 -- ---- what the table answers
 
@@ -191,6 +191,52 @@ any_front f s q bytes e within m read =
     )
     of rest (inr none) is = (described_by f q, ap (λ b. b ++ described_by f q) (nothing_front front rest none))
 
+no_packets : (m : ℕ) → joined (take m []) ≡ []
+no_packets zero = refl
+no_packets (suc m) = refl
+
+not_less : (m n : ℕ) → nat_lt m n ≡ false → n ≤ m
+not_less m n e = grind (arith, nat_tests)
+
+-- Each packet but the last one has as many bytes as a packet can have.
+whole_within : (size most : ℕ) (bytes : List ℕ) (limit m : ℕ) → 8 ≤ size → length (joined (take m (packets_within most bytes size limit))) < 8
+    → (length (joined (take m (packets_within most bytes size limit))) ≡ 0) ⊎ (joined (take m (packets_within most bytes size limit)) ≡ bytes)
+unfolding packets_within
+whole_within size most bytes limit zero whole less = inl refl
+whole_within size zero bytes limit (suc m) whole less = inl refl
+whole_within size (suc most) bytes limit (suc m) whole less = of (limit == 0) (nat_lt (length bytes) size) refl less
+  where
+    later : List (List ℕ)
+    later = packets_within most (drop size bytes) size (limit - size)
+
+    of : (none short : Bool) → nat_lt (length bytes) size ≡ short
+        → length (joined (take (suc m) (if none then [] else (if short then bytes ∷ [] else take size bytes ∷ later)))) < 8
+        → (length (joined (take (suc m) (if none then [] else (if short then bytes ∷ [] else take size bytes ∷ later)))) ≡ 0)
+        ⊎ (joined (take (suc m) (if none then [] else (if short then bytes ∷ [] else take size bytes ∷ later))) ≡ bytes)
+    of true short e less = inl refl
+    of false true e less = inr (ap (λ b. bytes ++ b) (no_packets m) ∙ append-nil bytes)
+    of false false e less =
+        absurd (let w : ⊥ = omega (arith, less, whole, not_less (length bytes) size e, length-take size bytes, length-append (take size bytes) (joined (take m later))) in w)
+
+whole_packets : (size : ℕ) (bytes : List ℕ) (limit m : ℕ) → 8 ≤ size → length (joined (take m (packets bytes size limit))) < 8
+    → (length (joined (take m (packets bytes size limit))) ≡ 0) ⊎ (joined (take m (packets bytes size limit)) ≡ bytes)
+unfolding packets
+whole_packets size bytes limit m whole less = whole_within size limit bytes limit m whole less
+
+none_or_all : (f : DescriptorFile) (s : State) (q : Setup) (bytes : List ℕ) → answer f s q ≡ Bytes bytes → (m : ℕ)
+    → reads_descriptor q ≡ true → IsNoneOrAll f.device.packet (described_by f) q (joined (take m (packets bytes f.device.packet q.length)))
+none_or_all f s q bytes e m read whole less =
+    let parts = read_parts (q.request_type == 128) (q.request == 6) read in
+    let is : bytes ≡ take q.length (described_by f q) = any_reported f s q bytes (same_number q.request_type 128 parts.0) (same_number q.request 6 parts.1) e in
+    of is (whole_packets f.device.packet bytes q.length m whole less)
+  where
+    front : List ℕ
+    front = joined (take m (packets bytes f.device.packet q.length))
+
+    of : bytes ≡ take q.length (described_by f q) → (length front ≡ 0) ⊎ (front ≡ bytes) → (length front ≡ 0) ⊎ (front ≡ take q.length (described_by f q))
+    of is (inl none) = inl none
+    of is (inr all) = inr (all ∙ is)
+
 -- The first packets of an answer tell no other size.
 fronts_tell : (f : DescriptorFile) (s : State) (q : Setup) (bytes : List ℕ) → answer f s q ≡ Bytes bytes
     → (m : ℕ) → TellsSize f.device.packet q (joined (take m (packets bytes f.device.packet q.length)))
@@ -226,4 +272,4 @@ fronts_few size limit bytes m within = let before = front_of size limit bytes m 
 pub all_fronts : (f : DescriptorFile) (s : State) (q : Setup) (bytes : List ℕ) → answer f s q ≡ Bytes bytes → length bytes ≤ q.length → (m : ℕ)
     → Fronts f.device.packet (described_by f) q (joined (take m (packets bytes f.device.packet q.length)))
 all_fronts f s q bytes e within m =
-    record { tells = record { whole = fronts_tell f s q bytes e m; front = any_front f s q bytes e within m }; few = fronts_few f.device.packet q.length bytes m within; long = long_fronts f s q bytes e within m }
+    record { tells = record { whole = fronts_tell f s q bytes e m; front = any_front f s q bytes e within m; few = none_or_all f s q bytes e m }; few = fronts_few f.device.packet q.length bytes m within; long = long_fronts f s q bytes e within m }

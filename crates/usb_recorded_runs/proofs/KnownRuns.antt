@@ -104,11 +104,11 @@ all_small (x ∷ xs) regular = (λ kept. small x kept regular.0.legal, all_small
         bytes x.sent.address x.sent.token rest
         (subst (λ lost. AllByRecursion IsLegal (arriving lost (Some (token_packet x.sent)) ++ (arriving lost (data_packet x.sent.token) ++ rest))) kept legal)
 
-all_front : {A : Type 0} (P : A → Type 0) (xs ys : List A) → AllByRecursion P (xs ++ ys) → AllByRecursion P xs
+pub all_front : {A : Type 0} (P : A → Type 0) (xs ys : List A) → AllByRecursion P (xs ++ ys) → AllByRecursion P xs
 all_front P [] ys each = tt
 all_front P (x ∷ xs) ys each = (each.0, all_front P xs ys each.1)
 
-all_last : {A : Type 0} (P : A → Type 0) (xs : List A) (x : A) → AllByRecursion P (xs ++ x ∷ []) → P x
+pub all_last : {A : Type 0} (P : A → Type 0) (xs : List A) (x : A) → AllByRecursion P (xs ++ x ∷ []) → P x
 all_last P [] x each = each.0
 all_last P (y ∷ xs) x each = all_last P xs x each.1
 
@@ -184,12 +184,12 @@ module _ (f : DescriptorFile) (kept_table : IsTable (answer f)) (list : List Fat
   size_zero : (address : ℕ) (sizes : List ℕ) → address ≡ 0 → size_at address sizes ≡ 0
   size_zero address sizes zero = ap (λ a. size_at a sizes) zero
 
-  setup_low : (q : Setup) (sent : Sent) → sent.token ≡ SetupToken (setup_bytes q) → HasBytes sent.token → q.length < 65536
+  pub setup_low : (q : Setup) (sent : Sent) → sent.token ≡ SetupToken (setup_bytes q) → HasBytes sent.token → q.length < 65536
   setup_low q sent is bytes =
       let each : AreBytes (setup_bytes q) = subst HasBytes is bytes in
       let high : q.length / 256 < 256 = each.1.1.1.1.1.1.1.0 in omega (arith, high)
 
-  due_low : (t : TransferView) (stage : TransferStage) (sent : Sent) → sends (addressed t.address (token_due t [] stage)) ≡ WantsSent sent → HasBytes sent.token
+  pub due_low : (t : TransferView) (stage : TransferStage) (sent : Sent) → sends (addressed t.address (token_due t [] stage)) ≡ WantsSent sent → HasBytes sent.token
       → stage ≡ stages.Setup → t.request.length < 65536
   due_low t stages.Setup sent e bytes at =
       setup_low t.request sent (let same : record { address = t.address; token = SetupToken (setup_bytes t.request) } ≡ sent = cc in ap (λ z. z.token) (sym same)) bytes

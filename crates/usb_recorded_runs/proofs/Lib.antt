@@ -29,3 +29,13 @@ pub mod DescriptorLengths
 pub mod NamedFronts
 pub mod NamedLemmas
 pub mod ShownLemmas
+pub mod NamedParts
+pub mod FullLengths
+pub mod RequestedLemmas
+pub mod RequestRuns
+pub mod DescribedFiles
+pub mod KeptParts
+pub mod FollowLemmas
+pub mod PlaceParts
+pub mod FollowedRuns
+pub mod GivenFiles

@@ -1,5 +1,5 @@
 -- What recorded transfers say of a device's packet size.
-use Rattle.std.proofs.Common.{◌≡◌, ◌⊎◌, inl, inr, ◌≢◌, ◌<◌, ◌≤◌, ◌%◌, ◌/◌, ◌==◌, ◌&&◌, ℕ, Bool, true, false, not, if◌then◌else◌, List, [], ◌∷◌, ◌++◌, length, refl, sym, ◌∙◌, ap, subst, arith}
+use Rattle.std.proofs.Common.{◌≡◌, ◌⊎◌, inl, inr, ◌≢◌, ◌<◌, ◌≤◌, ◌%◌, ◌/◌, ◌==◌, ◌&&◌, ℕ, Bool, true, false, not, if◌then◌else◌, List, [], ◌∷◌, ◌++◌, length, take, refl, sym, ◌∙◌, ap, subst, arith}
 use Rattle.std.specs.Prelude.{Option, Some, None, slice_index, slice_index_or, slice_set}
 use Rattle.std.specs.List.{AllByRecursion}
 use Rattle.std.proofs.lemmas.Bool.Decides.{nat_tests}
@@ -30,10 +30,15 @@ TellsLong size q bytes = reads_descriptor q ≡ true → (q.value / 256 == 1) �
 abbrev pub IsFront : List ℕ → List ℕ → Type 0
 IsFront xs all = (rest : List ℕ) × (xs ++ rest ≡ all)
 
+-- Fewer than eight of them are none or all that was asked for, where each packet but the last has eight or more.
+abbrev pub IsNoneOrAll : ℕ → (Setup → List ℕ) → Setup → List ℕ → Type 0
+IsNoneOrAll size described q bytes = 8 ≤ size → length bytes < 8 → (length bytes ≡ 0) ⊎ (bytes ≡ take q.length (described q))
+
 -- what the bytes that have come of this request's answer say, where a device has these descriptors
 pub record Tells (size : ℕ) (described : Setup → List ℕ) (q : Setup) (bytes : List ℕ) : Type 0 where
   pub whole : TellsSize size q bytes
   pub front : reads_descriptor q ≡ true → IsFront bytes (described q)
+  pub few : reads_descriptor q ≡ true → IsNoneOrAll size described q bytes
 
 -- the first bytes of an answer to this request
 pub record Fronts (size : ℕ) (described : Setup → List ℕ) (q : Setup) (front : List ℕ) : Type 0 where
@@ -50,6 +55,7 @@ pub record Reported (size : ℕ) (described : Setup → List ℕ) (transfer : Co
 -- and of one that is over
 pub record IsSound (size : ℕ) (described : Setup → List ℕ) (transfer : ControlTransfer) : Type 0 where
   pub front : reads_descriptor transfer.setup ≡ true → is_done transfer.ending ≡ true → not transfer.is_cut ≡ true → IsFront transfer.data (described transfer.setup)
+  pub short : reads_descriptor transfer.setup ≡ true → is_done transfer.ending ≡ true → not transfer.is_cut ≡ true → IsNoneOrAll size described transfer.setup transfer.data
   pub says : Says size transfer
   pub few : is_answered transfer.ending ≡ true → transfer.length ≤ transfer.setup.length
   pub asked : is_stall transfer.ending ≡ true → reads_status transfer.setup ≡ false
@@ -81,6 +87,7 @@ false_true e = absurd (let w : ⊥ = cc in w)
 pub unseen_over : (size : ℕ) (described : Setup → List ℕ) (t : ControlTransfer) → t.ending ≡ endings.Unseen → IsSound size described t
 unseen_over size described t unseen = record {
   front = λ read done kept. false_true (sym (ap is_done unseen) ∙ done);
+  short = λ read done kept. false_true (sym (ap is_done unseen) ∙ done);
   says = λ e. false_true (sym (ap is_done unseen) ∙ (parts_of t e).is_ended);
   few = λ e. false_true (sym (ap is_answered unseen) ∙ e);
   asked = λ e. false_true (sym (ap is_stall unseen) ∙ e);
@@ -90,7 +97,7 @@ unseen_over size described t unseen = record {
 pub reported_over : (size : ℕ) (described : Setup → List ℕ) (transaction : Transaction) (ending : Ending) (t : ControlTransfer) → Reported size described t
     → IsSound size described (ended_so transaction ending t)
 reported_over size described transaction ending t report =
-    record { front = front report.tells; says = says report.tells; few = λ e. report.few; asked = λ e. report.asked }
+    record { front = front report.tells; short = short report.tells; says = says report.tells; few = λ e. report.few; asked = λ e. report.asked }
   where
     says : (t.is_cut ≡ true) ⊎ Tells size described t.setup t.data → Says size (ended_so transaction ending t)
     says (inl cut) e = false_true (ap not (sym cut) ∙ (parts_of (ended_so transaction ending t) e).is_kept)
@@ -100,6 +107,11 @@ reported_over size described transaction ending t report =
         → IsFront t.data (described t.setup)
     front (inl cut) read done kept = false_true (ap not (sym cut) ∙ kept)
     front (inr tells) read done kept = tells.front read
+
+    short : (t.is_cut ≡ true) ⊎ Tells size described t.setup t.data → reads_descriptor t.setup ≡ true → is_done ending ≡ true → not t.is_cut ≡ true
+        → IsNoneOrAll size described t.setup t.data
+    short (inl cut) read done kept = false_true (ap not (sym cut) ∙ kept)
+    short (inr tells) read done kept = tells.few read
 
 pub all_says : (size : ℕ) (described : Setup → List ℕ) (ts : List ControlTransfer) → AllByRecursion (IsSound size described) ts → AllByRecursion (Says size) ts
 all_says size described [] each = tt
@@ -113,6 +125,7 @@ pub nothing_tells : (size : ℕ) (described : Setup → List ℕ) (q : Setup) �
 nothing_tells size described q = record {
   whole = λ read device whole. false_true (sym (none_whole (q.value / 256)) ∙ whole);
   front = λ read. (described q, refl);
+  few = λ read whole less. inl refl;
 }
 
 -- ---- the sizes that are known

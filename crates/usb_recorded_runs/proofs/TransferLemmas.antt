@@ -162,7 +162,7 @@ module _ (size : ℕ) (f : DescriptorFile) where
 -- ---- the type of a descriptor
 
 -- A descriptor, if there is one, has this type in its second byte.
-abbrev TypeIs : ℕ → Option (List ℕ) → Type 0
+abbrev pub TypeIs : ℕ → Option (List ℕ) → Type 0
 TypeIs kind None = Unit {0}
 TypeIs kind (Some b) = slice_index b 1 ≡ kind
 
@@ -235,7 +235,7 @@ by_kind P f index language device set string qualifier other none kind = of (kin
     of false false false false false a b c d e = none kind
 
 -- each descriptor of accepted ones has the type that it is asked for by
-descriptor_type : (f : DescriptorFile) (kind index language : ℕ) → has_wrong_kind f ≡ false → TypeIs kind (descriptor f kind index language)
+pub descriptor_type : (f : DescriptorFile) (kind index language : ℕ) → has_wrong_kind f ≡ false → TypeIs kind (descriptor f kind index language)
 descriptor_type f kind index language right =
     let own = or_parts (list_any (is_other_kind kinds.Configuration) f.sets) (list_any (is_other_kind kinds.OtherSpeed) (other_sets f.other)) right in
     by_kind TypeIs f index language (device_type f.device (index == 0)) (sets_type kinds.Configuration f.sets index own.0) (string_type f.strings (named_indices f) index language)
@@ -247,7 +247,7 @@ less_so n e = grind (arith, nat_tests)
 pub front_at : (front all : List ℕ) (i : ℕ) → IsFront front all → i < length front → slice_index front i ≡ slice_index all i
 front_at front all i is low = sym (get_or_append_left front is.0 0 i low) ∙ ap (λ b. slice_index b i) is.1
 
-front_type : (kind : ℕ) (o : Option (List ℕ)) (bytes : List ℕ) → TypeIs kind o → IsFront bytes (unwrap_or o []) → 1 < length bytes → slice_index bytes 1 ≡ kind
+pub front_type : (kind : ℕ) (o : Option (List ℕ)) (bytes : List ℕ) → TypeIs kind o → IsFront bytes (unwrap_or o []) → 1 < length bytes → slice_index bytes 1 ≡ kind
 front_type kind None [] is front some = absurd (let w : ⊥ = omega (arith, some) in w)
 front_type kind None (x ∷ bytes) is front some = absurd (let e : x ∷ (bytes ++ front.0) ≡ [] = front.1 in let w : ⊥ = cc in w)
 front_type kind (Some b) bytes is front some = front_at bytes b 1 front some ∙ is
@@ -262,7 +262,7 @@ type_right size f t right is = not_other (brings_descriptor t) (slice_index t.da
     front_type (t.setup.value / 256) (descriptor f (t.setup.value / 256) (t.setup.value % 256) t.setup.index) t.data
     (descriptor_type f (t.setup.value / 256) (t.setup.value % 256) t.setup.index right) (is.front parts.is_read parts.is_ended parts.is_kept) (less_so (length t.data) parts.of_type))
 
-accepted_kinds : (f : DescriptorFile) → has_wrong_sets f ≡ false → has_wrong_kind f ≡ false
+pub accepted_kinds : (f : DescriptorFile) → has_wrong_sets f ≡ false → has_wrong_kind f ≡ false
 unfolding has_wrong_sets
 accepted_kinds f e = (or_parts (has_wrong_count f) (has_wrong_kind f) (or_parts (has_wrong_count f || has_wrong_kind f) (has_wrong_layout f) e).0).1
 

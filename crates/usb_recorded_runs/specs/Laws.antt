@@ -1,24 +1,28 @@
 -- What holds of a recording of a host and a device that enumerate over a bus that loses packets.
-use Rattle.std.specs.Prelude.{◌≡◌, ◌⊎◌, ◌<◌, ℕ, true, false, List, [], Option, None}
+use Rattle.std.specs.Prelude.{◌≡◌, ◌⊎◌, ◌<◌, ◌++◌, ℕ, true, false, List, [], Option, Some, None, Ok}
 use Rattle.std.specs.List.{AllByRecursion}
 use Rattle.usb_wire.specs.Packets.{IsLegal}
-use Rattle.usb_file_data.specs.declared.file.DescriptorFile.{DescriptorFile}
-use Rattle.usb_file_data.specs.File.{file_bytes}
 use Rattle.usb_fields.specs.Bytes.{AreBytes}
+use Rattle.usb_fields.specs.Device.{device_bytes}
+use Rattle.usb_file_data.specs.declared.file.DescriptorFile.{DescriptorFile}
+use Rattle.usb_file_data.specs.File.{file_bytes, sets_bytes}
 use Rattle.usb_fields.specs.declared.packet.Speed.{Speed}
 use Rattle.usb_host.specs.declared.choice.Choice.{Choice}
-use Rattle.usb_host.specs.Limits.{LimitView}
+use Rattle.usb_host.specs.Limits.{IsInRange, LimitView}
+use Rattle.usb_host.specs.Steps.{outcome_of}
+use Rattle.usb_host.specs.Terms.{forgives_any}
 use Rattle.usb_device.specs.Accepted.{Accepted}
 use Rattle.usb_device.specs.Requests.{answer}
 use Rattle.usb_device.specs.States.{zero}
 use Rattle.usb_bus.specs.declared.fate.Fate.{Fate}
 use Rattle.usb_bus.specs.Converse.{AskedView, state_after}
 use Rattle.usb_bus.specs.DamagedRuns.{DamagedRunsAt}
-use Rattle.usb_bus.specs.Enumerate.{Pair, Runs, chosen_pair}
+use Rattle.usb_bus.specs.Enumerate.{Pair, Runs, chosen_pair, new_pair}
 use Rattle.usb_bus.specs.Exchanges.{is_lost_down}
 use Rattle.usb_capture.specs.declared.finding.Finding.TheVariants.{MoreThanAsked, OtherBytes, OtherLength, OtherType, RefusesCounted, RefusesGiven, RefusesNamed, RefusesRequired, RefusesStatus}
 use Rattle.usb_capture.specs.declared.asked.Asked.{Asked}
 use Rattle.usb_capture.specs.declared.control_transfer.ControlTransfer.{ControlTransfer}
+use Rattle.usb_capture.specs.declared.device_file.DeviceFile.{DeviceFile}
 use Rattle.usb_capture.specs.declared.ending.Ending.TheVariants.{Unseen}
 use Rattle.usb_capture.specs.declared.frame.Frame.{Frame}
 use Rattle.usb_capture.specs.declared.packet_finding.PacketFinding.TheVariants.{Long, NoHandshake, NoRequest, NoShortPacket, SetupRefused, Toggle}
@@ -26,6 +30,8 @@ use Rattle.usb_capture.specs.declared.reader.CaptureReader.{CaptureReader}
 use Rattle.usb_capture.specs.declared.recorded_packet.RecordedPacket.{RecordedPacket}
 use Rattle.usb_capture.specs.declared.transaction.Transaction.{Transaction}
 use Rattle.usb_capture.specs.BusTransfers.{transfers_in}
+use Rattle.usb_capture.specs.DeviceFiles.{IsMade}
+use Rattle.usb_capture.specs.DeviceReadings.{current_after}
 use Rattle.usb_capture.specs.Findings.{holds}
 use Rattle.usb_capture.specs.PacketFindings.{damage_in, is_found}
 use Rattle.usb_capture.specs.PacketSizes.{is_long, size_at}
@@ -34,6 +40,7 @@ use Rattle.usb_capture.specs.Recordings.{transactions_in}
 use Rattle.usb_recorded_runs.specs.Answers.{IsAnswered, IsOfDevice, never_found}
 use Rattle.usb_recorded_runs.specs.Captures.{AreOfFrames, Moment, capture_of, frames, times}
 use Rattle.usb_recorded_runs.specs.Exchanges.{exchanges, received, packets_in, transaction_of}
+use Rattle.usb_recorded_runs.specs.Files.{GivesDump, GivesFile, IsOfDescription, at_address}
 use Rattle.usb_recorded_runs.specs.Findings.{IsEnded, IsFreeAfter, IsTransferFreeAfter, LosesHandshake}
 
 -- A run from a new pair on, of n transactions under these fates, as that of an enumeration: these are the pairs on the way, the newest
@@ -223,3 +230,31 @@ NoAnswerContradicts =
     (f : DescriptorFile) (fates : List Fate) (limits : LimitView) (speed : Speed) (choice : Choice) (earlier : List Pair) (n : ℕ) (last : Pair)
     (times : ℕ → Option ℕ) → Accepted f speed → AreBytes (file_bytes f) → IsRun f fates (chosen_pair limits speed choice) earlier n last →
     AllByRecursion (λ finding. IsTransferFreeAfter finding [] (transfers_in (received times 1 (exchanges f fates earlier n)))) never_found
+
+-- A file that is made of what is kept of a device is that of its description, and so is a dump, of a device with accepted
+-- descriptors, whose numbers are within their widths.
+abbrev pub FilesAreDescriptions : Type 0
+FilesAreDescriptions =
+    (f : DescriptorFile) (fates : List Fate) (limits : LimitView) (speed : Speed) (choice : Choice) (earlier : List Pair) (n : ℕ) (last : Pair)
+    (times : ℕ → Option ℕ) (device : Asked) (made : DeviceFile) → Accepted f speed → AreBytes (file_bytes f) →
+    IsRun f fates (chosen_pair limits speed choice) earlier n last →
+    (let kept = current_after [] (transfers_in (received times 1 (exchanges f fates earlier n))) in
+    IsMade kept device made → IsOfDescription f kept device made)
+
+-- And where an enumeration that asks for all has succeeded, all parts are kept of the device at the address that it was given: the file
+-- that is made of them is its description's own.
+abbrev pub SuccessesGiveFiles : Type 0
+SuccessesGiveFiles =
+    (f : DescriptorFile) (fates : List Fate) (limits : LimitView) (speed : Speed) (earlier : List Pair) (n : ℕ) (last : Pair) (times : ℕ → Option ℕ)
+    (g : DescriptorFile) → Accepted f speed → AreBytes (file_bytes f) → IsInRange limits.address limits.attempts →
+    IsRun f fates (new_pair limits speed) earlier n last → outcome_of last.host.phase ≡ Some (Ok g) →
+    GivesFile (current_after [] (transfers_in (received times 1 (exchanges f fates earlier n)))) (at_address limits.address) (file_bytes f)
+
+-- Where it has asked for less, and passes over no string, there is at least the dump.
+abbrev pub SuccessesGiveDumps : Type 0
+SuccessesGiveDumps =
+    (f : DescriptorFile) (fates : List Fate) (limits : LimitView) (speed : Speed) (choice : Choice) (earlier : List Pair) (n : ℕ) (last : Pair)
+    (times : ℕ → Option ℕ) (g : DescriptorFile) → Accepted f speed → AreBytes (file_bytes f) → IsInRange limits.address limits.attempts →
+    forgives_any choice.strings ≡ false → IsRun f fates (chosen_pair limits speed choice) earlier n last → outcome_of last.host.phase ≡ Some (Ok g) →
+    GivesDump (current_after [] (transfers_in (received times 1 (exchanges f fates earlier n)))) (at_address limits.address)
+    (device_bytes f.device ++ sets_bytes f.sets)

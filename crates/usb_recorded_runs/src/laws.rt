@@ -1,7 +1,7 @@
 //! The functions of these laws do nothing: their contracts are the laws.
-ghost use Rattle.usb_recorded_runs.specs.Laws.{CapturedRunsAreRead, DescriptorsHaveLengths, DescriptorsHaveTypes, EnumerationsAreRuns, HandshakesAreLost, NoAnswerContradicts, NoConversationContradicts, NoCountedDescriptorIsRefused, NoDescriptorChanges, NoDeviceAnswersSo, NoGivenDescriptorIsRefused, NoLongPacketIsFound, NoNamedStringIsRefused, NoPacketIsDamaged, NoPacketIsLong, NoRequiredDescriptorIsRefused, NoShortPacketLacks, NoToggleIsWrong, NoTransferHasMore, RecordedRunsAreRead, RunsOfBytesAreRuns, SetupsAreTaken, TransfersEndRight, TransfersShowAnswers};
+ghost use Rattle.usb_recorded_runs.specs.Laws.{CapturedRunsAreRead, DescriptorsHaveLengths, DescriptorsHaveTypes, EnumerationsAreRuns, FilesAreDescriptions, HandshakesAreLost, NoAnswerContradicts, NoConversationContradicts, NoCountedDescriptorIsRefused, NoDescriptorChanges, NoDeviceAnswersSo, NoGivenDescriptorIsRefused, NoLongPacketIsFound, NoNamedStringIsRefused, NoPacketIsDamaged, NoPacketIsLong, NoRequiredDescriptorIsRefused, NoShortPacketLacks, NoToggleIsWrong, NoTransferHasMore, RecordedRunsAreRead, RunsOfBytesAreRuns, SetupsAreTaken, SuccessesGiveDumps, SuccessesGiveFiles, TransfersEndRight, TransfersShowAnswers};
 
-use usb_bus::laws::a_device_keeps_its_table;
+use usb_bus::laws::{a_device_keeps_its_table, an_enumeration_ends_well};
 
 /// A run over a bus of bytes that changes no bit is a run under fates, and each packet of it that arrives is legal.
 pub fn a_run_of_bytes_is_a_run()
@@ -142,6 +142,14 @@ pub fn no_device_answers_so()
     a_device_keeps_its_table();
 }
 
+/// A descriptor file that is made of such a recording is the description's own, byte for byte. Without the other speed, whose
+/// qualifier may not have come, it is the file without it; and a dump is the device descriptor with its configurations.
+pub fn a_device_file_is_the_description()
+    ensures { FilesAreDescriptions }
+{
+    a_device_keeps_its_table();
+}
+
 /// They are in none of a whole conversation, from its first transfer on.
 pub fn no_conversation_contradicts()
     ensures { NoConversationContradicts }
@@ -163,4 +171,20 @@ pub fn no_answer_contradicts()
 {
     a_device_keeps_its_table();
     no_device_answers_so();
+}
+
+/// Where the enumeration has succeeded there is such a file, with all that the description has.
+pub fn an_enumeration_gives_its_file()
+    ensures { SuccessesGiveFiles }
+{
+    a_device_keeps_its_table();
+    an_enumeration_ends_well();
+}
+
+/// Of a host that has asked for less there is at least the dump, if it takes no device whose strings are missing.
+pub fn an_enumeration_gives_its_dump()
+    ensures { SuccessesGiveDumps }
+{
+    a_device_keeps_its_table();
+    an_enumeration_ends_well();
 }
