@@ -10,7 +10,7 @@ use Rattle.usb_capture.specs.DeviceReadings.{HasCurrent}
 use Rattle.usb_text.specs.Output.{Held}
 use Rattle.usb_text.proofs.Pages.{appends_more}
 use Rattle.usb_capture_lines.specs.Observations.{Completes, HasObserved, Observed, IsObserved, found_by, frame_count, one_more, over_by, overs}
-use Rattle.usb_capture_lines.specs.Recordings.{bus_lines, counted, counted_first, first_part, met, met_all, met_in, over_lines, replaced_in, replaced_of, tally_of, reported_text}
+use Rattle.usb_capture_lines.specs.Recordings.{bus_lines, counted, counted_first, first_part, met, met_all, met_in, over_lines, replaced_in, tally_of, reported_text}
 use Rattle.usb_capture_lines.specs.BusFindings.{device_of}
 use Rattle.usb_capture_lines.specs.declared.completed.Completed.{Completed}
 use Rattle.usb_capture_lines.specs.declared.bus_finding.BusFinding.{BusFinding}
