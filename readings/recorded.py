@@ -579,7 +579,10 @@ def is_reading(transfer):
     setup, data = transfer["setup"], transfer["data"]
     if setup[:2] != b"\x80\x06" or transfer["ending"][0] != "done" or transfer["cut"] or len(data) < 2 or data[1] != setup[3]:
         return False
-    return len(data) == (struct.unpack("<H", data[2:4].ljust(2, b"\0"))[0] if setup[3] in (2, 7) else data[0])
+    if setup[3] not in (2, 7):
+        return len(data) == data[0]
+    # Without all of wTotalLength nothing says that it is whole.
+    return len(data) > 3 and len(data) == struct.unpack_from("<H", data, 2)[0]
 
 
 def forget(kept, device):

@@ -16,9 +16,13 @@ reads_descriptor setup = setup.request_type == 128 && setup.request == 6
 abbrev pub full_length : ℕ → List ℕ → ℕ
 full_length type b = if type == 2 || type == 7 then little_endian_at b 2 else slice_index b 0
 
+-- which byte completes what a descriptor says of its type and length: bDescriptorType, or of a configuration that of wTotalLength
+abbrev pub last_of_length : ℕ → ℕ
+last_of_length type = if type == 2 || type == 7 then 3 else 1
+
 -- all of a descriptor of this type
 abbrev pub is_whole : ℕ → List ℕ → Bool
-is_whole type b = nat_lt 1 (length b) && slice_index b 1 == type && length b == full_length type b
+is_whole type b = nat_lt (last_of_length type) (length b) && slice_index b 1 == type && length b == full_length type b
 
 abbrev pub is_done : Ending → Bool
 is_done Unseen = false

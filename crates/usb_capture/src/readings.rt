@@ -1,7 +1,7 @@
 //! Whole readings of devices' descriptors.
 ghost use Rattle.std.specs.Prelude.{◌≡◌, ◌/◌, ◌++◌, ◌∷◌, [], List, OnOk, OnErr};
 ghost use Rattle.usb_capture.specs.declared.control_transfer.ControlTransfer.{ControlTransfer};
-ghost use Rattle.usb_capture.specs.Readings.{HasRead, full_length, is_again, is_done, is_reading, is_whole, kept_with, reads_descriptor, without_again};
+ghost use Rattle.usb_capture.specs.Readings.{HasRead, full_length, is_again, is_done, is_reading, is_whole, kept_with, last_of_length, reads_descriptor, without_again};
 
 use crate::control_transfer::ControlTransfer;
 use crate::ending::Ending;
@@ -98,7 +98,16 @@ fn is_whole(value: u16, bytes: &[u8]) -> bool
     ensures { result ≡ is_whole (value / 256) bytes.now }
 {
     let kind = (value / 256) as u8;
-    bytes.len() > 1 && byte_at(bytes, 1) == kind && bytes.len() == full_length(kind, bytes)
+    bytes.len() > last_of_length(kind)
+        && byte_at(bytes, 1) == kind
+        && bytes.len() == full_length(kind, bytes)
+}
+
+/// Which byte completes what a descriptor says of its type and its length.
+fn last_of_length(kind: u8) -> usize
+    ensures { result ≡ last_of_length kind }
+{
+    if kind == 2 || kind == 7 { 3 } else { 1 }
 }
 
 /// How many bytes the descriptor of this type has that begins so (USB 2.0, 9.6).

@@ -16,7 +16,7 @@ use Rattle.usb_file_data.specs.declared.file.Other.{Other}
 use Rattle.usb_file_data.specs.declared.file.Strings.{Strings}
 use Rattle.usb_file_data.specs.File.{named_indices, units_at, whole_set}
 use Rattle.usb_device.specs.Descriptors.{descriptor, device_of, other_set_at, qualifier_of, set_at, string_at}
-use Rattle.usb_capture.specs.Readings.{full_length, is_whole}
+use Rattle.usb_capture.specs.Readings.{full_length, is_whole, last_of_length}
 use Rattle.usb_recorded_runs.proofs.SizeLemmas.{IsFront}
 
 -- how many bytes a descriptor has by its bLength, and by its wTotalLength
@@ -116,8 +116,9 @@ whole_parts : (some type all : Bool) → (some && type && all) ≡ true → Whol
 whole_parts true true true e = record { has_some = refl; has_all = refl }
 whole_parts some type all e = absurd (let w : ⊥ = cc in w)
 
-more_than_one : (n : ℕ) → nat_lt 1 n ≡ true → 1 < n
-more_than_one n e = grind (arith, nat_tests)
+more_than_one : (set : Bool) (n : ℕ) → nat_lt (if set then 3 else 1) n ≡ true → 1 < n
+more_than_one true n e = grind (arith, nat_tests)
+more_than_one false n e = grind (arith, nat_tests)
 
 same_number : (m n : ℕ) → (m == n) ≡ true → m ≡ n
 same_number m n e = grind (arith, nat_tests)
@@ -133,8 +134,8 @@ all_there kind b front rest is joins whole long = sym (ap (λ r. front ++ r) (no
     of true says e = omega (arith, says.total, e, at 2 (omega (arith, long)), at 3 (omega (arith, long)))
     of false says e = omega (arith, says, e, at 0 (omega (arith, long)))
 
-    parts : WholeParts (nat_lt 1 (length front)) (slice_index front 1 == kind) (length front == full_length kind front)
-    parts = whole_parts (nat_lt 1 (length front)) (slice_index front 1 == kind) (length front == full_length kind front) whole
+    parts : WholeParts (nat_lt (last_of_length kind) (length front)) (slice_index front 1 == kind) (length front == full_length kind front)
+    parts = whole_parts (nat_lt (last_of_length kind) (length front)) (slice_index front 1 == kind) (length front == full_length kind front) whole
 
     no_more : length rest ≡ 0
     no_more = omega (arith, length-append front rest, ap length joins, of ((kind == 2) || (kind == 7)) is (same_number (length front) (full_length kind front) parts.has_all))
@@ -149,7 +150,7 @@ pub whole_front : (f : DescriptorFile) (kind index language : ℕ) (front : List
 whole_front f kind index language front is few whole = of (descriptor f kind index language) is few (says_so f kind index language)
   where
     some : 1 < length front
-    some = more_than_one (length front) (whole_parts (nat_lt 1 (length front)) (slice_index front 1 == kind) (length front == full_length kind front) whole).has_some
+    some = more_than_one ((kind == 2) || (kind == 7)) (length front) (whole_parts (nat_lt (last_of_length kind) (length front)) (slice_index front 1 == kind) (length front == full_length kind front) whole).has_some
 
     less_or_not : (n : ℕ) → (n < 8) ⊎ (7 < n)
     less_or_not n = by (nat_lt n 8) refl

@@ -220,15 +220,15 @@ module _ (f : DescriptorFile) (address : ℕ) where
     and_all true false c x y z = absurd (let w : ⊥ = cc in w)
     and_all true true false x y z = absurd (let w : ⊥ = cc in w)
 
-    above_one : (n : ℕ) → 1 < n → nat_lt 1 n ≡ true
-    above_one n more = grind (arith, nat_tests)
+    above : (least n : ℕ) → least < n → nat_lt least n ≡ true
+    above least n more = grind (arith, nat_tests)
 
     same_so : (m n : ℕ) → m ≡ n → (m == n) ≡ true
     same_so m n e = grind (arith, nat_tests)
 
     whole_units : (u : List ℕ) → is_whole 3 (units_bytes u) ≡ true
     whole_units u =
-        and_all (nat_lt 1 (length (units_bytes u))) true (length (units_bytes u) == 2 + 2 * length u) (above_one (length (units_bytes u)) (omega arith)) refl
+        and_all (nat_lt 1 (length (units_bytes u))) true (length (units_bytes u) == 2 + 2 * length u) (above 1 (length (units_bytes u)) (omega arith)) refl
         (same_so (length (units_bytes u)) (2 + 2 * length u) (omega (arith, length-flat_map u)))
 
     device_parts : (early b : List ℕ) (o : Option DeviceDescriptor) → device_of b ≡ o → (is_whole 1 b ≡ true → Read L 256 0) → HasParts L (device_leads terms (Device early) early b o)
@@ -280,9 +280,9 @@ module _ (f : DescriptorFile) (address : ℕ) where
         same : (a b : ℕ) → (a == b) ≡ true → a ≡ b
         same a b e = grind (arith, nat_tests)
 
-        full : (kind : SetKind) → length b ≡ little_endian_at b 2 → slice_index b 1 ≡ type_number kind → 1 < length b → is_whole (type_number kind) b ≡ true
-        full kinds.Configuration size type some = and_all (nat_lt 1 (length b)) (slice_index b 1 == 2) (length b == little_endian_at b 2) (above_one (length b) some) (same_so (slice_index b 1) 2 type) (same_so (length b) (little_endian_at b 2) size)
-        full kinds.OtherSpeed size type some = and_all (nat_lt 1 (length b)) (slice_index b 1 == 7) (length b == little_endian_at b 2) (above_one (length b) some) (same_so (slice_index b 1) 7 type) (same_so (length b) (little_endian_at b 2) size)
+        full : (kind : SetKind) → length b ≡ little_endian_at b 2 → slice_index b 1 ≡ type_number kind → 3 < length b → is_whole (type_number kind) b ≡ true
+        full kinds.Configuration size type some = and_all (nat_lt 3 (length b)) (slice_index b 1 == 2) (length b == little_endian_at b 2) (above 3 (length b) some) (same_so (slice_index b 1) 2 type) (same_so (length b) (little_endian_at b 2) size)
+        full kinds.OtherSpeed size type some = and_all (nat_lt 3 (length b)) (slice_index b 1 == 7) (length b == little_endian_at b 2) (above 3 (length b) some) (same_so (slice_index b 1) 7 type) (same_so (length b) (little_endian_at b 2) size)
 
         whole : count ≡ total → is_whole (type_number kind) b ≡ true
         whole e =

@@ -44,7 +44,7 @@ use Rattle.usb_capture.specs.Readings.{is_done, reads_descriptor}
 use Rattle.usb_recorded_runs.specs.Answers.{IsAnswered, IsOfDevice, Shows, descriptor_of, never_found}
 use Rattle.usb_recorded_runs.specs.Findings.{IsTransferFreeAfter}
 use Rattle.usb_recorded_runs.proofs.AnswerLemmas.{any_reported, described_by}
-use Rattle.usb_recorded_runs.proofs.SizeLemmas.{IsFront, IsSound}
+use Rattle.usb_recorded_runs.proofs.SizeLemmas.{IsFront, IsNoneOrAll, IsSound}
 use Rattle.usb_recorded_runs.proofs.TransferLemmas.{front_over, fronts_agree, none_of_other_type, same_descriptor}
 
 -- ---- what is shown
@@ -423,21 +423,37 @@ always_own f requests = still_own f requests states.zero refl
 -- ---- the findings
 
 -- what came of a descriptor
-given_front : (f : DescriptorFile) (s : State) (t : ControlTransfer) → Shows (answer f s t.setup) t → reads_descriptor t.setup ≡ true → is_done t.ending ≡ true
-    → not t.is_cut ≡ true → IsFront t.data (described_by f t.setup)
-given_front f s t shown read done kept = of (answer f s t.setup) refl shown
+given_data : (f : DescriptorFile) (s : State) (t : ControlTransfer) → Shows (answer f s t.setup) t → reads_descriptor t.setup ≡ true → is_done t.ending ≡ true
+    → not t.is_cut ≡ true → (t.data ≡ []) ⊎ (t.data ≡ take t.setup.length (described_by f t.setup))
+given_data f s t shown read done kept = of (answer f s t.setup) refl shown
   where
-    of : (o : Outcome) → answer f s t.setup ≡ o → Shows o t → IsFront t.data (described_by f t.setup)
+    of : (o : Outcome) → answer f s t.setup ≡ o → Shows o t → (t.data ≡ []) ⊎ (t.data ≡ take t.setup.length (described_by f t.setup))
     of (Bytes bytes) e shown =
         let parts = and_parts (t.setup.request_type == 128) (t.setup.request == 6) read in
-        let cut : t.data ≡ take t.setup.length (described_by f t.setup) =
-        shown.2 (uncut t.is_cut kept)
-        ∙ any_reported f s t.setup bytes (eqb-true t.setup.request_type 128 parts.0) (eqb-true t.setup.request 6 parts.1) e in
-        let rest = drop t.setup.length (described_by f t.setup) in
-        (rest, ap (λ b. b ++ rest) cut ∙ take-append-drop t.setup.length (described_by f t.setup))
-    of (Done next) e shown = (described_by f t.setup, ap (λ b. b ++ described_by f t.setup) shown.2)
+        inr (shown.2 (uncut t.is_cut kept)
+        ∙ any_reported f s t.setup bytes (eqb-true t.setup.request_type 128 parts.0) (eqb-true t.setup.request 6 parts.1) e)
+    of (Done next) e shown = inl shown.2
     of Refused e shown = absurd (done_taken Refused t shown done refl)
     of (Takes judge) e shown = absurd shown
+
+given_front : (f : DescriptorFile) (s : State) (t : ControlTransfer) → Shows (answer f s t.setup) t → reads_descriptor t.setup ≡ true → is_done t.ending ≡ true
+    → not t.is_cut ≡ true → IsFront t.data (described_by f t.setup)
+given_front f s t shown read done kept = of (given_data f s t shown read done kept)
+  where
+    of : (t.data ≡ []) ⊎ (t.data ≡ take t.setup.length (described_by f t.setup)) → IsFront t.data (described_by f t.setup)
+    of (inl none) = (described_by f t.setup, ap (λ b. b ++ described_by f t.setup) none)
+    of (inr cut) =
+        let rest = drop t.setup.length (described_by f t.setup) in
+        (rest, ap (λ b. b ++ rest) cut ∙ take-append-drop t.setup.length (described_by f t.setup))
+
+given_all : (f : DescriptorFile) (s : State) (t : ControlTransfer) (size : ℕ) → Shows (answer f s t.setup) t → reads_descriptor t.setup ≡ true → is_done t.ending ≡ true
+    → not t.is_cut ≡ true → IsNoneOrAll size (described_by f) t.setup t.data
+given_all f s t size shown read done kept eight few = of (given_data f s t shown read done kept)
+  where
+    of : (t.data ≡ []) ⊎ (t.data ≡ take t.setup.length (described_by f t.setup))
+        → (length t.data ≡ 0) ⊎ (t.data ≡ take t.setup.length (described_by f t.setup))
+    of (inl none) = inl (ap length none)
+    of (inr all) = inr all
 
 module _ (f : DescriptorFile) (s : State) (known : Asked → List ℕ) (t : ControlTransfer) (is : IsAnswered f s known t) where
   -- no more bytes than were asked for
@@ -454,6 +470,7 @@ module _ (f : DescriptorFile) (s : State) (known : Asked → List ℕ) (t : Cont
   sound_if_done : IsTable (answer f) → is_done t.ending ≡ true → IsSound (slice_index t.data 7) (described_by f) t
   sound_if_done table done = record {
     front = given_front f s t is.shown;
+    short = given_all f s t (slice_index t.data 7) is.shown;
     says = λ e. refl;
     few = λ e. shown_few table;
     asked = λ stall. absurd (never_both t.ending done stall);

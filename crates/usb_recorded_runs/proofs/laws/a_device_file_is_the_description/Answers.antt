@@ -42,7 +42,7 @@ returns c = λ f fates limits speed choice earlier n last times device made acce
     let new = chosen_pair limits speed choice in
     let xs = exchanges f fates earlier n in
     let transfers = transfers_in (received times 1 xs) in
-    let sound = (run_right f (c.a_device_keeps_its_table.ensures f) fates times new earlier n last refl run.0
+    let sound = (run_right f (c.a_device_keeps_its_table.ensures f) fates times new earlier n last refl refl run.0
     (all_small xs (regular_plain f fates new earlier n last run.0 run.1)) (short_run f fates new earlier n last run.0)).transfers in
     let asked = run_requests f fates times new earlier n last refl run.0 in
     made_is f speed (current_after [] transfers) device made accepted fits (reads_kept f transfers sound asked)

@@ -16,7 +16,7 @@ returns c = λ f fates limits speed choice earlier n last times accepted run.
     let table = c.a_device_keeps_its_table.ensures f in
     let transfers = transfers_in (received times 1 (exchanges f fates earlier n)) in
     let regular = regular_plain f fates new earlier n last run.0 run.1 in
-    let sound = (run_right f table fates times new earlier n last refl run.0
+    let sound = (run_right f table fates times new earlier n last refl refl run.0
     (all_small (exchanges f fates earlier n) regular) (short_run f fates new earlier n last run.0)).transfers in
     let ended = transfers_ended f speed fates limits choice earlier n last times table accepted run in
     none_refuses_named f.device.packet f transfers accepted.sets accepted.strings sound ended (transfers_bytes times (exchanges f fates earlier n) regular)
