@@ -1,4 +1,4 @@
-use Rattle.std.proofs.Common.{◌≡◌, ◌≤◌, false, ℕ, List, [], refl, ◌∙◌, ap, subst}
+use Rattle.std.proofs.Common.{◌≡◌, ◌≤◌, ℕ, List, [], refl, ◌∙◌, ap, subst}
 use Rattle.std.specs.Prelude.{Option, Some, None, Ok, IsSome}
 use Rattle.std.specs.List.{AllByRecursion}
 use Rattle.usb_fields.specs.Bytes.{AreBytes}
