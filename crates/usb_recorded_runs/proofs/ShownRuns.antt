@@ -73,8 +73,7 @@ module _ (f : DescriptorFile) where
           answered_so t carried.state (Done carried.next) carried.is_at carried.answers
           (e, carried.count_is, none_more t.data (omega (arith, own.few, carried.count_is)))
       done e (inr whole) =
-          answered_so t whole.state (Bytes whole.all) whole.is_at whole.answers
-          (
+          answered_so t whole.state (Bytes whole.all) whole.is_at whole.answers (
             e,
             whole.count_is,
             λ kept.
