@@ -146,11 +146,10 @@ answered_length f s q bytes e read =
 pub answered_front : (f : DescriptorFile) (s : State) (q : Setup) (bytes : List ℕ) → answer f s q ≡ Bytes bytes → reads_descriptor q ≡ true
     → IsFront bytes (described_by f q)
 answered_front f s q bytes e read =
-    let parts = read_parts (q.request_type == 128) (q.request == 6) read in
-    (
+    let parts = read_parts (q.request_type == 128) (q.request == 6) read in (
       drop q.length (described_by f q),
       ap (λ b. b ++ drop q.length (described_by f q)) (any_reported f s q bytes (same_number q.request_type 128 parts.0) (same_number q.request 6 parts.1) e)
-      ∙ take-append-drop q.length (described_by f q),
+          ∙ take-append-drop q.length (described_by f q),
     )
 
 -- So it is in the first packets of the answer to a request for the device descriptor.

@@ -261,12 +261,14 @@ module _ (f : DescriptorFile) (kept_table : IsTable (answer f)) (list : List Fat
                 ∙ stepped.2.not_early (size_at made.sent.address (sizes_in (transfers_in ts))) own
                 (λ zero. size_zero made.sent.address (sizes_in (transfers_in ts)) (ap (λ s. s.address) sent_is ∙ zero)));
             transfers = subst (AllByRecursion (IsSound cut described)) (sym (given_push pipes_after transfer_over none_open ts T))
-                (all_over (IsSound cut described) (transfers_in ts) (transfer_over T (pipes_in ts)) right.transfers (over_sound t.address (transfer_over T (pipes_in ts)) over));
+                (all_over (IsSound cut described) (transfers_in ts) (transfer_over T (pipes_in ts)) right.transfers
+                (over_sound t.address (transfer_over T (pipes_in ts)) over));
             ended = λ some. subst (AllByRecursion (λ t. HasEnded table t.device t)) (sym (given_push pipes_after transfer_over none_open ts T))
                 (all_over (λ t. HasEnded table t.device t) (transfers_in ts) (transfer_over T (pipes_in ts)) (right.ended some)
                 (over_ended t.address (transfer_over T (pipes_in ts)) own_so over some));
             own = subst (AllByRecursion (λ t. IsOwn t.device t)) (sym (given_push pipes_after transfer_over none_open ts T))
-                (all_over (λ t. IsOwn t.device t) (transfers_in ts) (transfer_over T (pipes_in ts)) right.own (over_own t.address (transfer_over T (pipes_in ts)) own_so));
+                (all_over (λ t. IsOwn t.device t) (transfers_in ts) (transfer_over T (pipes_in ts)) right.own
+                (over_own t.address (transfer_over T (pipes_in ts)) own_so));
             reached = subst (λ v. IsReached table v.state) (sym device_is)
                 (answer_reached table cut d (record { address = t.address; token = token }) (is_ready fate) fate right.reached);
             sound = subst Sound (sym pipes_is) stepped.2.sound_then;
@@ -282,7 +284,17 @@ module _ (f : DescriptorFile) (kept_table : IsTable (answer f)) (list : List Fat
 
   -- and one whose token is lost
   lost_right : (x last : Pair) (made : IsTransactionAt table cut fates.LostDown x last) (ts : List Transaction) → IsRight ts x → IsRight (ts ++ []) last
-  lost_right x last made ts right = subst (λ us. IsRight us last) (sym (append-nil ts)) (record { toggles = right.toggles; lengths = right.lengths; endings = right.endings; transfers = right.transfers; ended = right.ended; own = right.own; reached = subst (λ v. IsReached table v.state) (sym made.device) right.reached; sound = right.sound; known = of x.host.phase made.due made.host right.known })
+  lost_right x last made ts right = subst (λ us. IsRight us last) (sym (append-nil ts)) (record {
+    toggles = right.toggles;
+    lengths = right.lengths;
+    endings = right.endings;
+    transfers = right.transfers;
+    ended = right.ended;
+    own = right.own;
+    reached = subst (λ v. IsReached table v.state) (sym made.device) right.reached;
+    sound = right.sound;
+    known = of x.host.phase made.due made.host right.known;
+  })
     where
       of : (phase : HostPhase) → wanted phase ≡ WantsSent made.sent → TakesIn x.host phase NoReply last.host → Known x.device.stage (pipes_in ts) phase
           → Known last.device.stage (pipes_in ts) last.host.phase
@@ -304,7 +316,8 @@ module _ (f : DescriptorFile) (kept_table : IsTable (answer f)) (list : List Fat
   one_right x last fates.LostAck made ts number small short right = kept_right x last fates.LostAck made ts number refl small short right
   one_right x last fates.LostDown made ts number small short right = lost_right x last made ts right
 
-  pub run_right : (new : Pair) (earlier : List Pair) (n : ℕ) (last : Pair) → new.host.phase ≡ ResetDue → new.device.state ≡ states.zero → RunsAt table cut list new earlier n last
+  pub run_right : (new : Pair) (earlier : List Pair) (n : ℕ) (last : Pair) → new.host.phase ≡ ResetDue → new.device.state ≡ states.zero
+      → RunsAt table cut list new earlier n last
       → AllByRecursion IsSmall (exchanges f list earlier n) → AllByRecursion (IsShortIn cut) (exchanges f list earlier n) → IsRight (received times 1 (exchanges f list earlier n)) last
   run_right new [] n last due first (same, none) small short = record {
     toggles = tt;

@@ -4,12 +4,11 @@ use Rattle.usb_fields.specs.declared.packet.Toggle.{Toggle}
 use Rattle.usb_fields.specs.declared.packet.Toggle.TheVariants.{Data0, Data1}
 use Rattle.usb_fields.specs.declared.setup.Setup.{Setup}
 use Rattle.usb_fields.specs.Packets.{AckReply, InToken, NoReply, OutToken, Sent, SetupToken, Token, is_same_toggle, packets}
-use Rattle.usb_fields.specs.Setup.{setup_of}
 use Rattle.usb_device.specs.declared.state.State.{State}
 use Rattle.usb_device.specs.Requests.{Outcome}
 use Rattle.usb_device.specs.States as states
 use Rattle.usb_device.specs.Step as device
-use Rattle.usb_device.specs.Step.{DeviceStage, DeviceView, Sending, Served, StatusIn, acked, acked_stage, acked_state, awaited, carried_out, gathered, is_set_address, late_out, next_packet, received, replies, served, served_here, served_in, served_out, stalls, status_out, surplus_out}
+use Rattle.usb_device.specs.Step.{DeviceStage, DeviceView, Sending, Served, StatusIn, acked, acked_stage, acked_state, awaited, carried_out, gathered, is_set_address, next_packet, received, replies, served, served_here, served_in, served_out, stalls, status_out}
 use Rattle.usb_bus.specs.declared.fate.Fate.{Fate}
 use Rattle.usb_bus.specs.Bus.{acknowledges}
 use Rattle.usb_bus.specs.Converse.{AskedView, state_after, without_data}
@@ -54,7 +53,8 @@ module _ (table : State → Setup → Outcome) (cut : ℕ) where
     received_leaves : (q : Setup) (outcome : Outcome) (got : List ℕ) (toggle : Toggle) (bytes : List ℕ) → Leaves (received cut s q outcome got toggle bytes)
     received_leaves q outcome got toggle bytes =
         either_leaves (not (is_same_toggle toggle (awaited cut (length got)))) (replies AckReply s (device.Receiving q got) false) _ reached
-        (either_leaves (length bytes == min cut (q.length - length got)) (replies AckReply s (gathered q outcome (got ++ bytes)) false) (stalls s) reached reached)
+        (either_leaves (length bytes == min cut (q.length - length got)) (replies AckReply s (gathered q outcome (got ++ bytes)) false) (stalls s)
+        reached reached)
 
     out_leaves : (stage : DeviceStage) (toggle : Toggle) (bytes : List ℕ) → Leaves (served_out table cut s stage toggle bytes)
     out_leaves (Sending q b k) toggle bytes = status_leaves (Sending q b k) toggle bytes
@@ -81,7 +81,10 @@ module _ (table : State → Setup → Outcome) (cut : ℕ) where
   ack_reached : (d : DeviceView) → IsReached table d.state → IsReached table (acked table cut d).state
   ack_reached d reached = of d.pending
     where
-      of : (waits : Bool) → IsReached table (if waits then (record { state = acked_state table cut d.state d.stage; stage = acked_stage table cut d.stage; pending = false }) else d).state
+      done : DeviceView
+      done = record { state = acked_state table cut d.state d.stage; stage = acked_stage table cut d.stage; pending = false }
+
+      of : (waits : Bool) → IsReached table (if waits then done else d).state
       of true = acked_reached d.state reached d.stage
       of false = reached
 

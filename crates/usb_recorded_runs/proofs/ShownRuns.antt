@@ -1,5 +1,5 @@
 -- The control transfers of a recorded enumeration show the device's answers.
-use Rattle.std.proofs.Common.{◌≡◌, ◌⊎◌, inl, inr, ◌==◌, ◌&&◌, ◌/◌, ℕ, Bool, true, false, not, List, [], ◌∷◌, ◌++◌, length, take, refl, sym, ◌∙◌, ap, subst, arith}
+use Rattle.std.proofs.Common.{◌≡◌, ◌⊎◌, inl, inr, ◌==◌, ◌&&◌, ◌/◌, ℕ, Bool, true, false, not, List, [], ◌∷◌, length, take, refl, sym, ◌∙◌, ap, subst, arith}
 use Rattle.std.specs.Prelude.{Option, nat_lt, slice_index}
 use Rattle.std.specs.List.{AllByRecursion}
 use Rattle.std.proofs.Math.Seq.{take-append_seam}
@@ -73,8 +73,7 @@ module _ (f : DescriptorFile) where
           answered_so t carried.state (Done carried.next) carried.is_at carried.answers
           (e, carried.count_is, none_more t.data (omega (arith, own.few, carried.count_is)))
       done e (inr whole) =
-          answered_so t whole.state (Bytes whole.all) whole.is_at whole.answers
-          (
+          answered_so t whole.state (Bytes whole.all) whole.is_at whole.answers (
             e,
             whole.count_is,
             λ kept.

@@ -456,8 +456,8 @@ module _ (table : State → Setup → Outcome) (cut : ℕ) (described : Setup �
         }
 
     data_agrees : (toggle : Toggle) (bytes : List ℕ) → t.stage ≡ stages.DataIn → AsksSame stages.DataIn t.request d
-        → (8 ≤ cut → Took table cut t.address toggle bytes t.packet t.awaited t.kept t.request d) → OpenAt t.address (AfterPacket toggle bytes d t.awaited t.kept t.request) pipes
-        → Agree d pipes (taken_data t toggle bytes).transfer
+        → (8 ≤ cut → Took table cut t.address toggle bytes t.packet t.awaited t.kept t.request d)
+        → OpenAt t.address (AfterPacket toggle bytes d t.awaited t.kept t.request) pipes → Agree d pipes (taken_data t toggle bytes).transfer
     data_agrees toggle bytes at same took after =
         either_agrees (nat_lt t.packet (length bytes)) (failed t whys.TooLong) _ (λ c. failed_agrees whys.TooLong)
         (λ c. either_agrees (is_same_toggle toggle t.awaited) _ (struck t)
@@ -678,7 +678,8 @@ module _ (table : State → Setup → Outcome) (cut : ℕ) (described : Setup �
         zero_one e = let w : ⊥ = cc in w
 
         packet : (lost : Bool) (toggle : Toggle) (bytes : List ℕ) (Q : Going → Type 0) → IsSent table cut old new (DataReply toggle bytes) → Right cut (IsOver address) (received_in number time address InToken lost (DataReply toggle bytes)) Q pipes
-        packet lost Data1 bytes Q sent = status_in cut (IsOver address) number time address small pipes sound P Q lost bytes opens (λ going h. h.way) (λ u going h. done_over address u going.transfer h.report (λ some. inl (carried_so going h (carries some Data1 sent.was))))
+        packet lost Data1 bytes Q sent = status_in cut (IsOver address) number time address small pipes sound P Q lost bytes opens (λ going h. h.way)
+            (λ u going h. done_over address u going.transfer h.report (λ some. inl (carried_so going h (carries some Data1 sent.was))))
         packet lost Data0 bytes Q sent = right_at cut (IsOver address) (received_in number time address InToken lost (DataReply Data0 bytes)) P Q pipes sound refl opens (λ going unended h. absurd (zero_one (h.first Data0 sent.was)))
 
         of : (fate : Fate) (reply : Reply) → is_lost_down fate ≡ false → IsSent table cut old new reply → (8 ≤ cut → brought fate reply ≡ StallReply → IsRefused table address (sent_setup q) kept_bytes)
@@ -979,7 +980,8 @@ module _ (table : State → Setup → Outcome) (cut : ℕ) (described : Setup �
           same_sent _ sent due,
           step_at stages.StatusOut (OutToken Data1 []) at (λ e. let w : ⊥ = cc in w) agrees.size_is tt tt (λ some. (both some).together)
               (status_out cut (IsOver t.address) number time t.address small pipes sound Fitting Fitting agrees.fits (λ going h. h.way)
-              (λ u going h. done_over t.address u going.transfer h.report (λ some. inr (subst (λ q. IsWhole table t.address q going.transfer.length) (sym h.setup_is)
+              (λ u going h. done_over t.address u going.transfer h.report (λ some.
+              inr (subst (λ q. IsWhole table t.address q going.transfer.length) (sym h.setup_is)
               (subst (IsWhole table t.address (sent_setup t.request)) (sym h.count_is) (agrees.both some).1))))
               (λ going h. h.whole)
               (λ going h. record { way = h.way; report = h.report; whole = h.whole; count_is = h.count_is; setup_is = h.setup_is }) (is_lost_ack fate) came

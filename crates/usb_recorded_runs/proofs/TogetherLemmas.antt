@@ -138,7 +138,7 @@ module _ (table : State → Setup → Outcome) (cut : ℕ) where
   after_answer fate r = if acknowledges fate r.reply then acked table cut r.device else r.device
 
 -- of a transfer of this address
-module _ (table : State → Setup → Outcome) (cut : ℕ) (at_address : ℕ) where
+module _ (table : State → Setup → Outcome) (cut at_address : ℕ) where
   -- In the data stage so many whole packets of the answer have come to the host, which awaits more. The device counts as many as
   -- acknowledged, or one fewer.
   pub record InStep (asked : Setup) (awaited : Toggle) (kept : ℕ) (q : Setup) (all : List ℕ) (k : ℕ) : Type 0 where
@@ -245,7 +245,8 @@ module _ (table : State → Setup → Outcome) (cut : ℕ) (at_address : ℕ) wh
       pub holds : P r.device.stage
       pub refuses : r.reply ≡ StallReply → IsRefused table at_address (sent_setup asked) kept
 
-    either_in : (P : DeviceStage → Type 0) (asked : Setup) (kept : ℕ) (c : Bool) (x y : Served) → AtIn P asked kept x → AtIn P asked kept y → AtIn P asked kept (if c then x else y)
+    either_in : (P : DeviceStage → Type 0) (asked : Setup) (kept : ℕ) (c : Bool) (x y : Served) → AtIn P asked kept x → AtIn P asked kept y
+        → AtIn P asked kept (if c then x else y)
     either_in P asked kept true x y p q = p
     either_in P asked kept false x y p q = q
 
@@ -472,7 +473,8 @@ module _ (table : State → Setup → Outcome) (cut : ℕ) (at_address : ℕ) wh
 
     -- an IN, of which a packet comes so
     in_after : (P : DeviceStage → Type 0) (Q : Toggle → List ℕ → DeviceStage → Type 0) (asked : Setup) (kept_bytes : ℕ) (fate : Fate) (old : DeviceStage)
-        (reply : Reply) (new : DeviceView) → is_lost_down fate ≡ false → AtIn P asked kept_bytes (record { reply = reply; device = new }) → IsSent table cut old new reply
+        (reply : Reply) (new : DeviceView) → is_lost_down fate ≡ false → AtIn P asked kept_bytes (record { reply = reply; device = new })
+        → IsSent table cut old new reply
         → ((toggle : Toggle) (bytes : List ℕ) (lost : Bool) → IsPacket table cut old new toggle bytes → Q toggle bytes (later_stage lost new.stage))
         → AfterIn P Q (brought fate reply) (after_answer table cut fate (record { reply = reply; device = new })).stage
         × (brought fate reply ≡ StallReply → IsRefused table at_address (sent_setup asked) kept_bytes)
@@ -492,7 +494,8 @@ module _ (table : State → Setup → Outcome) (cut : ℕ) (at_address : ℕ) wh
     data_together t d fate ready kept size_is both sent =
         let P = TogetherIn t.request t.awaited t.kept in
         let r = served table cut d (record { address = t.address; token = InToken }) ready in
-        let after = in_after P (λ toggle bytes stage. Took toggle bytes t.packet t.awaited t.kept t.request stage) t.request t.kept fate d.stage r.reply r.device kept
+        let after = in_after P (λ toggle bytes stage. Took toggle bytes t.packet t.awaited t.kept t.request stage)
+        t.request t.kept fate d.stage r.reply r.device kept
         (served_at_in P t.request t.kept d t.address ready both (stage_in_data t.request t.awaited t.kept d.state d.stage both)) sent
         (λ toggle bytes lost. took_packet t.address t.packet t.request t.awaited t.kept d.stage r.device toggle bytes lost size_is both) in
         record { together = after.0; refuses = after.1 }
@@ -560,9 +563,10 @@ module _ (table : State → Setup → Outcome) (cut : ℕ) (at_address : ℕ) wh
 
     -- ---- a SETUP that the device has taken
 
-    pub begun_together : (q : Setup) (s : State) (stage : DeviceStage) → IsAsked q → IsAt table at_address s → stage ≡ device.begun (sent_setup q) (table s (sent_setup q))
-        → TogetherBy (stage_after_setup q) q Data1 0 stage
-    begun_together q s stage asked is_at is = subst (TogetherBy (stage_after_setup q) q Data1 0) (sym is) (of (q.length == 0) refl asked.brings asked.reads (table s r) refl)
+    pub begun_together : (q : Setup) (s : State) (stage : DeviceStage) → IsAsked q → IsAt table at_address s
+        → stage ≡ device.begun (sent_setup q) (table s (sent_setup q)) → TogetherBy (stage_after_setup q) q Data1 0 stage
+    begun_together q s stage asked is_at is =
+        subst (TogetherBy (stage_after_setup q) q Data1 0) (sym is) (of (q.length == 0) refl asked.brings asked.reads (table s r) refl)
       where
         r : Setup
         r = sent_setup q
@@ -582,7 +586,8 @@ module _ (table : State → Setup → Outcome) (cut : ℕ) (at_address : ℕ) wh
         carries none Refused e = refused e
         carries none (Takes judge) e = absurd (none_sent none ((is_table.answering s r).takes judge e).0)
 
-        reads : (q.length ≡ 0 → ⊥) → direction_of q.request_type ≡ directions.In → reads_descriptor r ≡ true → (o : Outcome) → table s r ≡ o → TogetherIn q Data1 0 (device.begun r o)
+        reads : (q.length ≡ 0 → ⊥) → direction_of q.request_type ≡ directions.In → reads_descriptor r ≡ true → (o : Outcome) → table s r ≡ o
+            → TogetherIn q Data1 0 (device.begun r o)
         reads positive way of_descriptor (Bytes all) e = record {
           same = refl;
           state = s;
@@ -604,6 +609,7 @@ module _ (table : State → Setup → Outcome) (cut : ℕ) (at_address : ℕ) wh
             → (reads_descriptor r ≡ true) ⊎ (q.length ≡ 0) → (o : Outcome) → table s r ≡ o
             → TogetherBy (if none then stages.StatusIn else data_stage (direction_of q.request_type)) q Data1 0 (device.begun r o)
         of true z brings reading o e = carries (same_so q.length 0 z) o e
-        of false z (inl way) (inl of_descriptor) o e = subst (λ w. TogetherBy (data_stage w) q Data1 0 (device.begun r o)) (sym way) (reads (not_same q.length 0 z) way of_descriptor o e)
+        of false z (inl way) (inl of_descriptor) o e =
+            subst (λ w. TogetherBy (data_stage w) q Data1 0 (device.begun r o)) (sym way) (reads (not_same q.length 0 z) way of_descriptor o e)
         of false z (inr none) reading o e = absurd (not_same q.length 0 z none)
         of false z (inl way) (inr none) o e = absurd (not_same q.length 0 z none)
