@@ -346,15 +346,17 @@ module _ (f : DescriptorFile) (address : ℕ) where
     whole_parts true true true e = record { has_some = refl; of_type = refl }
     whole_parts some type all e = absurd (let w : ⊥ = cc in w)
 
-    kept_as : (place : Place) (b : List ℕ) (type : ℕ) (all : Bool) → IsOfDevice place → HasType place b → IsKept place b → is_whole type b ≡ (nat_lt 1 (length b) && slice_index b 1 == type && all)
+    kept_as : (place : Place) (b : List ℕ) (type : ℕ) (set all : Bool) → IsOfDevice place → HasType place b → IsKept place b
+        → is_whole type b ≡ (nat_lt (if set then 3 else 1) (length b) && slice_index b 1 == type && all)
         → is_whole type b ≡ true → Read L (asks_for place).0 (asks_for place).1
-    kept_as place b type all of typed came is whole =
-        let known = whole_parts (nat_lt 1 (length b)) (slice_index b 1 == type) all (sym is ∙ whole) in
-        let same : (asks_for place).0 / 256 ≡ type = sym (typed of (more (length b) known.has_some)) ∙ so (slice_index b 1) type known.of_type in
+    kept_as place b type set all of typed came is whole =
+        let known = whole_parts (nat_lt (if set then 3 else 1) (length b)) (slice_index b 1 == type) all (sym is ∙ whole) in
+        let same : (asks_for place).0 / 256 ≡ type = sym (typed of (more set (length b) known.has_some)) ∙ so (slice_index b 1) type known.of_type in
         came of (ap (λ k. is_whole k b) same ∙ whole)
       where
-        more : (n : ℕ) → nat_lt 1 n ≡ true → 1 < n
-        more n e = grind (arith, nat_tests)
+        more : (set : Bool) (n : ℕ) → nat_lt (if set then 3 else 1) n ≡ true → 1 < n
+        more true n e = grind (arith, nat_tests)
+        more false n e = grind (arith, nat_tests)
 
         so : (m n : ℕ) → (m == n) ≡ true → m ≡ n
         so m n e = grind (arith, nat_tests)
@@ -362,12 +364,12 @@ module _ (f : DescriptorFile) (address : ℕ) where
     bytes_parts : (place : Place) (b : List ℕ) → HasParts L place → Fits place b → HasType place b → IsKept place b → HasParts L (bytes_lead terms place b)
     bytes_parts First b has fits typed came = either_parts L (is_first terms.speed b) (Address b) _ tt tt
     bytes_parts (Address early) b has fits typed came = tt
-    bytes_parts (Device early) b has fits typed came = device_parts early b (device_of b) refl (kept_as (Device early) b 1 _ tt typed came refl)
+    bytes_parts (Device early) b has fits typed came = device_parts early b (device_of b) refl (kept_as (Device early) b 1 false _ tt typed came refl)
     bytes_parts (Header kind g) b has fits typed came = header_parts kind g b (total_in (type_number kind) b) refl has fits
     bytes_parts (Set kind g total) b has fits typed came = tt
-    bytes_parts (SecondSpeed g) b has fits typed came = qualifier_parts g b (qualifier_of b) refl has (kept_as (SecondSpeed g) b 6 _ tt typed came refl)
-    bytes_parts (Languages g named) b has fits typed came = languages_parts g named b (units_of b) refl has.0 has.1 (kept_as (Languages g named) b 3 _ tt typed came refl)
-    bytes_parts (Text g s named) b has fits typed came = text_parts g s named b (units_of b) refl has.0 has.1 has.2 (kept_as (Text g s named) b 3 _ tt typed came refl)
+    bytes_parts (SecondSpeed g) b has fits typed came = qualifier_parts g b (qualifier_of b) refl has (kept_as (SecondSpeed g) b 6 false _ tt typed came refl)
+    bytes_parts (Languages g named) b has fits typed came = languages_parts g named b (units_of b) refl has.0 has.1 (kept_as (Languages g named) b 3 false _ tt typed came refl)
+    bytes_parts (Text g s named) b has fits typed came = text_parts g s named b (units_of b) refl has.0 has.1 has.2 (kept_as (Text g s named) b 3 false _ tt typed came refl)
     bytes_parts (Configure g) b has fits typed came = tt
     bytes_parts (Reported g) b has fits typed came = tt
     bytes_parts (Stopped trouble) b has fits typed came = tt
@@ -375,9 +377,9 @@ module _ (f : DescriptorFile) (address : ℕ) where
     set_read_parts : (kind : SetKind) (g : DescriptorFile) (total count : ℕ) (o : Option Configuration) (b : List ℕ) → length b ≡ count → HasParts L (Set kind g total) → 8 < total
         → Fits (Set kind g total) b → HasType (Set kind g total) b → IsKept (Set kind g total) b → HasParts L (set_leads terms (Set kind g total) kind g total count o)
     set_read_parts kinds.Configuration g total count o b is has long fits typed came =
-        set_parts kinds.Configuration g total count o b is has.0 has.1 long fits (kept_as (Set kinds.Configuration g total) b 2 _ tt typed came refl)
+        set_parts kinds.Configuration g total count o b is has.0 has.1 long fits (kept_as (Set kinds.Configuration g total) b 2 true _ tt typed came refl)
     set_read_parts kinds.OtherSpeed g total count o b is has long fits typed came =
-        set_parts kinds.OtherSpeed g total count o b is has.0 has.1 long fits (kept_as (Set kinds.OtherSpeed g total) b 7 _ tt typed came refl)
+        set_parts kinds.OtherSpeed g total count o b is has.0 has.1 long fits (kept_as (Set kinds.OtherSpeed g total) b 7 true _ tt typed came refl)
 
     -- Where a read leads to, what it has read is kept.
     pub read_parts : (place : Place) (count : ℕ) (k : Kept) (b : List ℕ) → SameBytes k b → length b ≡ count → IsLong place → HasParts L place → Fits place b → HasType place b → IsKept place b

@@ -1,5 +1,5 @@
 -- What recorded transfers say of a device's packet size.
-use Rattle.std.proofs.Common.{◌≡◌, ◌⊎◌, inl, inr, ◌≢◌, ◌<◌, ◌≤◌, ◌%◌, ◌/◌, ◌==◌, ◌&&◌, ℕ, Bool, true, false, not, if◌then◌else◌, List, [], ◌∷◌, ◌++◌, length, take, refl, sym, ◌∙◌, ap, subst, arith}
+use Rattle.std.proofs.Common.{◌≡◌, ◌⊎◌, inl, inr, ◌≢◌, ◌<◌, ◌≤◌, ◌%◌, ◌/◌, ◌==◌, ◌&&◌, ◌||◌, nat_lt, ℕ, Bool, true, false, not, if◌then◌else◌, List, [], ◌∷◌, ◌++◌, length, take, refl, sym, ◌∙◌, ap, subst, arith}
 use Rattle.std.specs.Prelude.{Option, Some, None, slice_index, slice_index_or, slice_set}
 use Rattle.std.specs.List.{AllByRecursion}
 use Rattle.std.proofs.lemmas.Bool.Decides.{nat_tests}
@@ -12,7 +12,7 @@ use Rattle.usb_capture.specs.declared.transaction.Transaction.{Transaction}
 use Rattle.usb_capture.specs.BusTransfers.{ended_so}
 use Rattle.usb_capture.specs.Findings.{is_answered, is_stall, reads_status}
 use Rattle.usb_capture.specs.PacketSizes.{gives_address, no_sizes, says_size, size_at, sizes_after, sizes_in, sizes_with}
-use Rattle.usb_capture.specs.Readings.{is_done, is_whole, reads_descriptor}
+use Rattle.usb_capture.specs.Readings.{full_length, is_done, is_whole, reads_descriptor}
 
 -- Where a transfer says a size, it is this one.
 abbrev pub Says : ℕ → ControlTransfer → Type 0
@@ -118,7 +118,11 @@ all_says size described [] each = tt
 all_says size described (t ∷ ts) each = (each.0.says, all_says size described ts each.1)
 
 none_whole : (kind : ℕ) → is_whole kind [] ≡ false
-none_whole kind = refl
+none_whole kind = of ((kind == 2) || (kind == 7)) (0 == full_length kind [])
+  where
+    of : (set all : Bool) → (nat_lt (if set then 3 else 1) 0 && (0 == kind) && all) ≡ false
+    of true all = refl
+    of false all = refl
 
 -- Without bytes nothing is reported.
 pub nothing_tells : (size : ℕ) (described : Setup → List ℕ) (q : Setup) → Tells size described q []
