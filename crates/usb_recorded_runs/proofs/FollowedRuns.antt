@@ -32,6 +32,7 @@ use Rattle.usb_host.specs.Transfer.{TransferView, addressed, taken, token_due}
 use Rattle.usb_device.specs.Descriptors.{descriptor}
 use Rattle.usb_device.specs.Requests.{answer}
 use Rattle.usb_device.specs.Step.{DeviceView}
+use Rattle.usb_device.specs.States as states
 use Rattle.usb_bus.specs.declared.fate.Fate.{Fate}
 use Rattle.usb_bus.specs.declared.fate.Fate.TheVariants as fates
 use Rattle.usb_bus.specs.Beside.{IsTable}
@@ -548,17 +549,17 @@ module _ (f : DescriptorFile) (kept_table : IsTable (answer f)) (list : List Fat
     pub followed : Followed (received times 1 (exchanges f list earlier n)) last.host.phase
     pub choice : last.host.choice ≡ new.host.choice
 
-  pub followed_run : (new : Pair) (earlier : List Pair) (n : ℕ) (last : Pair) → new.host.phase ≡ ResetDue → new.host.limits ≡ limits → forgives_any new.host.choice.strings ≡ false
+  pub followed_run : (new : Pair) (earlier : List Pair) (n : ℕ) (last : Pair) → new.host.phase ≡ ResetDue → new.device.state ≡ states.zero → new.host.limits ≡ limits → forgives_any new.host.choice.strings ≡ false
       → RunsAt (answer f) f.device.packet list new earlier n last → AllByRecursion IsSmall (exchanges f list earlier n)
       → AllByRecursion (IsShortIn f.device.packet) (exchanges f list earlier n) → FollowedRun new earlier n last
-  followed_run new [] n last due own needs (same, none) small short = record {
+  followed_run new [] n last due first own needs (same, none) small short = record {
     followed = subst (λ y. Followed [] y.host.phase) (sym same) (subst (Followed []) (sym due) tt);
     choice = ap (λ y. y.host.choice) same;
   }
-  followed_run new (x ∷ earlier) n last due own needs (inl (reset_is, run)) small short =
+  followed_run new (x ∷ earlier) n last due first own needs (inl (reset_is, run)) small short =
       let list_is : exchanges f list (x ∷ earlier) n ≡ exchanges f list earlier n =
       ap (λ w. exchanges f list earlier (count_before w n) ++ exchange_in f list n x.device w) reset_is.due ∙ append-nil (exchanges f list earlier n) in
-      let before = followed_run new earlier n x due own needs run (subst (AllByRecursion IsSmall) list_is small) (subst (AllByRecursion (IsShortIn f.device.packet)) list_is short) in
+      let before = followed_run new earlier n x due first own needs run (subst (AllByRecursion IsSmall) list_is small) (subst (AllByRecursion (IsShortIn f.device.packet)) list_is short) in
       let ordered = ordered_run f list new earlier n x due run in
       record {
         followed = subst (λ xs. Followed (received times 1 xs) last.host.phase) (sym list_is)
@@ -566,7 +567,7 @@ module _ (f : DescriptorFile) (kept_table : IsTable (answer f)) (list : List Fat
             (ordered.limits ∙ own) reset_is.due reset_is.host before.followed);
         choice = ap (λ u. u.choice) reset_is.host ∙ reset_choice x.host x.host.phase ∙ before.choice;
       }
-  followed_run new (x ∷ earlier) n last due own needs (inr (m, same, made, run)) small short =
+  followed_run new (x ∷ earlier) n last due first own needs (inr (m, same, made, run)) small short =
       let back : n - 1 ≡ m = omega (arith, same) in
       let xs = exchanges f list earlier m in
       let one = made_of x.device made.sent (fate_at list m) in
@@ -577,9 +578,9 @@ module _ (f : DescriptorFile) (kept_table : IsTable (answer f)) (list : List Fat
       let all_short = subst (AllByRecursion (IsShortIn f.device.packet)) list_is short in
       let small_then = all_front IsSmall xs (one ∷ []) all in
       let short_then = all_front (IsShortIn f.device.packet) xs (one ∷ []) all_short in
-      let before = followed_run new earlier m x due own needs run small_then short_then in
-      let right = run_right f kept_table list times new earlier m x due run small_then short_then in
-      let after = run_right f kept_table list times new (x ∷ earlier) n last due (inr (m, same, made, run)) small short in
+      let before = followed_run new earlier m x due first own needs run small_then short_then in
+      let right = run_right f kept_table list times new earlier m x due first run small_then short_then in
+      let after = run_right f kept_table list times new (x ∷ earlier) n last due first (inr (m, same, made, run)) small short in
       let ordered = ordered_run f list new earlier m x due run in
       let ordered_then = ordered_run f list new (x ∷ earlier) n last due (inr (m, same, made, run)) in
       let ts = received times 1 xs in

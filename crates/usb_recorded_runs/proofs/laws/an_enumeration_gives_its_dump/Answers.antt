@@ -30,7 +30,7 @@ returns c = λ f fates limits speed choice earlier n last times g accepted fits 
     let sound = (run_right f table fates times new earlier n last refl refl run.0 small short).transfers in
     let K = current_after [] (transfers_in ts) in
     let each = reads_kept f (transfers_in ts) sound (run_requests f fates times new earlier n last refl run.0) in
-    let followed = (followed_run f table fates times size right limits range new earlier n last refl refl needs run.0 small short).followed in
+    let followed = (followed_run f table fates times size right limits range new earlier n last refl refl refl needs run.0 small short).followed in
     let parts = ended_parts f size right limits range.address_from K (pipes_in ts) g last.host.phase ended followed in
     let come : Run = record { outcome = Ok g; attempts = last.host.resets; transactions = n; state = last.device.state } in
     let ends = (c.an_enumeration_ends_well.ensures.any_choice f speed limits choice fates come accepted fits range (earlier, last, run.0, refl, ended, refl)).0 in
