@@ -29,10 +29,10 @@ use Rattle.usb_bus.specs.Run.{fate_at}
 use Rattle.usb_bus.specs.Wire.{ack_packet, data_packet, reply_packet, token_packet}
 use Rattle.usb_capture.specs.declared.control_transfer.ControlTransfer.{ControlTransfer}
 use Rattle.usb_capture.specs.declared.packet_finding.PacketFinding.{PacketFinding}
-use Rattle.usb_capture.specs.declared.packet_finding.PacketFinding.TheVariants.{Long, NoShortPacket, Toggle}
+use Rattle.usb_capture.specs.declared.packet_finding.PacketFinding.TheVariants.{Long, NoShortPacket, StatusDirection, Toggle}
 use Rattle.usb_capture.specs.declared.transaction.Transaction.{Transaction}
 use Rattle.usb_capture.specs.BusTransfers.{Pipes, none_open, pipes_after, pipes_in, toggle_at, transfer_over, transfers_in}
-use Rattle.usb_capture.specs.PacketFindings.{has_wrong_toggle, is_early, is_found}
+use Rattle.usb_capture.specs.PacketFindings.{has_wrong_toggle, is_early, is_found, is_misdirected}
 use Rattle.usb_capture.specs.PacketSizes.{size_at, sizes_in}
 use Rattle.usb_capture.proofs.Folds.{after_push, given_push}
 use Rattle.usb_recorded_runs.specs.Exchanges.{Exchange, arriving, exchange_in, exchanges, received, packets_in, packets_of, transaction_of, unless_lost}
@@ -153,6 +153,7 @@ module _ (f : DescriptorFile) (kept_table : IsTable (answer f)) (list : List Fat
     pub toggles : IsFreeAfter Toggle [] ts
     pub lengths : IsFreeAfter Long [] ts
     pub endings : IsFreeAfter NoShortPacket [] ts
+    pub directions : IsFreeAfter StatusDirection [] ts
     pub transfers : AllByRecursion (IsSound cut described) (transfers_in ts)
     pub ended : 8 ≤ cut → AllByRecursion (λ t. HasEnded table t.device t) (transfers_in ts)
     pub own : AllByRecursion (λ t. IsOwn t.device t) (transfers_in ts)
@@ -260,6 +261,10 @@ module _ (f : DescriptorFile) (kept_table : IsTable (answer f)) (list : List Fat
                 (ap (λ u. is_early (size_at made.sent.address (sizes_in (transfers_in ts))) u (pipes_in ts)) received_is
                 ∙ stepped.2.not_early (size_at made.sent.address (sizes_in (transfers_in ts))) own
                 (λ zero. size_zero made.sent.address (sizes_in (transfers_in ts)) (ap (λ s. s.address) sent_is ∙ zero)));
+            directions = free_push StatusDirection [] ts T right.directions
+                (ap (λ u. is_misdirected (size_at made.sent.address (sizes_in (transfers_in ts))) u (pipes_in ts)) received_is
+                ∙ stepped.2.directed (size_at made.sent.address (sizes_in (transfers_in ts))) own
+                (λ zero. size_zero made.sent.address (sizes_in (transfers_in ts)) (ap (λ s. s.address) sent_is ∙ zero)));
             transfers = subst (AllByRecursion (IsSound cut described)) (sym (given_push pipes_after transfer_over none_open ts T))
                 (all_over (IsSound cut described) (transfers_in ts) (transfer_over T (pipes_in ts)) right.transfers
                 (over_sound t.address (transfer_over T (pipes_in ts)) over));
@@ -288,6 +293,7 @@ module _ (f : DescriptorFile) (kept_table : IsTable (answer f)) (list : List Fat
     toggles = right.toggles;
     lengths = right.lengths;
     endings = right.endings;
+    directions = right.directions;
     transfers = right.transfers;
     ended = right.ended;
     own = right.own;
@@ -323,6 +329,7 @@ module _ (f : DescriptorFile) (kept_table : IsTable (answer f)) (list : List Fat
     toggles = tt;
     lengths = tt;
     endings = tt;
+    directions = tt;
     transfers = tt;
     ended = λ some. tt;
     own = tt;
@@ -341,6 +348,7 @@ module _ (f : DescriptorFile) (kept_table : IsTable (answer f)) (list : List Fat
         toggles = before.toggles;
         lengths = before.lengths;
         endings = before.endings;
+        directions = before.directions;
         transfers = before.transfers;
         ended = before.ended;
         own = before.own;

@@ -10,6 +10,7 @@ pub mod CarriedLemmas
 pub mod FrontLemmas
 pub mod DeviceLemmas
 pub mod ReceivedLemmas
+pub mod DirectionLemmas
 pub mod TogetherLemmas
 pub mod ReachedLemmas
 pub mod StepLemmas

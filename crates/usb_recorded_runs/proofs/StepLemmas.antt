@@ -1,6 +1,7 @@
 -- The step of a run that is a transaction: what is known of the transfer that is open, before it and after it.
 use Rattle.std.proofs.Common.{◌≡◌, ◌⊎◌, inl, inr, ◌==◌, ◌||◌, ◌<◌, ◌≤◌, ◌+◌, ◌/◌, nat_lt, ℕ, suc, Bool, true, false, if◌then◌else◌, List, [], ◌∷◌, ◌++◌, length, take, drop, refl, sym, ◌∙◌, ap, subst, arith, length-append}
 use Rattle.std.specs.Prelude.{Option, Some, slice_index}
+use Rattle.std.proofs.lemmas.Bool.Decides.{nat_tests}
 use Rattle.std.proofs.lemmas.List.{append-nil}
 use Rattle.usb_fields.specs.declared.packet.Toggle.{Toggle}
 use Rattle.usb_fields.specs.declared.packet.Toggle.TheVariants.{Data0, Data1}
@@ -39,6 +40,7 @@ use Rattle.usb_host.specs.Read.{get_descriptor}
 use Rattle.usb_capture.specs.Readings.{reads_descriptor}
 use Rattle.usb_recorded_runs.proofs.PlaceLemmas.{FirstTells}
 use Rattle.usb_recorded_runs.proofs.DeviceLemmas.{Follows, IsElsewhere, IsEmpty, IsNext, IsSent, acked_flips, acked_so, in_toggle, none_some, served_sends}
+use Rattle.usb_recorded_runs.proofs.DirectionLemmas.{Lacks, NotMisdirected, data_right, status_in_other, status_out_other, status_right}
 use Rattle.usb_recorded_runs.proofs.FrontLemmas.{front_more}
 use Rattle.usb_recorded_runs.proofs.ReceivedLemmas.{EndsWhole, Goes, IsNoData, NotEarly, Right, bytes_cases, bytes_count, bytes_cut, bytes_keep, bytes_total, received_in, packet_in, quiet_in, right_at, setup_right, status_in, status_out, with_again, with_next}
 use Rattle.usb_recorded_runs.proofs.SizeLemmas.{Fronts, IfOver, IsSound, Tells, Reported, nothing_tells, reported_over, unseen_over}
@@ -52,6 +54,19 @@ some_way : (q : Setup) → (q.length == 0) ≡ false → direction_of q.request_
 some_way q some way =
     ap (λ n. if n == 0 then directions.Out else direction_of q.request_type) (sent_length q)
     ∙ ap (λ c. if c then directions.Out else direction_of q.request_type) some ∙ way
+
+some_length : (n : ℕ) → (n == 0) ≡ false → 0 < n
+some_length n some = grind (arith, nat_tests)
+
+some_sent : (q : Setup) → (q.length == 0) ≡ false → 0 < (sent_setup q).length
+some_sent q some = omega (arith, some_length q.length some, sent_length q)
+
+-- Where a host stays in the data stage, a whole packet has come, and there are more.
+stays_whole : (n packet m l : ℕ) → (nat_lt n packet || (m == l)) ≡ false → packet ≤ n
+stays_whole n packet m l e = grind (arith, nat_tests)
+
+stays_more : (n packet m l : ℕ) → (nat_lt n packet || (m == l)) ≡ false → m ≤ l → m < l
+stays_more n packet m l e few = grind (arith, nat_tests)
 
 -- a transfer that has just begun: its request, the toggle that it awaits, and how many bytes have come
 pub record Begins (q : Setup) (awaited : Toggle) (kept : ℕ) : Type 0 where
@@ -335,7 +350,7 @@ module _ (table : State → Setup → Outcome) (cut : ℕ) (described : Setup �
   -- by the stage of a transfer, with its address, the toggle that it awaits, how many bytes have come, and its request
   abbrev pub FitsBy : TransferStage → DeviceStage → ℕ → Toggle → ℕ → Setup → Going → Type 0
   FitsBy stages.Setup stage address awaited kept q going = Unit {0}
-  FitsBy stages.DataIn stage address awaited kept q going = InData stage awaited kept q going
+  FitsBy stages.DataIn stage address awaited kept q going = InData stage awaited kept q going × Lacks cut address going
   FitsBy stages.DataOut stage address awaited kept q going = Unit {0}
   FitsBy stages.StatusOut stage address awaited kept q going = InStatusOut address kept q going
   FitsBy stages.StatusIn stage address awaited kept q going = InStatusIn stage q going
@@ -346,15 +361,15 @@ module _ (table : State → Setup → Outcome) (cut : ℕ) (described : Setup �
   Fits at stage t going = FitsBy at stage t.address t.awaited t.kept t.request going
 
   -- the same after a packet that was received, which the host takes for the next one or not
-  pub record AfterPacket (toggle : Toggle) (bytes : List ℕ) (stage : DeviceStage) (awaited : Toggle) (kept : ℕ) (q : Setup) (going : Going) : Type 0 where
+  pub record AfterPacket (toggle : Toggle) (bytes : List ℕ) (stage : DeviceStage) (address : ℕ) (awaited : Toggle) (kept : ℕ) (q : Setup) (going : Going) : Type 0 where
     pub took : is_same_toggle toggle awaited ≡ true → kept + length bytes ≤ q.length
         → InData stage (flipped awaited) (kept + length bytes) q going × (going.toggle.last ≡ length bytes)
-    pub again_so : is_same_toggle toggle awaited ≡ false → InData stage awaited kept q going
+    pub again_so : is_same_toggle toggle awaited ≡ false → InData stage awaited kept q going × Lacks cut address going
 
   -- and after any answer in the data stage
   abbrev pub AfterData : Reply → DeviceStage → TransferView → Going → Type 0
-  AfterData (DataReply toggle bytes) stage t going = AfterPacket toggle bytes stage t.awaited t.kept t.request going
-  AfterData reply stage t going = InData stage t.awaited t.kept t.request going
+  AfterData (DataReply toggle bytes) stage t going = AfterPacket toggle bytes stage t.address t.awaited t.kept t.request going
+  AfterData reply stage t going = InData stage t.awaited t.kept t.request going × Lacks cut t.address going
 
   abbrev pub AfterReply : TransferStage → Reply → DeviceStage → TransferView → Going → Type 0
   AfterReply stages.DataIn reply stage t going = AfterData reply stage t going
@@ -423,16 +438,27 @@ module _ (table : State → Setup → Outcome) (cut : ℕ) (described : Setup �
         of (inr own) = inr (inl (omega (arith, less_so n t.packet short, own, last)))
     ends_whole n going h last (inr all) = inr (inr (omega (arith, same_so (t.kept + n) t.request.length all, h.count_is, ap (λ q. q.length) h.setup_is, sent_length t.request)))
 
-    after_data : (n : ℕ) (last : Bool) (going : Going) → (nat_lt n t.packet || (t.kept + n == t.request.length)) ≡ last
+    lacks_more : (n : ℕ) (going : Going) → (nat_lt n t.packet || (t.kept + n == t.request.length)) ≡ false → t.kept + n ≤ t.request.length
+        → InData d (flipped t.awaited) (t.kept + n) t.request going → going.toggle.last ≡ n → Lacks cut t.address going
+    lacks_more n going e few h last = record {
+      more = omega (arith, stays_more n t.packet (t.kept + n) t.request.length e few, h.count_is, ap (λ q. q.length) h.setup_is, sent_length t.request);
+      whole = inr (of size_is);
+    }
+      where
+        of : SizeIsKnown cut t.address t.packet t.request → (t.address ≡ 0) ⊎ (cut ≤ going.toggle.last)
+        of (inl first) = inl first.0
+        of (inr own) = inr (omega (arith, stays_whole n t.packet (t.kept + n) t.request.length e, own, last))
+
+    after_data : (n : ℕ) (last : Bool) (going : Going) → (nat_lt n t.packet || (t.kept + n == t.request.length)) ≡ last → t.kept + n ≤ t.request.length
         → InData d (flipped t.awaited) (t.kept + n) t.request going × (going.toggle.last ≡ n) → Fits (if last then stages.StatusOut else stages.DataIn) d (with_packet t n) going
-    after_data n true going e h = record {
+    after_data n true going e few h = record {
       way = h.0.way;
       report = content_reported d going h.0.content;
       whole = ends_whole n going h.0 h.1 (or_cases (nat_lt n t.packet) (t.kept + n == t.request.length) e);
       count_is = h.0.count_is;
       setup_is = h.0.setup_is;
     }
-    after_data n false going e h = h.0
+    after_data n false going e few h = (h.0, lacks_more n going e few h.0 h.1)
 
     may_after : (last : Bool) (awaited : Toggle) (kept : ℕ) → MayBeBy (if last then stages.StatusOut else stages.DataIn) t.request awaited kept
     may_after true awaited kept = tt
@@ -442,7 +468,7 @@ module _ (table : State → Setup → Outcome) (cut : ℕ) (described : Setup �
     same_after true same = tt
     same_after false same = same
 
-    kept_agrees : (toggle : Toggle) (bytes : List ℕ) → AsksSame stages.DataIn t.request d → (8 ≤ cut → Took table cut t.address toggle bytes t.packet t.awaited t.kept t.request d) → OpenAt t.address (AfterPacket toggle bytes d t.awaited t.kept t.request) pipes → is_same_toggle toggle t.awaited ≡ true
+    kept_agrees : (toggle : Toggle) (bytes : List ℕ) → AsksSame stages.DataIn t.request d → (8 ≤ cut → Took table cut t.address toggle bytes t.packet t.awaited t.kept t.request d) → OpenAt t.address (AfterPacket toggle bytes d t.address t.awaited t.kept t.request) pipes → is_same_toggle toggle t.awaited ≡ true
         → nat_lt t.request.length (t.kept + length bytes) ≡ false → Agree d pipes (kept_packet t bytes).transfer
     kept_agrees toggle bytes same took after is few =
         let last = nat_lt (length bytes) t.packet || (t.kept + length bytes == t.request.length) in
@@ -452,12 +478,13 @@ module _ (table : State → Setup → Outcome) (cut : ℕ) (described : Setup �
           same = same_after last same;
           both = λ some. (took some).next_so is (not_less t.request.length (t.kept + length bytes) few) last refl;
           fits = λ transfer found. after_data (length bytes) last (record { transfer = transfer; toggle = toggle_at t.address pipes }) refl
+              (not_less t.request.length (t.kept + length bytes) few)
               ((after transfer found).took is (not_less t.request.length (t.kept + length bytes) few));
         }
 
     data_agrees : (toggle : Toggle) (bytes : List ℕ) → t.stage ≡ stages.DataIn → AsksSame stages.DataIn t.request d
         → (8 ≤ cut → Took table cut t.address toggle bytes t.packet t.awaited t.kept t.request d)
-        → OpenAt t.address (AfterPacket toggle bytes d t.awaited t.kept t.request) pipes → Agree d pipes (taken_data t toggle bytes).transfer
+        → OpenAt t.address (AfterPacket toggle bytes d t.address t.awaited t.kept t.request) pipes → Agree d pipes (taken_data t toggle bytes).transfer
     data_agrees toggle bytes at same took after =
         either_agrees (nat_lt t.packet (length bytes)) (failed t whys.TooLong) _ (λ c. failed_agrees whys.TooLong)
         (λ c. either_agrees (is_same_toggle toggle t.awaited) _ (struck t)
@@ -525,7 +552,7 @@ module _ (table : State → Setup → Outcome) (cut : ℕ) (described : Setup �
     -- an IN of the data stage
     module _ (t : TransferView) where
       abbrev P : DeviceStage → Going → Type 0
-      P old going = InData old t.awaited t.kept t.request going
+      P old going = InData old t.awaited t.kept t.request going × Lacks cut t.address going
 
       same_toggles : (toggle next : Toggle) → has_toggle (data_kind toggle) next ≡ is_same_toggle toggle next
       same_toggles Data0 Data0 = refl
@@ -534,24 +561,24 @@ module _ (table : State → Setup → Outcome) (cut : ℕ) (described : Setup �
       same_toggles Data1 Data1 = refl
 
       same_next : (toggle : Toggle) (old : DeviceStage) (going : Going) → P old going → has_toggle (data_kind toggle) going.toggle.next ≡ is_same_toggle toggle t.awaited
-      same_next toggle old going h = same_toggles toggle going.toggle.next ∙ ap (is_same_toggle toggle) h.next_is
+      same_next toggle old going h = same_toggles toggle going.toggle.next ∙ ap (is_same_toggle toggle) h.0.next_is
 
       true_false : {A : Type 0} (c d : Bool) → c ≡ d → c ≡ true → d ≡ false → A
       true_false c d e yes_so no_so = absurd (let w : true ≡ false = sym yes_so ∙ e ∙ no_so in let v : ⊥ = cc in v)
 
       next_packet_so : (toggle : Toggle) (bytes : List ℕ) (lost : Bool) (old new : DeviceStage) (going : Going) → P old going → InTime new (with_next bytes lost going)
           → Content new (with_next bytes lost going) → has_toggle (data_kind toggle) going.toggle.next ≡ true
-          → AfterPacket toggle bytes new t.awaited t.kept t.request (with_next bytes lost going)
+          → AfterPacket toggle bytes new t.address t.awaited t.kept t.request (with_next bytes lost going)
       next_packet_so toggle bytes lost old new going h in_time content is = record {
         took = λ same few. (
           record {
-            way = ap data_direction (bytes_keep bytes going.transfer) ∙ h.way;
+            way = ap data_direction (bytes_keep bytes going.transfer) ∙ h.0.way;
             in_time = in_time;
             content = content;
-            next_is = ap flipped h.next_is;
-            count_is = bytes_total bytes going.transfer (omega (arith, few, h.low, h.count_is)) ∙ ap (λ n. n + length bytes) h.count_is;
-            setup_is = bytes_keep bytes going.transfer ∙ h.setup_is;
-            low = h.low;
+            next_is = ap flipped h.0.next_is;
+            count_is = bytes_total bytes going.transfer (omega (arith, few, h.0.low, h.0.count_is)) ∙ ap (λ n. n + length bytes) h.0.count_is;
+            setup_is = bytes_keep bytes going.transfer ∙ h.0.setup_is;
+            low = h.0.low;
           },
           refl,
         );
@@ -560,67 +587,73 @@ module _ (table : State → Setup → Outcome) (cut : ℕ) (described : Setup �
 
       again_packet_so : (toggle : Toggle) (bytes : List ℕ) (lost : Bool) (old new : DeviceStage) (going : Going) → P old going → InTime new (with_again lost going)
           → Content new (with_again lost going) → has_toggle (data_kind toggle) going.toggle.next ≡ false
-          → AfterPacket toggle bytes new t.awaited t.kept t.request (with_again lost going)
+          → AfterPacket toggle bytes new t.address t.awaited t.kept t.request (with_again lost going)
       again_packet_so toggle bytes lost old new going h in_time content is = record {
         took = λ same few. true_false (is_same_toggle toggle t.awaited) (has_toggle (data_kind toggle) going.toggle.next) (sym (same_next toggle old going h)) same is;
-        again_so = λ other. record {
-          way = h.way;
-          in_time = in_time;
-          content = content;
-          next_is = h.next_is;
-          count_is = h.count_is;
-          setup_is = h.setup_is;
-          low = h.low;
-        };
+        again_so = λ other. (
+          record {
+            way = h.0.way;
+            in_time = in_time;
+            content = content;
+            next_is = h.0.next_is;
+            count_is = h.0.count_is;
+            setup_is = h.0.setup_is;
+            low = h.0.low;
+          },
+          record { more = h.1.more; whole = h.1.whole },
+        );
       }
 
     data_step : (t : TransferView) (fate : Fate) (old : DeviceStage) (reply : Reply) (new : DeviceView) → is_lost_down fate ≡ false → Follows old new.stage
-        → (new.stage ≡ old) ⊎ IsElsewhere new.stage → IsSent table cut old new reply → OpenAt address (InData old t.awaited t.kept t.request) pipes
+        → (new.stage ≡ old) ⊎ IsElsewhere new.stage → IsSent table cut old new reply → OpenAt address (P t old) pipes
         → (8 ≤ cut → brought fate reply ≡ StallReply → IsRefused table address (sent_setup t.request) t.kept)
         → Right cut (IsOver address) (received_in number time address InToken (is_lost_ack fate) (brought fate reply))
         (AfterData (brought fate reply) (after_answer table cut fate (record { reply = reply; device = new })).stage t) pipes
     data_step t fate old reply new kept follows stays_so sent opens refuses = of fate reply kept sent refuses
       where
         Before : Going → Type 0
-        Before = InData old t.awaited t.kept t.request
+        Before = P t old
 
-        stays : (going : Going) → Before going → InData new.stage t.awaited t.kept t.request going
-        stays going h = record {
-          way = h.way;
-          in_time = λ toggle is. h.in_time toggle (follows toggle is);
-          content = content_stays old new.stage going stays_so h.content;
-          next_is = h.next_is;
-          count_is = h.count_is;
-          setup_is = h.setup_is;
-          low = h.low;
-        }
+        stays : (going : Going) → Before going → P t new.stage going
+        stays going h = (
+          record {
+            way = h.0.way;
+            in_time = λ toggle is. h.0.in_time toggle (follows toggle is);
+            content = content_stays old new.stage going stays_so h.0.content;
+            next_is = h.0.next_is;
+            count_is = h.0.count_is;
+            setup_is = h.0.setup_is;
+            low = h.0.low;
+          },
+          h.1,
+        )
 
         quiet : (lost : Bool) (came : Reply) → IsNoData came → (8 ≤ cut → came ≡ StallReply → IsRefused table address (sent_setup t.request) t.kept)
-            → Right cut (IsOver address) (received_in number time address InToken lost came) (InData new.stage t.awaited t.kept t.request) pipes
-        quiet lost came none refused = quiet_in cut (IsOver address) number time address small pipes sound Before (InData new.stage t.awaited t.kept t.request) lost came none opens
-            (λ u going h is. stall_over address u going.transfer (content_reported old going h.content)
-            (λ some. refused_so address t.request t.kept going.transfer h.setup_is h.count_is (refused some is))) stays
+            → Right cut (IsOver address) (received_in number time address InToken lost came) (P t new.stage) pipes
+        quiet lost came none refused = quiet_in cut (IsOver address) number time address small pipes sound Before (P t new.stage) lost came none opens
+            (λ u going h is. stall_over address u going.transfer (content_reported old going h.0.content)
+            (λ some. refused_so address t.request t.kept going.transfer h.0.setup_is h.0.count_is (refused some is))) stays
 
         unreceived : (toggle : Toggle) (bytes : List ℕ) → IsSent table cut old new (DataReply toggle bytes)
-            → Right cut (IsOver address) (received_in number time address InToken true (DataReply toggle bytes)) (AfterPacket toggle bytes new.stage t.awaited t.kept t.request) pipes
-        unreceived toggle bytes sent = packet_in cut (IsOver address) number time address small pipes sound toggle bytes Before (AfterPacket toggle bytes new.stage t.awaited t.kept t.request) opens
-            (λ going h. h.way) (λ going h. h.in_time toggle sent.was) true (λ going h. (
-              λ e. next_packet_so t toggle bytes true old new.stage going h (λ other is. inr refl) (received_next old new.stage toggle bytes true going h.content sent.which stays_so e) e,
-              λ e. again_packet_so t toggle bytes true old new.stage going h (λ other is. inr refl) (received_again old new.stage toggle bytes true going h.content sent.which stays_so e) e,
+            → Right cut (IsOver address) (received_in number time address InToken true (DataReply toggle bytes)) (AfterPacket toggle bytes new.stage t.address t.awaited t.kept t.request) pipes
+        unreceived toggle bytes sent = packet_in cut (IsOver address) number time address small pipes sound toggle bytes Before (AfterPacket toggle bytes new.stage t.address t.awaited t.kept t.request) opens
+            (λ going h. h.0.way) (λ going h. h.0.in_time toggle sent.was) true (λ going h. (
+              λ e. next_packet_so t toggle bytes true old new.stage going h (λ other is. inr refl) (received_next old new.stage toggle bytes true going h.0.content sent.which stays_so e) e,
+              λ e. again_packet_so t toggle bytes true old new.stage going h (λ other is. inr refl) (received_again old new.stage toggle bytes true going h.0.content sent.which stays_so e) e,
             ))
 
         received : (toggle : Toggle) (bytes : List ℕ) → IsSent table cut old new (DataReply toggle bytes)
-            → Right cut (IsOver address) (received_in number time address InToken false (DataReply toggle bytes)) (AfterPacket toggle bytes (acked table cut new).stage t.awaited t.kept t.request) pipes
-        received toggle bytes sent = packet_in cut (IsOver address) number time address small pipes sound toggle bytes Before (AfterPacket toggle bytes (acked table cut new).stage t.awaited t.kept t.request) opens
-            (λ going h. h.way) (λ going h. h.in_time toggle sent.was) false (λ going h. (
+            → Right cut (IsOver address) (received_in number time address InToken false (DataReply toggle bytes)) (AfterPacket toggle bytes (acked table cut new).stage t.address t.awaited t.kept t.request) pipes
+        received toggle bytes sent = packet_in cut (IsOver address) number time address small pipes sound toggle bytes Before (AfterPacket toggle bytes (acked table cut new).stage t.address t.awaited t.kept t.request) opens
+            (λ going h. h.0.way) (λ going h. h.0.in_time toggle sent.was) false (λ going h. (
               λ e. next_packet_so t toggle bytes false old (acked table cut new).stage going h
                   (λ other is. inl (acked_flips table cut new toggle other sent.waits sent.is is ∙ flips_next toggle going.toggle.next e))
                   (subst (λ s. Content s (with_next bytes false going)) (sym (acked_so table cut new sent.waits))
-                  (received_next old new.stage toggle bytes false going h.content sent.which stays_so e)) e,
+                  (received_next old new.stage toggle bytes false going h.0.content sent.which stays_so e)) e,
               λ e. again_packet_so t toggle bytes false old (acked table cut new).stage going h
                   (λ other is. inl (acked_flips table cut new toggle other sent.waits sent.is is ∙ flips_again toggle going.toggle.next e))
                   (subst (λ s. Content s (with_again false going)) (sym (acked_so table cut new sent.waits))
-                  (received_again old new.stage toggle bytes false going h.content sent.which stays_so e)) e,
+                  (received_again old new.stage toggle bytes false going h.0.content sent.which stays_so e)) e,
             ))
 
         of : (fate : Fate) (reply : Reply) → is_lost_down fate ≡ false → IsSent table cut old new reply → (8 ≤ cut → brought fate reply ≡ StallReply → IsRefused table address (sent_setup t.request) t.kept)
@@ -785,15 +818,18 @@ module _ (table : State → Setup → Outcome) (cut : ℕ) (described : Setup �
       of false e (inl way) = subst (λ w. AfterSetup tv (data_stage w) stage begun_so) (sym way) (record {
         may_be = tt;
         same = same;
-        fits = record {
-          way = some_way q e way;
-          in_time = λ toggle is. inl (first toggle is);
-          content = content;
-          next_is = sym begins.awaits;
-          count_is = sym begins.none;
-          setup_is = refl;
-          low = low;
-        };
+        fits = (
+          record {
+            way = some_way q e way;
+            in_time = λ toggle is. inl (first toggle is);
+            content = content;
+            next_is = sym begins.awaits;
+            count_is = sym begins.none;
+            setup_is = refl;
+            low = low;
+          },
+          record { more = some_sent q e; whole = inl refl },
+        );
       })
       of false e (inr none) = absurd (not_same q.length 0 e none)
 
@@ -899,6 +935,7 @@ module _ (table : State → Setup → Outcome) (cut : ℕ) (described : Setup �
       pub right : has_wrong_toggle (received_of token) pipes ≡ false
       pub over : IfOver (IsOver t.address) (transfer_over (received_of token) pipes)
       pub not_early : NotEarly cut t.address (λ known. is_early known (received_of token) pipes)
+      pub directed : NotMisdirected cut (received_of token) pipes
       pub sound_then : Sound (pipes_after (received_of token) pipes)
       pub agrees : Agree (later token) (pipes_after (received_of token) pipes) (taken_at t stage (brought fate (answer_to token).reply)).transfer
       pub may_come : stage ≡ stages.DataIn → t.request ≡ get_descriptor 1 0 0 8 → MayCome cut (brought fate (answer_to token).reply)
@@ -906,12 +943,14 @@ module _ (table : State → Setup → Outcome) (cut : ℕ) (described : Setup �
     -- at a stage where nothing is known of an ACK
     step_at : (stage : TransferStage) (token : Token) → t.stage ≡ stage → (stage ≡ stages.Setup → ⊥) → SizeIsKnown cut t.address t.packet t.request → MayBe stage t
         → AsksSame stage t.request (later token) → (8 ≤ cut → TogetherAfter table cut t.address stage (brought fate (answer_to token).reply) (later token) t) → Right cut (IsOver t.address) (received_of token) (AfterReply stage (brought fate (answer_to token).reply) (later token) t) pipes
+        → NotMisdirected cut (received_of token) pipes
         → (stage ≡ stages.DataIn → t.request ≡ get_descriptor 1 0 0 8 → MayCome cut (brought fate (answer_to token).reply)) → Steps stage token
-    step_at stage token at other size_is may same both right comes =
+    step_at stage token at other size_is may same both right directed comes =
         record {
           right = right.0;
           over = right.1;
           not_early = right.2;
+          directed = directed;
           sound_then = right.3.0;
           agrees = taken_agrees (later token) (pipes_after (received_of token) pipes) t size_is stage (brought fate (answer_to token).reply) at may same both right.3.1 (λ is. absurd (other is));
           may_come = comes;
@@ -926,6 +965,7 @@ module _ (table : State → Setup → Outcome) (cut : ℕ) (described : Setup �
           right = right.0;
           over = right.1;
           not_early = right.2;
+          directed = λ known own none. refl;
           sound_then = right.3.0;
           agrees = taken_agrees (later token) (pipes_after (received_of token) pipes) t size_is stages.Setup came at may tt (λ some. tt) right.3.1
               (λ is acks.
@@ -960,6 +1000,7 @@ module _ (table : State → Setup → Outcome) (cut : ℕ) (described : Setup �
           same_sent _ sent due,
           step_at stages.DataIn InToken at (λ e. let w : ⊥ = cc in w) agrees.size_is tt (answer_same t.request (acknowledges fate r.reply) r.device still) (λ some. (both some).together)
               (data_step number time t.address small pipes sound t fate d.stage r.reply r.device kept sends.follows sends.stays sends.sent agrees.fits (λ some. (both some).refuses))
+              (data_right cut (received_of InToken) (Fits stages.DataIn d.stage t) pipes refl agrees.fits (λ going h. h.1))
               (λ e is. comes_tell fate d.stage r.reply r.device (subst (λ q. AsksSame stages.DataIn q d.stage) is agrees.same) sends.sent),
         )
     step stages.StatusIn sent at due agrees =
@@ -970,6 +1011,8 @@ module _ (table : State → Setup → Outcome) (cut : ℕ) (described : Setup �
           step_at stages.StatusIn InToken at (λ e. let w : ⊥ = cc in w) agrees.size_is tt tt (λ some. (both some).together)
               (status_step number time t.address small pipes sound t.request t.kept fate d.stage (answer_to InToken).reply (answer_to InToken).device kept sends.follows sends.stays sends.sent agrees.fits (λ some. (both some).refuses)
               (λ some toggle. status_carries table cut t.address is_table some t.request t.kept d.stage toggle (agrees.both some)))
+              (status_right cut (received_of InToken) directions.Out (Fits stages.StatusIn d.stage t) pipes refl agrees.fits (λ going h. h.way)
+              (λ toggle. status_in_other number time t.address toggle (is_lost_ack fate) (brought fate (answer_to InToken).reply)))
               (λ e. absurd (let w : ⊥ = cc in w)),
         )
     step stages.StatusOut sent at due agrees =
@@ -987,6 +1030,8 @@ module _ (table : State → Setup → Outcome) (cut : ℕ) (described : Setup �
               (λ going h. record { way = h.way; report = h.report; whole = h.whole; count_is = h.count_is; setup_is = h.setup_is }) (is_lost_ack fate) came
               (λ u going h is. stall_over t.address u going.transfer h.report
               (λ some. refused_so t.address t.request t.kept going.transfer h.setup_is h.count_is ((both some).refuses is))))
+              (status_right cut (received_of (OutToken Data1 [])) directions.In Fitting pipes refl agrees.fits (λ going h. h.way)
+              (λ toggle. status_out_other number time t.address toggle (is_lost_ack fate) came))
               (λ e. absurd (let w : ⊥ = cc in w)),
         )
     step stages.DataOut sent at due agrees = absurd agrees.may_be

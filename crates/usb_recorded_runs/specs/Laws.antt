@@ -25,7 +25,7 @@ use Rattle.usb_capture.specs.declared.control_transfer.ControlTransfer.{ControlT
 use Rattle.usb_capture.specs.declared.device_file.DeviceFile.{DeviceFile}
 use Rattle.usb_capture.specs.declared.ending.Ending.TheVariants.{Unseen}
 use Rattle.usb_capture.specs.declared.frame.Frame.{Frame}
-use Rattle.usb_capture.specs.declared.packet_finding.PacketFinding.TheVariants.{Long, NoHandshake, NoRequest, NoShortPacket, SetupRefused, Toggle}
+use Rattle.usb_capture.specs.declared.packet_finding.PacketFinding.TheVariants.{Long, NoHandshake, NoRequest, NoShortPacket, SetupRefused, StatusDirection, Toggle}
 use Rattle.usb_capture.specs.declared.reader.CaptureReader.{CaptureReader}
 use Rattle.usb_capture.specs.declared.recorded_packet.RecordedPacket.{RecordedPacket}
 use Rattle.usb_capture.specs.declared.transaction.Transaction.{Transaction}
@@ -125,6 +125,14 @@ NoShortPacketLacks =
     (f : DescriptorFile) (fates : List Fate) (limits : LimitView) (speed : Speed) (choice : Choice) (earlier : List Pair) (n : ℕ) (last : Pair)
     (times : ℕ → Option ℕ) → IsRun f fates (chosen_pair limits speed choice) earlier n last →
     IsFreeAfter NoShortPacket [] (received times 1 (exchanges f fates earlier n))
+
+-- No status stage goes the way of the data stage (8.5.3): after all bytes, or a packet that is shorter than a whole one (5.5.3), no packet
+-- is one more of the data stage.
+abbrev pub NoStatusGoesWrong : Type 0
+NoStatusGoesWrong =
+    (f : DescriptorFile) (fates : List Fate) (limits : LimitView) (speed : Speed) (choice : Choice) (earlier : List Pair) (n : ℕ) (last : Pair)
+    (times : ℕ → Option ℕ) → IsRun f fates (chosen_pair limits speed choice) earlier n last →
+    IsFreeAfter StatusDirection [] (received times 1 (exchanges f fates earlier n))
 
 -- Of the control transfers of an enumeration none has more bytes than wLength (9.3.5), and none is a GET_STATUS that a device refuses (9.4.5).
 abbrev pub NoTransferHasMore : Type 0

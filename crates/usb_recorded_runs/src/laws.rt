@@ -1,5 +1,5 @@
 //! The functions of these laws do nothing: their contracts are the laws.
-ghost use Rattle.usb_recorded_runs.specs.Laws.{CapturedRunsAreRead, DescriptorsHaveLengths, DescriptorsHaveTypes, EnumerationsAreRuns, FilesAreDescriptions, HandshakesAreLost, NoAnswerContradicts, NoConversationContradicts, NoCountedDescriptorIsRefused, NoDescriptorChanges, NoDeviceAnswersSo, NoGivenDescriptorIsRefused, NoLongPacketIsFound, NoNamedStringIsRefused, NoPacketIsDamaged, NoPacketIsLong, NoRequiredDescriptorIsRefused, NoShortPacketLacks, NoToggleIsWrong, NoTransferHasMore, RecordedRunsAreRead, RunsOfBytesAreRuns, SetupsAreTaken, SuccessesGiveDumps, SuccessesGiveFiles, TransfersEndRight, TransfersShowAnswers};
+ghost use Rattle.usb_recorded_runs.specs.Laws.{CapturedRunsAreRead, DescriptorsHaveLengths, DescriptorsHaveTypes, EnumerationsAreRuns, FilesAreDescriptions, HandshakesAreLost, NoAnswerContradicts, NoConversationContradicts, NoCountedDescriptorIsRefused, NoDescriptorChanges, NoDeviceAnswersSo, NoGivenDescriptorIsRefused, NoLongPacketIsFound, NoNamedStringIsRefused, NoPacketIsDamaged, NoPacketIsLong, NoRequiredDescriptorIsRefused, NoShortPacketLacks, NoStatusGoesWrong, NoToggleIsWrong, NoTransferHasMore, RecordedRunsAreRead, RunsOfBytesAreRuns, SetupsAreTaken, SuccessesGiveDumps, SuccessesGiveFiles, TransfersEndRight, TransfersShowAnswers};
 
 use usb_bus::laws::{a_device_keeps_its_table, an_enumeration_ends_well};
 
@@ -59,6 +59,13 @@ pub fn no_long_packet_is_found()
 /// Nor is `NoShortPacket`: a data stage ends with all bytes that were asked for, or with a packet that is shorter than a whole one.
 pub fn no_short_packet_lacks()
     ensures { NoShortPacketLacks }
+{
+    a_device_keeps_its_table();
+}
+
+/// Nor is `StatusDirection`: after a complete data stage the status stage goes the other way.
+pub fn no_status_goes_wrong()
+    ensures { NoStatusGoesWrong }
 {
     a_device_keeps_its_table();
 }
