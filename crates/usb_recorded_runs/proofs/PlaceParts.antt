@@ -300,12 +300,14 @@ module _ (f : DescriptorFile) (address : ℕ) where
         → HasParts L (qualifier_leads terms (SecondSpeed g) g o)
     qualifier_parts g b None e before came = tt
     qualifier_parts g b (Some q) e before came =
-        sets_parts L terms kinds.OtherSpeed (with_qualifier q g)
-        (record {
-          device = before.0.device;
-          sets = before.0.sets;
-          other = (came (ap (is_whole 6) (qualifier_written b q e)), λ i less. absurd (let w : ⊥ = omega (arith, less) in w));
-        }, before.1)
+        sets_parts L terms kinds.OtherSpeed (with_qualifier q g) (
+          record {
+            device = before.0.device;
+            sets = before.0.sets;
+            other = (came (ap (is_whole 6) (qualifier_written b q e)), λ i less. absurd (let w : ⊥ = omega (arith, less) in w));
+          },
+          before.1,
+        )
 
     languages_parts : (g : DescriptorFile) (named b : List ℕ) (o : Option (List ℕ)) → units_of b ≡ o → Before L g → named ≡ named_indices g → (is_whole 3 b ≡ true → Read L 768 0)
         → HasParts L (languages_lead (Languages g named) g named o)
