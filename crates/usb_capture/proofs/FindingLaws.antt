@@ -11,7 +11,8 @@ use Rattle.usb_capture.specs.declared.finding.Finding.{Finding}
 use Rattle.usb_capture.specs.declared.finding.Finding.TheVariants.{MoreThanAsked, OtherType, OtherLength, OtherBytes, RefusesGiven, RefusesRequired, RefusesCounted, RefusesNamed, RefusesStatus, RefusesAddress, RefusesConfiguration, TakesConfiguration, OtherConfiguration, GivesUncounted}
 use Rattle.usb_capture.specs.DeviceFiles.{data_of, parts, reading_of}
 use Rattle.usb_capture.specs.DeviceReadings.{current_after, current_with, is_other_device, is_past}
-use Rattle.usb_capture.specs.Findings.{all_findings, asked_of, findings, gives, holds, is_named_string, is_of_another, is_same, may_change, resets_port, said, said_after, sets_address, sets_descriptor}
+use Rattle.usb_capture.specs.Findings.{asked_of, gives, holds, is_named_string, is_of_another, is_same, may_change, resets_port, said, said_after, sets_address, sets_descriptor}
+use Rattle.usb_capture.specs.TransferFindings.{all_findings, findings}
 use Rattle.usb_capture.specs.Readings.{is_reading}
 use Rattle.usb_capture.proofs.ReadingLaws.{one_more}
 use Rattle.usb_capture.proofs.SaidLemmas.{same_asked}

@@ -11,7 +11,8 @@ use Rattle.usb_capture.specs.declared.control_transfer.ControlTransfer.{ControlT
 use Rattle.usb_capture.specs.declared.conversations.Conversations.{Conversations}
 use Rattle.usb_capture.specs.declared.said.Said.{Said}
 use Rattle.usb_capture.specs.Conversations.{Knows, adds, bytes_of, held_after, held_of, is_of, said_now, still_held, without}
-use Rattle.usb_capture.specs.Findings.{all_findings, asked_of, findings, gives, holds, is_same, may_change, said, said_after}
+use Rattle.usb_capture.specs.Findings.{asked_of, gives, holds, is_same, may_change, said, said_after}
+use Rattle.usb_capture.specs.TransferFindings.{all_findings, findings}
 use Rattle.usb_capture.proofs.FilterLemmas.{none_left, still_there}
 
 numbers_same : (a b c d a' b' c' d' : ℕ) → (a == a' && b == b' && c == c' && d == d') ≡ true → (a ≡ a') × (b ≡ b') × (c ≡ c') × (d ≡ d')

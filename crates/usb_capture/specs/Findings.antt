@@ -1,5 +1,5 @@
 -- What USB 2.0 forbids in control transfers, over a list of them (USB 2.0, 8.5.3, 9.2.7, 9.3.5, 9.4.2, 9.4.3, 9.4.5 to 9.4.7, and 9.6).
-use Rattle.std.specs.Prelude.{ℕ, zero, suc, ◌+◌, ◌*◌, ◌/◌, ◌%◌, ◌==◌, ◌&&◌, ◌||◌, Bool, true, false, not, List, [], ◌∷◌, ◌++◌, length, take, drop, min, filter, slice_index, nat_le, nat_lt, if◌then◌else◌}
+use Rattle.std.specs.Prelude.{ℕ, zero, suc, ◌+◌, ◌*◌, ◌/◌, ◌%◌, ◌==◌, ◌&&◌, ◌||◌, Bool, true, false, not, List, [], ◌∷◌, ◌++◌, length, take, drop, min, slice_index, nat_le, nat_lt, if◌then◌else◌}
 use Rattle.std.specs.List.{list_all, list_any, range_with_len, zip}
 use Rattle.usb_fields.specs.declared.setup.Setup.{Setup}
 use Rattle.usb_capture.specs.declared.asked.Asked.{Asked}
@@ -242,7 +242,7 @@ abbrev pub is_uncounted : (Asked → List ℕ) → Asked → Bool
 is_uncounted known asked =
     asked.index == 0 && asked.value / 256 == 2 && nat_lt 0 (configuration_count known asked) && nat_le (configuration_count known asked) (asked.value % 256)
 
--- Whether a finding holds of a transfer, of a device that has said this before.
+-- Whether a finding holds of a transfer, of a device that has said this before. The others need its state.
 abbrev pub holds : Finding → (Asked → List ℕ) → ControlTransfer → Bool
 holds MoreThanAsked known t = has_more_than_asked t
 holds OtherType known t = has_other_type t
@@ -258,12 +258,4 @@ holds RefusesConfiguration known t = refuses_configuration known t
 holds TakesConfiguration known t = takes_configuration known t
 holds OtherConfiguration known t = has_other_configuration known t
 holds GivesUncounted known t = gives t && is_uncounted known (asked_of t)
-
-abbrev pub all_findings : List Finding
-all_findings =
-    MoreThanAsked ∷ OtherType ∷ OtherLength ∷ OtherBytes ∷ RefusesGiven ∷ RefusesRequired ∷ RefusesCounted ∷ RefusesNamed ∷ RefusesStatus
-    ∷ RefusesAddress ∷ RefusesConfiguration ∷ TakesConfiguration ∷ OtherConfiguration ∷ GivesUncounted ∷ []
-
--- What is found in a transfer after these, of which the last is the first in the list.
-abbrev pub findings : List ControlTransfer → ControlTransfer → List Finding
-findings earlier t = filter (λ finding. holds finding (λ asked. said asked earlier) t) all_findings
+holds finding known t = false

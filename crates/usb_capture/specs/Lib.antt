@@ -5,6 +5,7 @@ pub mod Clocks
 pub mod Conversations
 pub mod DeviceFiles
 pub mod DeviceReadings
+pub mod DeviceStates
 pub mod Events
 pub mod FaultNumbers
 pub mod Files
@@ -18,6 +19,7 @@ pub mod Reading
 pub mod Readings
 pub mod Recordings
 pub mod Transactions
+pub mod TransferFindings
 pub mod Transfers
 pub mod UsbmonText
 pub mod Words

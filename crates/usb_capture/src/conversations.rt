@@ -4,7 +4,8 @@ ghost use Rattle.std.specs.List.{list_any, range_with_len};
 ghost use Rattle.std.specs.Option.{option_copied};
 ghost use Rattle.usb_capture.specs.declared.control_transfer.ControlTransfer.{ControlTransfer};
 ghost use Rattle.usb_capture.specs.Conversations.{Knows, adds, held_after, held_of, is_of, said_now, still_held, without};
-ghost use Rattle.usb_capture.specs.Findings.{all_findings, beside, findings, holds, is_counted, is_named, is_named_string, is_required, names, refuses_unsaid};
+ghost use Rattle.usb_capture.specs.Findings.{beside, holds, is_counted, is_named, is_named_string, is_required, names, refuses_unsaid};
+ghost use Rattle.usb_capture.specs.TransferFindings.{all_findings, findings};
 
 use crate::answer::{
     differ, gives, has_more_than_asked, has_other_length, has_other_type, refuses_descriptor,
@@ -126,6 +127,7 @@ impl Conversations {
             Finding::TakesConfiguration => self.takes_configuration(transfer),
             Finding::OtherConfiguration => self.has_other_configuration(transfer),
             Finding::GivesUncounted => gives(transfer) && self.is_uncounted(asked),
+            _ => false,
         }
     }
 

@@ -1,7 +1,7 @@
 //! What USB 2.0 forbids in control transfers, as far as a recording shows it.
 
 /// What a control transfer shows that USB 2.0 forbids. The definition of each, over a list of transfers, is in
-/// `specs/Findings.antt`.
+/// `specs/TransferFindings.antt`.
 ///
 /// ```rust
 /// for finding in Finding::ALL {
@@ -38,11 +38,20 @@ pub enum Finding {
     OtherConfiguration,
     /// A configuration came that bNumConfigurations doesn't count (9.4.3 and 9.6.1).
     GivesUncounted,
+    /// GET_CONFIGURATION answered with another value than was set (9.4.2).
+    OtherValue,
+    /// Another status of the device, an interface or an endpoint than its descriptors, and the features that were set, give (9.4.5).
+    OtherStatus,
+    /// A feature that the device doesn't have is set or cleared, or STALL of one that it has (9.4.1 and 9.4.9).
+    OtherFeature,
+    /// Another alternate setting than was chosen, one chosen that an interface doesn't have, or STALL of one that it has (9.4.4 and
+    /// 9.4.10).
+    OtherSetting,
 }
 
 impl Finding {
     /// All findings, in the order in which those of one transfer are reported.
-    pub const ALL: [Finding; 14] = [
+    pub const ALL: [Finding; 18] = [
         Finding::MoreThanAsked,
         Finding::OtherType,
         Finding::OtherLength,
@@ -57,9 +66,13 @@ impl Finding {
         Finding::TakesConfiguration,
         Finding::OtherConfiguration,
         Finding::GivesUncounted,
+        Finding::OtherValue,
+        Finding::OtherStatus,
+        Finding::OtherFeature,
+        Finding::OtherSetting,
     ];
 
-    /// Its name: T1 is of one transfer, C1 to C13 are of a device's conversation.
+    /// Its name: T1 is of one transfer, C1 to C17 are of a device's conversation.
     pub fn name(self) -> &'static str {
         match self {
             Finding::MoreThanAsked => "T1",
@@ -76,6 +89,10 @@ impl Finding {
             Finding::TakesConfiguration => "C11",
             Finding::OtherConfiguration => "C12",
             Finding::GivesUncounted => "C13",
+            Finding::OtherValue => "C14",
+            Finding::OtherStatus => "C15",
+            Finding::OtherFeature => "C16",
+            Finding::OtherSetting => "C17",
         }
     }
 
@@ -97,6 +114,10 @@ impl Finding {
             Finding::TakesConfiguration => "no configuration of the device has this value",
             Finding::OtherConfiguration => "the device answers 0 or the value of a configuration",
             Finding::GivesUncounted => "bNumConfigurations doesn't count it",
+            Finding::OtherValue => "the device answers the value that was set",
+            Finding::OtherStatus => "the device answers by its descriptors and what was set",
+            Finding::OtherFeature => "the device takes a feature that it has and no other",
+            Finding::OtherSetting => "the device answers by the settings that it has",
         }
     }
 
@@ -115,6 +136,10 @@ impl Finding {
             Finding::TakesConfiguration => "9.2.7, 9.4.7",
             Finding::OtherConfiguration => "9.4.2",
             Finding::GivesUncounted => "9.4.3, 9.6.1",
+            Finding::OtherValue => "9.4.2",
+            Finding::OtherStatus => "9.4.5",
+            Finding::OtherFeature => "9.4.1, 9.4.9",
+            Finding::OtherSetting => "9.4.4, 9.4.10",
         }
     }
 }

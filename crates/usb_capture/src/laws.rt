@@ -17,7 +17,8 @@ ghost use Rattle.usb_capture.specs.BusTransfers.{Goes, Going, ended_so, going_fr
 ghost use Rattle.usb_capture.specs.DeviceFiles.{data_of, parts};
 ghost use Rattle.usb_capture.specs.DeviceReadings.{current_after};
 ghost use Rattle.usb_capture.specs.Files.{AreParts, IsRefused, bytes_of, frames_of, start, state_after, whole};
-ghost use Rattle.usb_capture.specs.Findings.{asked_of, findings, is_of_another};
+ghost use Rattle.usb_capture.specs.Findings.{asked_of, is_of_another};
+ghost use Rattle.usb_capture.specs.TransferFindings.{findings};
 ghost use Rattle.usb_capture.specs.Pcap.{IsHeader, IsPartial, IsRecord, frame_of};
 ghost use Rattle.usb_capture.specs.Reading.{IsRead};
 ghost use Rattle.usb_capture.specs.Readings.{is_again, is_reading, kept_after};

@@ -60,6 +60,7 @@ mod reader;
 mod readings;
 mod recorded_packet;
 mod said;
+mod said_settings;
 mod stage;
 mod text;
 mod transaction;

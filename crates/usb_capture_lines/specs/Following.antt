@@ -10,7 +10,7 @@ use Rattle.usb_capture.specs.declared.open_transfer.OpenTransfer.{OpenTransfer}
 use Rattle.usb_capture.specs.Conversations.{Knows}
 use Rattle.usb_capture.specs.DeviceReadings.{HasCurrent}
 use Rattle.usb_capture.specs.Files.{IsRefusedAfter}
-use Rattle.usb_capture.specs.Findings.{findings}
+use Rattle.usb_capture.specs.TransferFindings.{findings}
 use Rattle.usb_capture.specs.Reading.{IsRead}
 use Rattle.usb_capture_lines.specs.Observations.{AreObserved, HasObserved, Observed, found_by, frame_count, over_by, overs}
 use Rattle.usb_capture_lines.specs.Recordings.{devices_of}

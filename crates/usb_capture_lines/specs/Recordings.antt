@@ -17,7 +17,7 @@ use Rattle.usb_capture.specs.declared.frame.Frame.{Frame}
 use Rattle.usb_capture.specs.declared.open_transfer.OpenTransfer.{OpenTransfer}
 use Rattle.usb_capture.specs.BusTransfers.{pipes_in}
 use Rattle.usb_capture.specs.DeviceReadings.{current_after}
-use Rattle.usb_capture.specs.Findings.{findings}
+use Rattle.usb_capture.specs.TransferFindings.{findings}
 use Rattle.usb_capture.specs.Transfers.{open_after}
 use Rattle.usb_capture_lines.specs.BusFindings.{device_of}
 use Rattle.usb_capture_lines.specs.FindingLines.{bus_finding_line, finding_lines}

@@ -5,7 +5,7 @@ ghost use Rattle.usb_capture.specs.declared.control_transfer.ControlTransfer.{Co
 ghost use Rattle.usb_capture.specs.declared.frame.Frame.{Frame};
 ghost use Rattle.usb_capture.specs.Conversations.{Knows};
 ghost use Rattle.usb_capture.specs.DeviceReadings.{HasCurrent};
-ghost use Rattle.usb_capture.specs.Findings.{findings};
+ghost use Rattle.usb_capture.specs.TransferFindings.{findings};
 ghost use Rattle.usb_capture_lines.specs.Following.{Follows, FollowsOn, Shows, found_in};
 ghost use Rattle.usb_capture_lines.specs.Observations.{Observed};
 ghost use Rattle.usb_capture_lines.specs.Recordings.{address_of, met, met_in};

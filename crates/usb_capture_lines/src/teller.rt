@@ -7,7 +7,7 @@ ghost use Rattle.usb_capture.specs.declared.control_transfer.ControlTransfer.{Co
 ghost use Rattle.usb_capture.specs.declared.frame.Frame.{Frame};
 ghost use Rattle.usb_capture.specs.Conversations.{Knows};
 ghost use Rattle.usb_capture.specs.DeviceReadings.{HasCurrent};
-ghost use Rattle.usb_capture.specs.Findings.{findings};
+ghost use Rattle.usb_capture.specs.TransferFindings.{findings};
 ghost use Rattle.usb_text.specs.Output.{Held};
 ghost use Rattle.usb_capture_lines.specs.Observations.{Observed};
 ghost use Rattle.usb_capture_lines.specs.Recordings.{address_of, asked_at, bus_lines, counted, finds_any, first_part, last_lines, lines_of, met, met_all, met_in, open_lines, over_lines, replaced_in, replaced_with};

@@ -1,6 +1,6 @@
 use Rattle.std.proofs.Common.{◌≡◌, ◌∙◌, ap, length, rules}
 use Rattle.std.specs.Prelude.{Some}
-use Rattle.usb_capture.specs.Findings.{findings}
+use Rattle.usb_capture.specs.TransferFindings.{findings}
 use Rattle.usb_capture_lines.specs.Recordings.{met}
 use Rattle.usb_capture_lines.specs.declared.selection.DeviceAddress.{DeviceAddress}
 use Rattle.usb_capture_lines.proofs.follower.Follower.take_over.Goals as goal

@@ -1,7 +1,7 @@
 use Rattle.std.proofs.Common.{◌≡◌, ◌∙◌, ap, length, rules, subst}
 use Rattle.std.specs.Prelude.{Some}
 use Rattle.std.specs.Io.KnownBytes.{Appends}
-use Rattle.usb_capture.specs.Findings.{findings}
+use Rattle.usb_capture.specs.TransferFindings.{findings}
 use Rattle.usb_capture_lines.specs.Recordings.{lines_of, met}
 use Rattle.usb_capture_lines.specs.declared.selection.DeviceAddress.{DeviceAddress}
 use Rattle.usb_capture_lines.proofs.teller.Teller.take_over.Goals as goal
