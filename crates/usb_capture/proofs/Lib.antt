@@ -15,6 +15,7 @@ pub mod PartLemmas
 pub mod ReadingLaws
 pub mod ReadingLemmas
 pub mod RecordingLaws
+pub mod SettingLemmas
 pub mod TransactionLemmas
 pub mod SaidLemmas
 pub mod TransferLemmas

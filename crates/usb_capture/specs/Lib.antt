@@ -19,6 +19,7 @@ pub mod Reading
 pub mod Readings
 pub mod Recordings
 pub mod Transactions
+pub mod SaidSettings
 pub mod TransferFindings
 pub mod Transfers
 pub mod UsbmonText

@@ -34,13 +34,19 @@ pub struct State {
 impl State {
     ghost use Rattle.usb_device.specs.States.{zero, has_address, is_configured};
     ghost use Rattle.usb_device.specs.inside.Sets.{settings_left};
-    ghost use Rattle.usb_device.specs.Requests.{selected_settings};
+    ghost use Rattle.usb_device.specs.Requests.{changed_halts, selected_settings};
     ghost use Rattle.usb_device.specs.Offers.{offer_in};
     ghost use Rattle.usb_device.specs.inside.Reactions.{changed};
 
     /// The state of a new device, and of one after a bus reset.
+    ///
+    /// ```rust
+    /// let state = State::zero();
+    /// assert_eq!(rt; state.address, 0);
+    /// assert_eq!(rt; state.device_state(), DeviceState::Default);
+    /// ```
     #[tactic(auto, unfolding(crate::specs::States::first_alternates))]
-    pub(crate) fn zero() -> State
+    pub fn zero() -> State
         ensures { result ≡ zero }
     {
         State {
@@ -91,13 +97,31 @@ impl State {
                 self.halts = 0;
             }
             Change::Wakeup(on) => self.wakeup = on,
-            Change::Halt(endpoint, on) => self.halts = changed_halts(self.halts, endpoint, on),
+            Change::Halt(endpoint, on) => self.set_halt(endpoint, on),
             Change::Alternate(number, alternate) => {
                 let settings = self.settings(image);
                 self.halts = settings.without_interface(self.halts, number);
                 self.alternates[usize::from(number)] = alternate;
             }
         }
+    }
+
+    /// Halts the endpoint with this address, or ends its halt (USB 2.0, 9.4.5).
+    ///
+    /// ```rust
+    /// // Endpoint 1 IN.
+    /// let mut state = State::zero();
+    /// state.set_halt(0x81, true);
+    /// assert!(rt; state.is_halted(0x81));
+    /// assert!(rt; !state.is_halted(0x01));
+    /// state.set_halt(0x81, false);
+    /// assert!(rt; !state.is_halted(0x81));
+    /// ```
+    #[inline]
+    pub fn set_halt(&mut self, endpoint: u8, on: bool)
+        ensures { self.new ≡ record self.old { halts = changed_halts on self.old.halts endpoint } }
+    {
+        self.halts = changed_halts(self.halts, endpoint, on);
     }
 
     /// The settings of the selected configuration.
