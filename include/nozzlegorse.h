@@ -440,7 +440,7 @@ struct nzg_recorded {
     uint16_t bus, device;
     uint8_t setup[8];    /* of a request */
     uint8_t ending;      /* of a request: enum nzg_ending */
-    uint8_t finding;     /* of NZG_OF_REQUEST 1 for T1, 2 to 14 for C1 to C13; of NZG_OF_PACKETS 1 to 6 as enum nzg_damage, 7 no handshake,
+    uint8_t finding;     /* of NZG_OF_REQUEST 1 for T1, 2 to 18 for C1 to C17; of NZG_OF_PACKETS 1 to 6 as enum nzg_damage, 7 no handshake,
                           * 8 SETUP without a request, 9 another handshake of SETUP than ACK, 10 toggle, 11 too long, 12 no short packet,
                           * 13 status stage of the wrong way */
     bool is_cut;         /* of a request: a frame of it was cut */

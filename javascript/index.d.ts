@@ -17,7 +17,7 @@ export interface Walked extends Descriptor { bytes: Uint8Array; fields: NamedFie
 
 export interface DeviceAddress { bus: number; device: number; }
 
-/** What USB 2.0 forbids: T1 in a transfer, C1 to C13 in a device's conversation, P1 to P13 in packets, these with the number of their
+/** What USB 2.0 forbids: T1 in a transfer, C1 to C17 in a device's conversation, P1 to P13 in packets, these with the number of their
  * frame. The time is in nanoseconds. What isn't known is null. */
 export interface Forbidden {
     kind: 'finding';

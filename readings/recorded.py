@@ -7,7 +7,7 @@ import re
 import struct
 import sys
 
-from readings import packets
+from readings import device_states, packets
 from readings.enumerating import named, word
 
 # The kernel's document "USB Error codes", and USBD_STATUS (Windows, usb.h).
@@ -57,6 +57,8 @@ FINDINGS = {
     "C8": "the device has an address, so it answers (9.4.5)", "C9": "the device has no address yet, so it takes one (9.4.6)",
     "C10": "the device takes 0 and the value of each configuration (9.4.7)", "C11": "no configuration of the device has this value (9.2.7, 9.4.7)",
     "C12": "the device answers 0 or the value of a configuration (9.4.2)", "C13": "bNumConfigurations doesn't count it (9.4.3, 9.6.1)",
+    "C14": "the device answers the value that was set (9.4.2)", "C15": "the device answers by its descriptors and what was set (9.4.5)",
+    "C16": "the device takes a feature that it has and no other (9.4.1, 9.4.9)", "C17": "the device answers by the settings that it has (9.4.4, 9.4.10)",
 }
 # In packets: by their damage, and of a transaction with endpoint zero.
 DAMAGES = {
@@ -363,10 +365,11 @@ def has_wrong_toggle(transfer, token, data):
 
 
 class Conversations:
-    """What devices said of their descriptors since they may have been reset, and what USB 2.0 forbids in their next transfers."""
+    """What devices said of their descriptors since they may have been reset, the states of those whose SET_ADDRESS and each change since
+    were seen, and what USB 2.0 forbids in their next transfers."""
 
     def __init__(self):
-        self.said = {}
+        self.said, self.states = {}, {}
 
     def take(self, transfer):
         """What is found in a transfer."""
@@ -374,12 +377,33 @@ class Conversations:
         ending, (value, index) = transfer["ending"][0], struct.unpack_from("<HH", setup, 2)
         found = [name for name, holds in zip(FINDINGS, self.tests(transfer, ending, value, index)) if holds]
         resets = device == 0 or (setup[:2] == b"\x23\3" and setup[2:4] == b"\4\0")
-        for key in [key for key in self.said if key[0] == bus and (resets or (key[1] == device and setup[:2] in (b"\0\5", b"\0\7")))]:
-            del self.said[key]
+        if self.states.get(transfer["device"]) and device_states.changes_state(setup):
+            self.states[transfer["device"]] = device_states.state_after(self.configurations(bus, device), self.states[transfer["device"]], transfer)
+        for kept in (self.said, self.states):
+            for key in [key for key in kept if key[0] == bus and (resets or (key[1] == device and setup[:2] in (b"\0\5", b"\0\7")))]:
+                del kept[key]
+        if ending == "done" and device == 0 and setup[:2] == b"\0\5" and 0 < value < 0x80 and not any(setup[4:]):
+            self.states[bus, value] = device_states.State()
         if gives(transfer) and not resets:
             key = bus, device, value, index
             self.said[key] = data + self.said.get(key, b"")[len(data):]
         return found
+
+    def configuration_parts(self, bus, device):
+        """What a device said of each configuration that its device descriptor counts."""
+        count = self.said.get((bus, device, 0x100, 0), b"").ljust(18, b"\0")[17]
+        return [self.said.get((bus, device, 0x200 + it, 0), b"") for it in range(count)]
+
+    def configurations(self, bus, device):
+        return device_states.configurations_of(self.configuration_parts(bus, device))
+
+    def is_answered_otherwise(self, transfer):
+        """Whether the device of a transfer, in its state and with its configurations, has another answer to the request; not where one of
+        these isn't known."""
+        state, configurations = self.states.get(transfer["device"]), self.configurations(*transfer["device"])
+        if state is None or configurations is None:
+            return False
+        return device_states.Asked(configurations, state, transfer["setup"]).is_answered_otherwise(transfer)
 
     def tests(self, transfer, ending, value, index):
         """Whether each finding holds."""
@@ -403,18 +427,23 @@ class Conversations:
         yield unsaid and value in (0x100, 0x200) and index == 0
         yield unsaid and index == 0 and (kind == 2 and 0 < number < of(0x100)[17] or kind == 7 and number < of(0x600)[8])
         yield unsaid and (index == 0 and any(of(0x100)[14:17]) if value == 0x300 else kind == 3 and self.is_named(bus, device, number, index))
-        yield ending == "stall" and setup == b"\x80\0\0\0\0\0\2\0" and device > 0
+        has_no_status = ending == "stall" and setup == b"\x80\0\0\0\0\0\2\0" and device > 0
+        yield has_no_status
         yield ending == "stall" and device == 0 and setup[:2] == b"\0\5" and value < 0x80 and not any(setup[4:])
         # The value of each configuration that is counted, or None where it isn't known.
-        parts = [self.said.get((bus, device, 0x200 + it, 0), b"") for it in range(of(0x100)[17])]
+        parts = self.configuration_parts(bus, device)
         values = [part[5] if len(part) >= 6 else None for part in parts]
         others = set(range(1, 0x100)) - set(values) if values and None not in values else ()
         sets = device > 0 and setup[:2] == b"\0\x09" and setup[3:] == bytes(5)
         yield sets and ending == "stall" and value in (0, *values)
         yield sets and ending == "done" and value in others
         tells = ending == "done" and not transfer["cut"] and len(data) == 1 and data[0] in others
-        yield device > 0 and setup == b"\x80\x08\0\0\0\0\1\0" and (ending == "stall" or tells)
+        has_no_value = device > 0 and setup == b"\x80\x08\0\0\0\0\1\0" and (ending == "stall" or tells)
+        yield has_no_value
         yield gives(transfer) and kind == 2 and index == 0 and 0 < of(0x100)[17] <= number
+        group = device_states.group_of(setup)
+        is_other = group is not None and not has_no_status and not has_no_value and self.is_answered_otherwise(transfer)
+        yield from (is_other and group == it for it in ("configuration", "status", "feature", "setting"))
 
     def is_named(self, bus, device, number, language):
         """Whether a descriptor names this string (9.6.7), in a language of the list."""

@@ -9,7 +9,7 @@ Their `kind` and members, with times in nanoseconds and bytes as hexadecimal dig
     device      bus, device, the number of findings, and descriptors: those that `usbdesc capture --file` writes
     end         cut: place and length of a part that isn't whole; fault
 
-Findings are T1 of a transfer, C1 to C13 of a device's conversation, P1 to P13 of packets. It ends in 1 where something is found, in 2
+Findings are T1 of a transfer, C1 to C17 of a device's conversation, P1 to P13 of packets. It ends in 1 where something is found, in 2
 where the lines can't be written, and in 3 where the file isn't read to its end."""
 from __future__ import annotations
 

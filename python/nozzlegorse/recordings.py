@@ -14,7 +14,7 @@ _ROOM = 1 << 16
 
 
 class Finding(Value):
-    """What USB 2.0 forbids: T1 in a transfer, C1 to C13 in a device's conversation, P1 to P13 in packets, these with the number of
+    """What USB 2.0 forbids: T1 in a transfer, C1 to C17 in a device's conversation, P1 to P13 in packets, these with the number of
     their frame. The time is in nanoseconds, the device its bus and address, each None where it isn't known."""
 
     name: str

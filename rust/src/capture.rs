@@ -32,7 +32,7 @@ pub enum Ending {
 #[derive(Clone, Debug, PartialEq, Eq, Hash)]
 #[non_exhaustive]
 pub struct Forbidden {
-    /// T1 in a transfer, C1 to C13 in a device's conversation, P1 to P13 in packets.
+    /// T1 in a transfer, C1 to C17 in a device's conversation, P1 to P13 in packets.
     pub name: String,
     /// What is wrong, with the sections of USB 2.0 that say so.
     pub message: String,

@@ -82,7 +82,7 @@ request_numbers t = record no_numbers {
   has_device = true;
 }
 
--- T1 is 1, and C1 to C13 are 2 to 14
+-- T1 is 1, and C1 to C17 are 2 to 18
 abbrev pub finding_number : Finding → ℕ
 finding_number finding = number_in all_findings finding
 

@@ -29,7 +29,7 @@ pub struct NzgRecorded {
     pub setup: [u8; 8],
     /// Of a request: 0 no end came, 1 done, 2 STALL, 3 failed, 4 refused by the host controller.
     pub ending: u8,
-    /// Of a finding in a request 1 to 14, in packets 1 to 12.
+    /// Of a finding in a request 1 to 18, in packets 1 to 13.
     pub finding: u8,
     /// Of a request whether a frame of it was cut.
     pub is_cut: bool,

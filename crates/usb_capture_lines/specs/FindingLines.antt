@@ -6,7 +6,7 @@ use Rattle.usb_text.specs.Lines.{column}
 use Rattle.usb_wire.specs.declared.damage.Damage.{Damage}
 use Rattle.usb_wire.specs.declared.damage.Damage.TheVariants.{Empty, Pid, Reserved, Length, Crc5, Crc16}
 use Rattle.usb_capture.specs.declared.finding.Finding.{Finding}
-use Rattle.usb_capture.specs.declared.finding.Finding.TheVariants.{MoreThanAsked, OtherType, OtherLength, OtherBytes, RefusesGiven, RefusesRequired, RefusesCounted, RefusesNamed, RefusesStatus, RefusesAddress, RefusesConfiguration, TakesConfiguration, OtherConfiguration, GivesUncounted}
+use Rattle.usb_capture.specs.declared.finding.Finding.TheVariants.{MoreThanAsked, OtherType, OtherLength, OtherBytes, RefusesGiven, RefusesRequired, RefusesCounted, RefusesNamed, RefusesStatus, RefusesAddress, RefusesConfiguration, TakesConfiguration, OtherConfiguration, GivesUncounted, OtherValue, OtherStatus, OtherFeature, OtherSetting}
 use Rattle.usb_capture.specs.declared.packet_finding.PacketFinding.{PacketFinding}
 use Rattle.usb_capture.specs.declared.packet_finding.PacketFinding.TheVariants.{Damaged, NoHandshake, NoRequest, SetupRefused, Toggle, Long, NoShortPacket, StatusDirection}
 use Rattle.usb_capture_lines.specs.BusFindings.{device_of}
@@ -29,6 +29,10 @@ finding_words RefusesConfiguration = codes "the device takes 0 and the value of 
 finding_words TakesConfiguration = codes "no configuration of the device has this value (9.2.7, 9.4.7)"
 finding_words OtherConfiguration = codes "the device answers 0 or the value of a configuration (9.4.2)"
 finding_words GivesUncounted = codes "bNumConfigurations doesn't count it (9.4.3, 9.6.1)"
+finding_words OtherValue = codes "the device answers the value that was set (9.4.2)"
+finding_words OtherStatus = codes "the device answers by its descriptors and what was set (9.4.5)"
+finding_words OtherFeature = codes "the device takes a feature that it has and no other (9.4.1, 9.4.9)"
+finding_words OtherSetting = codes "the device answers by the settings that it has (9.4.4, 9.4.10)"
 
 unfoldable pub finding_line : Finding → List ℕ
 finding_line finding = codes "           ! " ++ finding_words finding ++ codes "\n"

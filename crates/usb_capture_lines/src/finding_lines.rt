@@ -53,6 +53,11 @@ pub fn finding_words(finding: Finding) -> &'static str
         Finding::OtherConfiguration =>
             "the device answers 0 or the value of a configuration (9.4.2)",
         Finding::GivesUncounted => "bNumConfigurations doesn't count it (9.4.3, 9.6.1)",
+        Finding::OtherValue => "the device answers the value that was set (9.4.2)",
+        Finding::OtherStatus => "the device answers by its descriptors and what was set (9.4.5)",
+        Finding::OtherFeature =>
+            "the device takes a feature that it has and no other (9.4.1, 9.4.9)",
+        Finding::OtherSetting => "the device answers by the settings that it has (9.4.4, 9.4.10)",
     }
 }
 

@@ -139,6 +139,104 @@ aaaa1111 39 S Ci:1:007:0 s 80 08 0000 0000 0001 1 <
 aaaa1111 40 C Ci:1:007:0 0 1 = 03
 ";
 
+/// A device with remote wakeup and endpoints 1 IN and 2 OUT tells a configuration before one is set, and 0 after. It refuses remote wakeup,
+/// takes it, and tells its status without it, with it, and in one byte; of its interface a status that isn't 0; of a halted endpoint that
+/// it isn't, and that it is, which it may also once the halt is cleared. It refuses the halt of an endpoint that it doesn't have, and
+/// takes it, so that its state isn't known.
+const OTHER_STATUSES: &[u8] = b"aaaa1111 1 S Co:1:000:0 s 00 05 0007 0000 0000 0
+aaaa1111 2 C Co:1:000:0 0 0
+aaaa1111 3 S Ci:1:007:0 s 80 06 0100 0000 0012 18 <
+aaaa1111 4 C Ci:1:007:0 0 18 = 12010002 00000040 83044057 00020102 0301
+aaaa1111 5 S Ci:1:007:0 s 80 06 0200 0000 0020 32 <
+aaaa1111 6 C Ci:1:007:0 0 32 = 09022000 010100a0 32090400 0002ff00 00000705 81030800 0a070502 02400000
+aaaa1111 7 S Ci:1:007:0 s 80 08 0000 0000 0001 1 <
+aaaa1111 8 C Ci:1:007:0 0 1 = 01
+aaaa1111 9 S Co:1:007:0 s 00 09 0001 0000 0000 0
+aaaa1111 10 C Co:1:007:0 0 0
+aaaa1111 11 S Ci:1:007:0 s 80 08 0000 0000 0001 1 <
+aaaa1111 12 C Ci:1:007:0 0 1 = 00
+aaaa1111 13 S Ci:1:007:0 s 80 08 0000 0000 0001 1 <
+aaaa1111 14 C Ci:1:007:0 0 1 = 01
+aaaa1111 15 S Co:1:007:0 s 00 03 0001 0000 0000 0
+aaaa1111 16 C Co:1:007:0 -32 0
+aaaa1111 17 S Co:1:007:0 s 00 03 0001 0000 0000 0
+aaaa1111 18 C Co:1:007:0 0 0
+aaaa1111 19 S Ci:1:007:0 s 80 00 0000 0000 0002 2 <
+aaaa1111 20 C Ci:1:007:0 0 2 = 0000
+aaaa1111 21 S Ci:1:007:0 s 80 00 0000 0000 0002 2 <
+aaaa1111 22 C Ci:1:007:0 0 2 = 0300
+aaaa1111 23 S Ci:1:007:0 s 80 00 0000 0000 0002 2 <
+aaaa1111 24 C Ci:1:007:0 0 1 = 02
+aaaa1111 25 S Ci:1:007:0 s 81 00 0000 0000 0002 2 <
+aaaa1111 26 C Ci:1:007:0 0 2 = 0100
+aaaa1111 27 S Co:1:007:0 s 02 03 0000 0081 0000 0
+aaaa1111 28 C Co:1:007:0 0 0
+aaaa1111 29 S Ci:1:007:0 s 82 00 0000 0081 0002 2 <
+aaaa1111 30 C Ci:1:007:0 0 2 = 0000
+aaaa1111 31 S Ci:1:007:0 s 82 00 0000 0081 0002 2 <
+aaaa1111 32 C Ci:1:007:0 0 2 = 0100
+aaaa1111 33 S Co:1:007:0 s 02 01 0000 0081 0000 0
+aaaa1111 34 C Co:1:007:0 0 0
+aaaa1111 35 S Ci:1:007:0 s 82 00 0000 0081 0002 2 <
+aaaa1111 36 C Ci:1:007:0 0 2 = 0100
+aaaa1111 37 S Co:1:007:0 s 02 03 0000 0082 0000 0
+aaaa1111 38 C Co:1:007:0 -32 0
+aaaa1111 39 S Co:1:007:0 s 02 03 0000 0082 0000 0
+aaaa1111 40 C Co:1:007:0 0 0
+aaaa1111 41 S Ci:1:007:0 s 82 00 0000 0081 0002 2 <
+aaaa1111 42 C Ci:1:007:0 0 2 = 0200
+";
+
+/// A device with an interface of two settings refuses GET_INTERFACE before it is configured, which is right, and then remote wakeup, which
+/// it doesn't have. It refuses setting 1, takes it, and tells setting 0, then 1; tells the setting of interface 1, which it doesn't have,
+/// and refuses that; tells setting 1 after SET_CONFIGURATION; refuses setting 2, takes it, and tells another. Then it has a new address,
+/// and is configured before it says its descriptors.
+const OTHER_SETTINGS: &[u8] = b"aaaa1111 1 S Co:1:000:0 s 00 05 0007 0000 0000 0
+aaaa1111 2 C Co:1:000:0 0 0
+aaaa1111 3 S Ci:1:007:0 s 80 06 0100 0000 0012 18 <
+aaaa1111 4 C Ci:1:007:0 0 18 = 12010002 00000040 83044057 00020102 0301
+aaaa1111 5 S Ci:1:007:0 s 80 06 0200 0000 001b 27 <
+aaaa1111 6 C Ci:1:007:0 0 27 = 09021b00 01010080 32090400 0000ff00 00000904 000100ff 000000
+aaaa1111 7 S Ci:1:007:0 s 81 0a 0000 0000 0001 1 <
+aaaa1111 8 C Ci:1:007:0 -32 0
+aaaa1111 9 S Co:1:007:0 s 00 09 0001 0000 0000 0
+aaaa1111 10 C Co:1:007:0 0 0
+aaaa1111 11 S Co:1:007:0 s 00 03 0001 0000 0000 0
+aaaa1111 12 C Co:1:007:0 -32 0
+aaaa1111 13 S Co:1:007:0 s 01 0b 0001 0000 0000 0
+aaaa1111 14 C Co:1:007:0 -32 0
+aaaa1111 15 S Co:1:007:0 s 01 0b 0001 0000 0000 0
+aaaa1111 16 C Co:1:007:0 0 0
+aaaa1111 17 S Ci:1:007:0 s 81 0a 0000 0000 0001 1 <
+aaaa1111 18 C Ci:1:007:0 0 1 = 00
+aaaa1111 19 S Ci:1:007:0 s 81 0a 0000 0000 0001 1 <
+aaaa1111 20 C Ci:1:007:0 0 1 = 01
+aaaa1111 21 S Ci:1:007:0 s 81 0a 0000 0001 0001 1 <
+aaaa1111 22 C Ci:1:007:0 0 1 = 00
+aaaa1111 23 S Ci:1:007:0 s 81 0a 0000 0001 0001 1 <
+aaaa1111 24 C Ci:1:007:0 -32 0
+aaaa1111 25 S Co:1:007:0 s 00 09 0001 0000 0000 0
+aaaa1111 26 C Co:1:007:0 0 0
+aaaa1111 27 S Ci:1:007:0 s 81 0a 0000 0000 0001 1 <
+aaaa1111 28 C Ci:1:007:0 0 1 = 01
+aaaa1111 29 S Co:1:007:0 s 01 0b 0002 0000 0000 0
+aaaa1111 30 C Co:1:007:0 -32 0
+aaaa1111 31 S Co:1:007:0 s 01 0b 0002 0000 0000 0
+aaaa1111 32 C Co:1:007:0 0 0
+aaaa1111 33 S Ci:1:007:0 s 81 0a 0000 0000 0001 1 <
+aaaa1111 34 C Ci:1:007:0 0 1 = 01
+aaaa1111 35 S Co:1:000:0 s 00 05 0007 0000 0000 0
+aaaa1111 36 C Co:1:000:0 0 0
+aaaa1111 37 S Co:1:007:0 s 00 09 0001 0000 0000 0
+aaaa1111 38 C Co:1:007:0 0 0
+aaaa1111 39 S Ci:1:007:0 s 80 06 0100 0000 0012 18 <
+aaaa1111 40 C Ci:1:007:0 0 18 = 12010002 00000040 83044057 00020102 0301
+aaaa1111 41 S Ci:1:007:0 s 80 06 0200 0000 001b 27 <
+aaaa1111 42 C Ci:1:007:0 0 27 = 09021b00 01010080 32090400 0000ff00 00000904 000100ff 000000
+aaaa1111 43 S Ci:1:007:0 s 81 0a 0000 0000 0001 1 <
+aaaa1111 44 C Ci:1:007:0 0 1 = 05
+";
+
 /// What is found in each transfer, one after another.
 fn judge(
     alloc: Global,
@@ -227,4 +325,39 @@ fn finds_configurations_that_a_device_doesnt_have(rt: HostRuntime) {
         ..last
     };
     assert!(rt; conversations.take(&cut).expect(&rt, "memory").is_empty());
+}
+
+#[test]
+fn finds_statuses_and_features_that_a_device_doesnt_have(rt: HostRuntime) {
+    let (frames, _) = read_cut(rt.alloc(), OTHER_STATUSES, 99).expect(&rt, "a capture");
+    let transfers = transfers_of(rt.alloc(), &frames).expect(&rt, "memory");
+    let mut conversations = Conversations::new(rt.alloc());
+    let found = judge(rt.alloc(), &mut conversations, &transfers).expect(&rt, "memory");
+    let wanted = [
+        (3, Finding::OtherValue),
+        (5, Finding::OtherValue),
+        (7, Finding::OtherFeature),
+        (9, Finding::OtherStatus),
+        (11, Finding::OtherStatus),
+        (12, Finding::OtherStatus),
+        (14, Finding::OtherStatus),
+        (19, Finding::OtherFeature),
+    ];
+    assert!(rt; found.as_slice() == wanted.as_slice());
+}
+
+#[test]
+fn finds_settings_that_a_device_doesnt_have(rt: HostRuntime) {
+    let (frames, _) = read_cut(rt.alloc(), OTHER_SETTINGS, 99).expect(&rt, "a capture");
+    let transfers = transfers_of(rt.alloc(), &frames).expect(&rt, "memory");
+    let mut conversations = Conversations::new(rt.alloc());
+    let found = judge(rt.alloc(), &mut conversations, &transfers).expect(&rt, "memory");
+    let wanted = [
+        (6, Finding::OtherSetting),
+        (8, Finding::OtherSetting),
+        (10, Finding::OtherSetting),
+        (13, Finding::OtherSetting),
+        (15, Finding::OtherSetting),
+    ];
+    assert!(rt; found.as_slice() == wanted.as_slice());
 }
