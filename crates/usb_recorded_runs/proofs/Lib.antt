@@ -40,3 +40,4 @@ pub mod FollowLemmas
 pub mod PlaceParts
 pub mod FollowedRuns
 pub mod GivenFiles
+pub mod SaidSets
