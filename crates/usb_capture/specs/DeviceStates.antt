@@ -1,12 +1,12 @@
 -- The state that a device's control transfers have led it to, and what it answers then (USB 2.0, 9.1.1 and 9.4).
-use Rattle.std.specs.Prelude.{ℕ, zero, suc, ◌/◌, ◌==◌, ◌&&◌, ◌||◌, Bool, true, false, not, List, [], ◌∷◌, length, map, drop, slice_index, nat_lt, nat_le, Option, Some, None, if◌then◌else◌}
-use Rattle.std.specs.List.{list_all, range_with_len}
+use Rattle.std.specs.Prelude.{ℕ, zero, suc, ◌/◌, ◌%◌, ◌==◌, ◌&&◌, ◌||◌, Bool, true, false, not, List, [], ◌∷◌, length, map, drop, slice_index, nat_lt, nat_le, Option, Some, None, if◌then◌else◌}
+use Rattle.std.specs.List.{list_all, list_any, range_with_len}
 use Rattle.usb_fields.specs.declared.setup.Setup.{Setup}
 use Rattle.usb_fields.specs.Setup.{class_of}
 use Rattle.usb_device.specs.declared.state.State.{State}
 use Rattle.usb_device.specs.Freedoms.{is_either_to, is_standard}
 use Rattle.usb_device.specs.Offers.{EndpointOffer, Offer, SetOffer, SettingOffer}
-use Rattle.usb_device.specs.Requests.{Outcome, Bytes, Done, Refused, Takes, answer_to}
+use Rattle.usb_device.specs.Requests.{Outcome, Bytes, Done, Refused, Takes, answer_to, can_wake, selected_settings}
 use Rattle.usb_device.specs.States as states
 use Rattle.usb_capture.specs.declared.asked.Asked.{Asked}
 use Rattle.usb_capture.specs.declared.control_transfer.ControlTransfer.{ControlTransfer}
@@ -29,8 +29,8 @@ settings_said zero b = []
 settings_said (suc most) b =
     if not (nat_lt 1 (slice_index b 0)) then []
     else if slice_index b 1 == 4 then
-      record { number = slice_index b 2; alternate = slice_index b 3; endpoints = endpoints_said most (drop (slice_index b 0) b) }
-      ∷ settings_said most (drop (slice_index b 0) b)
+    record { number = slice_index b 2; alternate = slice_index b 3; endpoints = endpoints_said most (drop (slice_index b 0) b) }
+    ∷ settings_said most (drop (slice_index b 0) b)
     else settings_said most (drop (slice_index b 0) b)
 
 abbrev pub set_said : List ℕ → SetOffer
@@ -145,10 +145,27 @@ shows (Done next) t = is_done t.ending
 shows Refused t = is_stall t.ending
 shows (Takes judge) t = false
 
--- whether it shows another one than that of a device that offers this, in this state, and no request that a device may refuse or not
+-- Requests that a device may carry out or refuse, beside those of which a device under test may: remote wakeup where its configurations
+-- differ in it (9.6.3), and the halt of a control endpoint, since it is for bulk and interrupt endpoints (9.4.5).
+abbrev pub may_wake : Offer → Setup → Bool
+may_wake offer q = q.request_type == 0 && changes_feature q && list_any can_wake offer.sets && not (list_all can_wake offer.sets)
+
+abbrev pub is_control_at : ℕ → EndpointOffer → Bool
+is_control_at address e = e.address == address && e.attributes % 4 == 0
+
+abbrev pub has_control : List ℕ → ℕ → SettingOffer → Bool
+has_control alternates address t = slice_index alternates t.number == t.alternate && list_any (is_control_at address) t.endpoints
+
+abbrev pub may_halt : Offer → State → Setup → Bool
+may_halt offer s q = q.request_type == 2 && changes_feature q && list_any (has_control s.alternates q.index) (selected_settings offer s)
+
+abbrev pub is_either : Offer → State → Setup → Bool
+is_either offer s q = is_either_to offer s q || may_wake offer q || may_halt offer s q
+
+-- whether it shows another one than that of a device that offers this, in this state
 abbrev pub differs_by : Offer → State → ControlTransfer → Bool
 differs_by offer s t =
-    (is_done t.ending || is_stall t.ending) && not (is_either_to offer s t.setup) && not (shows (answer_to offer s t.setup) t)
+    (is_done t.ending || is_stall t.ending) && not (is_either offer s t.setup) && not (shows (answer_to offer s t.setup) t)
 
 abbrev pub differs_in : (Asked → List ℕ) → Option State → ControlTransfer → Bool
 differs_in known None t = false
