@@ -12,8 +12,10 @@ from readings.captures import DEVICE, FOLDER, FRAME, SET, SETUP, asked, heard, o
 
 # Two configurations with remote wakeup. The first is self-powered. Its interface 0 has one setting, with an interrupt endpoint, 1 IN. Its
 # interface 1 has two, of which the second has bulk endpoints, 2 OUT and 3 IN. The second configuration has one setting, with an isochronous endpoint, 1 IN.
+# Another second one is without remote wakeup, and has a control endpoint, 4.
 FIRST = bytes.fromhex("090239000201 00e032 0904000001ff000000 0705810308000a 0904010000ff000000 0904010102ff000000 07050202400000 07058302400000")
 SECOND = bytes.fromhex("090219000102 00a032 0904000001ff000000 07058101000001")
+PLAIN = bytes.fromhex("090219000102 008032 0904000001ff000000 07050400400000")
 ADDRESS, OTHER_DEVICE = "0005070000000000", (read(0, SETUP.hex(), DEVICE), None)
 
 
@@ -104,6 +106,10 @@ def right():
         done(configure(2)), tells(VALUE, "02"), stalls(setting_of(1)), tells(status_of(0), "0000"),
         stalls(halt(0x81)), done(halt(0x81)), tells(status_of(2, 0x81), "0100"), stalls(configure(3)), tells(VALUE, "02"),
         done(configure(0)), tells(VALUE, "00"), stalls(setting_of(0)), tells(status_of(0), "0100"), done(configure(1)),
+        # Remote wakeup that one of two configurations has, and the halt of a control endpoint, may be refused.
+        *begins(FIRST, PLAIN), stalls(wakeup()), done(wakeup()), tells(status_of(0), "0300"), done(configure(2)), tells(status_of(0), "0200"),
+        stalls(wakeup(False)), done(wakeup(False)), tells(status_of(0), "0000"), stalls(halt(4)), done(halt(4)), tells(status_of(2, 4), "0100"),
+        *begins(FIRST, SECOND), done(configure(1)),
         # A field has a value of which 9.4 says nothing.
         stalls(request(0x80, 0, 1, 0, 2)), tells(request(0x80, 0, 0, 0, 1), "01"), tells(request(0x81, 0, 0, 0x100, 2), "0100"),
         stalls(request(0x81, 10, 0, 0, 2)), stalls(request(1, 11, 0, 0x100)), tells(request(0x82, 0, 0, 0x100, 2), "0200"),

@@ -6,7 +6,8 @@ from typing import NamedTuple
 GET_STATUS, CLEAR_FEATURE, SET_FEATURE, GET_CONFIGURATION, SET_CONFIGURATION, GET_INTERFACE, SET_INTERFACE = 0, 1, 3, 8, 9, 10, 11
 DEVICE, INTERFACE, ENDPOINT = range(3)
 ENDPOINT_HALT, DEVICE_REMOTE_WAKEUP = 0, 1
-ISOCHRONOUS = 1
+# Bits 1 and 0 of bmAttributes of endpoints that need no ENDPOINT_HALT (9.4.5, 9.6.6).
+CONTROL, ISOCHRONOUS = 0, 1
 
 
 class State(NamedTuple):
@@ -139,12 +140,15 @@ class Asked:
         return self.state._replace(alternates={**self.state.alternates, self.index: self.value}, halted=self.state.halted - places)
 
     def may_be_refused(self):
-        """Whether a device may do it or answer STALL: SET_INTERFACE of an only setting (9.4.10), the halt of endpoint zero and of isochronous
-        endpoints (9.4.5)."""
+        """Whether a device may do it or answer STALL: SET_INTERFACE of an only setting (9.4.10), remote wakeup that some of its configurations
+        have (9.6.3), the halt of an endpoint that is for neither bulk nor interrupt transfers (9.4.5)."""
         if self.request == SET_INTERFACE:
             return self.alternates() == {self.value}
-        is_halt = self.request in (CLEAR_FEATURE, SET_FEATURE) and self.is_to(ENDPOINT) and self.value == ENDPOINT_HALT
-        return is_halt and (self.is_of_endpoint_zero() or any(attributes & 3 == ISOCHRONOUS for attributes in self.attributes()))
+        if self.request not in (CLEAR_FEATURE, SET_FEATURE):
+            return False
+        if self.is_to(DEVICE):
+            return len({it.has_remote_wakeup() for it in self.configurations}) == 2
+        return self.is_of_endpoint_zero() or any(attributes & 3 in (CONTROL, ISOCHRONOUS) for attributes in self.attributes())
 
     def is_like(self, came, wanted):
         """Whether these bytes may come. A device may be self-powered at times, and halts an endpoint by itself (9.4.5)."""
