@@ -1,43 +1,61 @@
 -- What is found doesn't depend on transfers of other devices, and a file has readings of its device.
-use Rattle.std.proofs.Common.{◌≡◌, ℕ, Bool, true, false, not, List, [], ◌∷◌, ◌++◌, length, drop, refl, sym, subst, ◌∙◌, ap}
+use Rattle.std.proofs.Common.{◌≡◌, ℕ, Bool, true, false, not, List, [], ◌∷◌, ◌++◌, length, drop, nat_lt, refl, sym, subst, ◌∙◌, ap}
 use Rattle.std.specs.Prelude.{Option, Some, None, filter, map, cond, ◌==◌, ◌&&◌, ◌||◌, option_and_then, if◌then◌else◌}
 use Rattle.std.specs.List.{All, AllByRecursion, Contains, find, flat_map}
 use Rattle.std.specs.Option.{option_map}
 use Rattle.std.proofs.lemmas.List.Elements.{All-contains_itself, All-filter, All-head, All-nil, All-tail, All-weaker}
+use Rattle.usb_device.specs.declared.state.State.{State}
 use Rattle.usb_fields.proofs.Cells.{funext}
 use Rattle.usb_capture.specs.declared.asked.Asked.{Asked}
 use Rattle.usb_capture.specs.declared.control_transfer.ControlTransfer.{ControlTransfer}
 use Rattle.usb_capture.specs.declared.finding.Finding.{Finding}
-use Rattle.usb_capture.specs.declared.finding.Finding.TheVariants.{MoreThanAsked, OtherType, OtherLength, OtherBytes, RefusesGiven, RefusesRequired, RefusesCounted, RefusesNamed, RefusesStatus, RefusesAddress, RefusesConfiguration, TakesConfiguration, OtherConfiguration, GivesUncounted}
+use Rattle.usb_capture.specs.declared.finding.Finding.TheVariants.{MoreThanAsked, OtherType, OtherLength, OtherBytes, RefusesGiven, RefusesRequired, RefusesCounted, RefusesNamed, RefusesStatus, RefusesAddress, RefusesConfiguration, TakesConfiguration, OtherConfiguration, GivesUncounted, OtherValue, OtherStatus, OtherFeature, OtherSetting}
+use Rattle.usb_capture.specs.Conversations.{holds_in}
 use Rattle.usb_capture.specs.DeviceFiles.{data_of, parts, reading_of}
 use Rattle.usb_capture.specs.DeviceReadings.{current_after, current_with, is_other_device, is_past}
-use Rattle.usb_capture.specs.Findings.{asked_of, gives, holds, is_named_string, is_of_another, is_same, may_change, resets_port, said, said_after, sets_address, sets_descriptor}
+use Rattle.usb_capture.specs.DeviceStates.{changes_state, state_after, state_at, state_known, takes_address, with_change}
+use Rattle.usb_capture.specs.Findings.{asked_of, gives, gives_address, is_named_string, is_of_another, is_same, may_change, resets_port, said, said_after, sets_address, sets_descriptor}
 use Rattle.usb_capture.specs.TransferFindings.{all_findings, findings}
-use Rattle.usb_capture.specs.Readings.{is_reading}
+use Rattle.usb_capture.specs.Readings.{is_done, is_reading}
 use Rattle.usb_capture.proofs.ReadingLaws.{one_more}
-use Rattle.usb_capture.proofs.SaidLemmas.{same_asked}
+use Rattle.usb_capture.proofs.SaidLemmas.{found_in, found_of, same_asked}
 
 -- a descriptor of the device of a transfer
 abbrev of_device : ControlTransfer → Asked → Asked
 of_device t asked = record asked { bus = t.bus; device = t.device }
 
 -- a finding looks at what this device said alone
-looks : (finding : Finding) (known : Asked → List ℕ) (t : ControlTransfer) → holds finding known t ≡ holds finding (λ asked. known (of_device t asked)) t
+looks : (finding : Finding) (known : Asked → List ℕ) (state : Option State) (t : ControlTransfer)
+    → holds_in finding known state t ≡ holds_in finding (λ asked. known (of_device t asked)) state t
 unfolding is_named_string
-looks MoreThanAsked known t = refl
-looks OtherType known t = refl
-looks OtherLength known t = refl
-looks OtherBytes known t = refl
-looks RefusesGiven known t = refl
-looks RefusesRequired known t = refl
-looks RefusesCounted known t = refl
-looks RefusesNamed known t = refl
-looks RefusesStatus known t = refl
-looks RefusesAddress known t = refl
-looks RefusesConfiguration known t = refl
-looks TakesConfiguration known t = refl
-looks OtherConfiguration known t = refl
-looks GivesUncounted known t = refl
+looks MoreThanAsked known state t = refl
+looks OtherType known state t = refl
+looks OtherLength known state t = refl
+looks OtherBytes known state t = refl
+looks RefusesGiven known state t = refl
+looks RefusesRequired known state t = refl
+looks RefusesCounted known state t = refl
+looks RefusesNamed known state t = refl
+looks RefusesStatus known state t = refl
+looks RefusesAddress known state t = refl
+looks RefusesConfiguration known state t = refl
+looks TakesConfiguration known state t = refl
+looks OtherConfiguration known state t = refl
+looks GivesUncounted known state t = refl
+looks OtherValue known None t = refl
+looks OtherValue known (Some s) t = refl
+looks OtherStatus known None t = refl
+looks OtherStatus known (Some s) t = refl
+looks OtherFeature known None t = refl
+looks OtherFeature known (Some s) t = refl
+looks OtherSetting known None t = refl
+looks OtherSetting known (Some s) t = refl
+
+looks_in : (known : Asked → List ℕ) (state : Option State) (t : ControlTransfer) → found_in known state t ≡ found_in (λ asked. known (of_device t asked)) state t
+looks_in known state t =
+    ap (λ (p : Finding → Bool). filter p all_findings)
+    (funext (λ finding. holds_in finding known state t) (λ finding. holds_in finding (λ asked. known (of_device t asked)) state t)
+    (λ finding. looks finding known state t))
 
 -- what another device's transfer leaves as it was
 apart_changes : (a b c d : ℕ) (reset address descriptor : Bool) → (not (a == b) || (not (c == d) && not (c == 0) && not reset)) ≡ true
@@ -60,6 +78,19 @@ apart_same a b c d e f g h reset is = by (a == b) (c == d) is
     by true false is = refl
     by true true is = absurd (let w : ⊥ = cc in w)
 
+apart_takes : (d g x y z r v w : Bool) → (not x || (not y && not z && not r)) ≡ true → (d && g && x && z && v && w) ≡ false
+apart_takes false g x y z r v w e = refl
+apart_takes true false x y z r v w e = refl
+apart_takes true true false y z r v w e = refl
+apart_takes true true true y false r v w e = refl
+apart_takes true true true true true r v w e = absurd (let no : ⊥ = cc in no)
+apart_takes true true true false true r v w e = absurd (let no : ⊥ = cc in no)
+
+apart_own : (x y z r c : Bool) → (not x || (not y && not z && not r)) ≡ true → (x && y && c) ≡ false
+apart_own false y z r c e = refl
+apart_own true false z r c e = refl
+apart_own true true z r c e = absurd (let no : ⊥ = cc in no)
+
 said_past : (t u : ControlTransfer) (asked : Asked) (before : List ℕ) → is_of_another t u ≡ true → said_after u (of_device t asked) before ≡ before
 said_past t u asked before other =
     by (may_change u (of_device t asked)) (gives u) (is_same (asked_of u) (of_device t asked))
@@ -77,16 +108,38 @@ said_beside : (t : ControlTransfer) (asked : Asked) (between before : List Contr
 said_beside t asked [] before each = refl
 said_beside t asked (u ∷ between) before each = said_past t u asked (said (of_device t asked) (between ++ before)) each.0 ∙ said_beside t asked between before each.1
 
+state_past : (t u : ControlTransfer) (known : Asked → List ℕ) (before : Option State) → is_of_another t u ≡ true
+    → state_after known u (asked_of t) before ≡ before
+state_past t u known before other =
+    by (takes_address u (asked_of t)) (may_change u (asked_of t)) (u.bus == t.bus && u.device == t.device && changes_state u.setup)
+    (apart_takes (is_done u.ending) (gives_address u.setup) (u.bus == t.bus) (u.device == t.device) (u.device == 0) (resets_port u.setup) (u.setup.value == t.device)
+    (nat_lt 0 t.device) other)
+    (apart_changes u.bus t.bus u.device t.device (resets_port u.setup) (sets_address u.setup) (sets_descriptor u.setup) other)
+    (apart_own (u.bus == t.bus) (u.device == t.device) (u.device == 0) (resets_port u.setup) (changes_state u.setup) other)
+  where
+    by : (a m s : Bool) → a ≡ false → m ≡ false → s ≡ false
+        → (if a then Some (state_at t.device) else if m then None else if s then with_change known u before else before) ≡ before
+    by false false false e f g = refl
+    by true m s e f g = absurd (let w : ⊥ = cc in w)
+    by false true s e f g = absurd (let w : ⊥ = cc in w)
+    by false false true e f g = absurd (let w : ⊥ = cc in w)
+
+state_beside : (t : ControlTransfer) (between before : List ControlTransfer) → AllByRecursion (λ u. is_of_another t u ≡ true) between
+    → state_known (asked_of t) (between ++ before) ≡ state_known (asked_of t) before
+state_beside t [] before each = refl
+state_beside t (u ∷ between) before each =
+    state_past t u (λ a. said a (between ++ before)) (state_known (asked_of t) (between ++ before)) each.0 ∙ state_beside t between before each.1
+
 pub of_one_device : (before between : List ControlTransfer) (t : ControlTransfer) → AllByRecursion (λ u. is_of_another t u ≡ true) between
     → findings (between ++ before) t ≡ findings before t
 of_one_device before between t each =
-    ap (λ (p : Finding → Bool). filter p all_findings)
-    (funext (λ finding. holds finding (λ asked. said asked (between ++ before)) t) (λ finding. holds finding (λ asked. said asked before) t)
-    (λ finding.
-    looks finding (λ asked. said asked (between ++ before)) t
-    ∙ ap (λ (known : Asked → List ℕ). holds finding known t)
+    sym (found_of (between ++ before) t)
+    ∙ looks_in (λ asked. said asked (between ++ before)) (state_known (asked_of t) (between ++ before)) t
+    ∙ ap (λ (known : Asked → List ℕ). found_in known (state_known (asked_of t) (between ++ before)) t)
     (funext (λ asked. said (of_device t asked) (between ++ before)) (λ asked. said (of_device t asked) before) (λ asked. said_beside t asked between before each))
-    ∙ sym (looks finding (λ asked. said asked before) t)))
+    ∙ ap (λ state. found_in (λ asked. said (of_device t asked) before) state t) (state_beside t between before each)
+    ∙ sym (looks_in (λ asked. said asked before) (state_known (asked_of t) before) t)
+    ∙ found_of before t
 
 -- what is kept of the devices that have their addresses now came
 current_all : (P : ControlTransfer → Type 0) (kept transfers : List ControlTransfer) → All P kept → All (λ t. is_reading t ≡ true → P t) transfers → All P (current_after kept transfers)

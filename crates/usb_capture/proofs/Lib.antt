@@ -18,6 +18,7 @@ pub mod RecordingLaws
 pub mod SettingLemmas
 pub mod TransactionLemmas
 pub mod SaidLemmas
+pub mod StateLemmas
 pub mod TransferLemmas
 pub mod Unique
 pub mod Whole

@@ -5,15 +5,20 @@ use Rattle.std.specs.List.{find}
 use Rattle.std.specs.Option.{option_or}
 use Rattle.std.proofs.lemmas.Bool.Decides.{nat_tests}
 use Rattle.std.proofs.lemmas.List.Folds.{find-append}
+use Rattle.usb_device.specs.declared.state.State.{State}
 use Rattle.usb_fields.proofs.Cells.{funext}
 use Rattle.usb_capture.specs.declared.asked.Asked.{Asked}
 use Rattle.usb_capture.specs.declared.control_transfer.ControlTransfer.{ControlTransfer}
 use Rattle.usb_capture.specs.declared.conversations.Conversations.{Conversations}
+use Rattle.usb_capture.specs.declared.finding.Finding.{Finding}
+use Rattle.usb_capture.specs.declared.finding.Finding.TheVariants.{MoreThanAsked, OtherType, OtherLength, OtherBytes, RefusesGiven, RefusesRequired, RefusesCounted, RefusesNamed, RefusesStatus, RefusesAddress, RefusesConfiguration, TakesConfiguration, OtherConfiguration, GivesUncounted, OtherValue, OtherStatus, OtherFeature, OtherSetting}
 use Rattle.usb_capture.specs.declared.said.Said.{Said}
-use Rattle.usb_capture.specs.Conversations.{Knows, adds, bytes_of, held_after, held_of, is_of, said_now, still_held, without}
-use Rattle.usb_capture.specs.Findings.{asked_of, gives, holds, is_same, may_change, said, said_after}
-use Rattle.usb_capture.specs.TransferFindings.{all_findings, findings}
+use Rattle.usb_capture.specs.Conversations.{Knows, adds, bytes_of, held_after, held_of, holds_in, is_of, next_state, said_now, state_of, states_after, still_held, without}
+use Rattle.usb_capture.specs.DeviceStates.{state_after, state_known}
+use Rattle.usb_capture.specs.Findings.{asked_of, gives, is_same, may_change, said, said_after}
+use Rattle.usb_capture.specs.TransferFindings.{all_findings, findings, is_found}
 use Rattle.usb_capture.proofs.FilterLemmas.{none_left, still_there}
+use Rattle.usb_capture.proofs.StateLemmas.{changed_states}
 
 numbers_same : (a b c d a' b' c' d' : ℕ) → (a == a' && b == b' && c == c' && d == d') ≡ true → (a ≡ a') × (b ≡ b') × (c ≡ c') × (d ≡ d')
 numbers_same a b c d a' b' c' d' e = (grind (arith, nat_tests), grind (arith, nat_tests), grind (arith, nat_tests), grind (arith, nat_tests))
@@ -108,9 +113,53 @@ held_more t held asked = by (adds t) refl
     by false e = still_of t held asked ∙ silent (may_change t asked) (gives t) (is_same (asked_of t) asked) refl refl refl e
 
 -- a transfer more is known
-pub known_more : (t : ControlTransfer) (earlier : List ControlTransfer) (old new : Conversations) → new.held.items ≡ held_after t old.held.items → Knows earlier old → Knows (t ∷ earlier) new
-known_more t earlier old new is knows asked = ap (λ held. held_of held asked) is ∙ held_more t old.held.items asked ∙ ap (said_after t asked) (knows asked)
+pub known_more : (t : ControlTransfer) (earlier : List ControlTransfer) (old new : Conversations) → new.held.items ≡ held_after t old.held.items
+    → new.states.held.items ≡ states_after t (next_state (held_of old.held.items) t (state_of old.states.held.items (asked_of t))) old.states.held.items
+    → Knows earlier old → Knows (t ∷ earlier) new
+known_more t earlier old new is states knows = (
+  λ asked. ap (λ held. held_of held asked) is ∙ held_more t old.held.items asked ∙ ap (said_after t asked) (knows.0 asked),
+  λ asked.
+      ap (λ held. state_of held asked) states
+      ∙ changed_states t (held_of old.held.items) old.states.held.items asked
+      ∙ ap (λ (known : Asked → List ℕ). state_after known t asked (state_of old.states.held.items asked)) (funext (held_of old.held.items) (λ a. said a earlier) knows.0)
+      ∙ ap (state_after (λ a. said a earlier) t asked) (knows.1 asked),
+)
+
+-- what is found by all that is known
+is_found_in : (finding : Finding) (earlier : List ControlTransfer) (t : ControlTransfer)
+    → holds_in finding (λ asked. said asked earlier) (state_known (asked_of t) earlier) t ≡ is_found finding earlier t
+is_found_in MoreThanAsked earlier t = refl
+is_found_in OtherType earlier t = refl
+is_found_in OtherLength earlier t = refl
+is_found_in OtherBytes earlier t = refl
+is_found_in RefusesGiven earlier t = refl
+is_found_in RefusesRequired earlier t = refl
+is_found_in RefusesCounted earlier t = refl
+is_found_in RefusesNamed earlier t = refl
+is_found_in RefusesStatus earlier t = refl
+is_found_in RefusesAddress earlier t = refl
+is_found_in RefusesConfiguration earlier t = refl
+is_found_in TakesConfiguration earlier t = refl
+is_found_in OtherConfiguration earlier t = refl
+is_found_in GivesUncounted earlier t = refl
+is_found_in OtherValue earlier t = refl
+is_found_in OtherStatus earlier t = refl
+is_found_in OtherFeature earlier t = refl
+is_found_in OtherSetting earlier t = refl
+
+abbrev pub found_in : (Asked → List ℕ) → Option State → ControlTransfer → List Finding
+found_in known state t = filter (λ finding. holds_in finding known state t) all_findings
+
+pub found_of : (earlier : List ControlTransfer) (t : ControlTransfer)
+    → found_in (λ asked. said asked earlier) (state_known (asked_of t) earlier) t ≡ findings earlier t
+found_of earlier t =
+    ap (λ (p : Finding → Bool). filter p all_findings)
+    (funext (λ finding. holds_in finding (λ asked. said asked earlier) (state_known (asked_of t) earlier) t) (λ finding. is_found finding earlier t)
+    (λ finding. is_found_in finding earlier t))
 
 pub found_by : (t : ControlTransfer) (earlier : List ControlTransfer) (old : Conversations) → Knows earlier old
-    → filter (λ finding. holds finding (held_of old.held.items) t) all_findings ≡ findings earlier t
-found_by t earlier old knows = ap (λ (known : Asked → List ℕ). filter (λ finding. holds finding known t) all_findings) (funext (held_of old.held.items) (λ asked. said asked earlier) knows)
+    → found_in (held_of old.held.items) (state_of old.states.held.items (asked_of t)) t ≡ findings earlier t
+found_by t earlier old knows =
+    ap (λ (known : Asked → List ℕ). found_in known (state_of old.states.held.items (asked_of t)) t) (funext (held_of old.held.items) (λ asked. said asked earlier) knows.0)
+    ∙ ap (λ state. found_in (λ asked. said asked earlier) state t) (knows.1 (asked_of t))
+    ∙ found_of earlier t

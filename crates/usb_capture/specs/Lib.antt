@@ -7,6 +7,7 @@ pub mod DeviceFiles
 pub mod DeviceReadings
 pub mod DeviceStates
 pub mod Events
+pub mod Expected
 pub mod FaultNumbers
 pub mod Files
 pub mod Folds

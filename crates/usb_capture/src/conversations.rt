@@ -3,8 +3,8 @@ ghost use Rattle.std.specs.Prelude.{◌≡◌, ◌+◌, ◌∷◌, [], List, IfO
 ghost use Rattle.std.specs.List.{list_any, range_with_len};
 ghost use Rattle.std.specs.Option.{option_copied};
 ghost use Rattle.usb_capture.specs.declared.control_transfer.ControlTransfer.{ControlTransfer};
-ghost use Rattle.usb_capture.specs.Conversations.{Knows, adds, held_after, held_of, is_of, said_now, still_held, without};
-ghost use Rattle.usb_capture.specs.Findings.{beside, holds, is_counted, is_named, is_named_string, is_required, names, refuses_unsaid};
+ghost use Rattle.usb_capture.specs.Conversations.{Knows, adds, held_after, held_of, holds_in, is_of, said_now, state_of, still_held, without};
+ghost use Rattle.usb_capture.specs.Findings.{asked_of, beside, is_counted, is_named, is_named_string, is_required, names, refuses_unsaid};
 ghost use Rattle.usb_capture.specs.TransferFindings.{all_findings, findings};
 
 use crate::answer::{
@@ -13,12 +13,15 @@ use crate::answer::{
 };
 use crate::asked::Asked;
 use crate::change::may_change;
-use crate::configured::refuses_address;
+use crate::compared::{asks_for_status, changes_feature, is_of_setting};
+use crate::configured::{reads_configuration, refuses_address};
 use crate::control_transfer::ControlTransfer;
 use crate::finding::Finding;
+use crate::known_states::KnownStates;
 use crate::named_strings::{device_names, has_language, names, names_any};
 use crate::said::Said;
 use std::alloc::{AllocError, Global};
+use usb_device::State;
 use usb_fields::{Sequence, after, byte_at};
 
 /// wValue for the device descriptor (USB 2.0, 9.4.3 and table 9-5).
@@ -38,7 +41,8 @@ pub(crate) const OTHER_SPEED: u16 = 0x0700;
 
 /// Takes the control transfers of a recording, in order, and finds in each what USB 2.0 forbids.
 ///
-/// It holds what each device said of its descriptors (USB 2.0, 9.6) since it may have been reset, and nothing else.
+/// It holds what each device said of its descriptors (USB 2.0, 9.6) since it may have been reset, the state to which its transfers led
+/// it (9.1.1), and nothing else.
 ///
 /// ```rust
 /// let mut conversations = Conversations::new(alloc);
@@ -50,6 +54,7 @@ pub(crate) const OTHER_SPEED: u16 = 0x0700;
 pub struct Conversations {
     alloc: Global,
     held: Vec<Said>,
+    states: KnownStates,
 }
 
 impl Conversations {
@@ -60,6 +65,7 @@ impl Conversations {
         Conversations {
             alloc,
             held: Vec::new(alloc),
+            states: KnownStates::new(alloc),
         }
     }
 
@@ -73,6 +79,9 @@ impl Conversations {
             → (found.items ≡ findings earlier transfer.now) × Knows (transfer.now ∷ earlier) self.new) }
     {
         let found = self.findings(transfer)?;
+        let next = self.next_state(transfer);
+        // One transfer adds a state or bytes of a descriptor, so at most one of these can fail.
+        self.states.change(transfer, next)?;
         self.take_answer(transfer)?;
         Ok(found)
     }
@@ -87,6 +96,13 @@ impl Conversations {
         }
     }
 
+    /// The state of the device that has this descriptor.
+    pub(crate) fn state(&self, asked: Asked) -> Option<&State>
+        ensures { option_copied result ≡ state_of self.now.states.held.items asked }
+    {
+        self.states.get(asked)
+    }
+
     /// What is held of a descriptor.
     fn find(&self, asked: Asked) -> Option<&Said>
         ensures { option_copied result ≡ find (is_of asked) self.now.held.items }
@@ -96,7 +112,7 @@ impl Conversations {
 
     /// What is found in a transfer.
     fn findings(&self, transfer: &ControlTransfer) -> Result<Vec<Finding>, AllocError>
-        ensures { IfOk result (λ found. found.items ≡ filter (λ finding. holds finding (held_of self.now.held.items) transfer.now) all_findings) }
+        ensures { IfOk result (λ found. found.items ≡ filter (λ finding. holds_in finding (held_of self.now.held.items) (state_of self.now.states.held.items (asked_of transfer.now)) transfer.now) all_findings) }
     {
         Finding::ALL
             .iter()
@@ -107,7 +123,7 @@ impl Conversations {
 
     /// Whether a finding holds of a transfer.
     fn holds(&self, finding: Finding, transfer: &ControlTransfer) -> bool
-        ensures { result ≡ holds finding (held_of self.now.held.items) transfer.now }
+        ensures { result ≡ holds_in finding (held_of self.now.held.items) (state_of self.now.states.held.items (asked_of transfer.now)) transfer.now }
     {
         let asked = Asked::of(transfer);
         match finding {
@@ -127,7 +143,22 @@ impl Conversations {
             Finding::TakesConfiguration => self.takes_configuration(transfer),
             Finding::OtherConfiguration => self.has_other_configuration(transfer),
             Finding::GivesUncounted => gives(transfer) && self.is_uncounted(asked),
-            _ => false,
+            Finding::OtherValue => {
+                reads_configuration(&transfer.setup)
+                    && !self.has_other_configuration(transfer)
+                    && self.answers_otherwise(transfer)
+            }
+            Finding::OtherStatus => {
+                asks_for_status(&transfer.setup)
+                    && !refuses_status(transfer)
+                    && self.answers_otherwise(transfer)
+            }
+            Finding::OtherFeature => {
+                changes_feature(&transfer.setup) && self.answers_otherwise(transfer)
+            }
+            Finding::OtherSetting => {
+                is_of_setting(&transfer.setup) && self.answers_otherwise(transfer)
+            }
         }
     }
 
@@ -181,7 +212,8 @@ impl Conversations {
 
     /// Holds what a transfer says, and no longer what may have changed by it.
     fn take_answer(&mut self, transfer: &ControlTransfer) -> Result<(), AllocError>
-        ensures { OnOk result (self.new.held.items ≡ held_after transfer.now self.old.held.items) }
+        ensures held { OnOk result (self.new.held.items ≡ held_after transfer.now self.old.held.items) }
+        ensures states { OnOk result (self.new.states ≡ self.old.states) }
     {
         if !adds(transfer) {
             self.forget_changed(transfer);
@@ -209,14 +241,16 @@ impl Conversations {
 
     /// Forgets what may have changed by a transfer.
     fn forget_changed(&mut self, transfer: &ControlTransfer)
-        ensures { self.new.held.items ≡ still_held transfer.now self.old.held.items }
+        ensures held { self.new.held.items ≡ still_held transfer.now self.old.held.items }
+        ensures states { self.new.states ≡ self.old.states }
     {
         self.held.retain(|one| !may_change(transfer, one.asked));
     }
 
     /// Forgets a descriptor.
     fn forget(&mut self, asked: Asked)
-        ensures { self.new.held.items ≡ without asked self.old.held.items }
+        ensures held { self.new.held.items ≡ without asked self.old.held.items }
+        ensures states { self.new.states ≡ self.old.states }
     {
         self.held.retain(|one| !one.asked.is_same(asked));
     }

@@ -11,8 +11,8 @@
 //!   and how it ended. It holds those whose end hasn't come.
 //! - [`Readings`] keeps of these the last by which all of a descriptor came, for each descriptor of each device.
 //! - [`DeviceReadings`] does so of the devices that have their addresses now, and makes a descriptor file of them, or a dump.
-//! - [`Conversations`] finds in each transfer what USB 2.0 forbids, by what its device said of itself before: each [`Finding`] has
-//!   its definition in `specs/Findings.antt`.
+//! - [`Conversations`] finds in each transfer what USB 2.0 forbids, by what its device said of itself before and the state to which its
+//!   transfers led it: each [`Finding`] has its definition in `specs/TransferFindings.antt`.
 //! - [`packet_of`] reads a frame that is a packet of the bus. [`BusTransactions`] makes of packets transactions with endpoint
 //!   zero, and [`BusTransfers`] makes of these control transfers, as the events of a host tell them.
 //! - [`laws`]: bytes have one list of frames or one fault, so it doesn't matter how they were cut into pieces. A setup packet
@@ -34,6 +34,7 @@ mod bus_transfer;
 mod bus_transfers;
 mod change;
 mod clock;
+mod compared;
 mod configured;
 mod content;
 mod control_pipes;
@@ -43,12 +44,16 @@ mod conversations;
 mod data_toggle;
 mod device_file;
 mod device_readings;
+mod device_states;
 mod ending;
 mod event;
+mod expected;
 mod fault;
 mod finding;
 mod frame;
 mod interface;
+mod known_state;
+mod known_states;
 pub mod laws;
 mod named_strings;
 mod open_transfer;
@@ -59,6 +64,7 @@ mod pcap;
 mod reader;
 mod readings;
 mod recorded_packet;
+mod request;
 mod said;
 mod said_settings;
 mod stage;
