@@ -2,7 +2,7 @@
 use Rattle.std.proofs.Common.{◌≡◌, ℕ, suc, ◌+◌, ◌-◌, ◌<◌, ◌≤◌, Bool, true, false, not, List, [], ◌∷◌, ◌++◌, length, nat_lt, refl, sym, subst, ◌∙◌, ap, arith}
 use Rattle.std.specs.Prelude.{Option, Some, None, filter, map, cond, ◌==◌, ◌&&◌, ◌||◌, slice_index, if◌then◌else◌}
 use Rattle.std.specs.Int.{bit_at}
-use Rattle.std.specs.List.{find, list_any, range_with_len}
+use Rattle.std.specs.List.{find, list_all, list_any, range_with_len}
 use Rattle.std.specs.Option.{option_map, option_or}
 use Rattle.std.proofs.lemmas.Bool.Decides.{nat_tests}
 use Rattle.std.proofs.lemmas.List.Folds.{find-append}
@@ -23,6 +23,10 @@ use Rattle.usb_capture.proofs.FilterLemmas.{none_left, still_there}
 pub any_of : {X Y : Type 0} (p : Y → Bool) (f : X → Y) (xs : List X) → list_any p (map f xs) ≡ list_any (λ x. p (f x)) xs
 any_of p f [] = refl
 any_of p f (x ∷ xs) = ap (λ b. p (f x) || b) (any_of p f xs)
+
+pub all_of : {X Y : Type 0} (p : Y → Bool) (f : X → Y) (xs : List X) → list_all p (map f xs) ≡ list_all (λ x. p (f x)) xs
+all_of p f [] = refl
+all_of p f (x ∷ xs) = ap (λ b. p (f x) && b) (all_of p f xs)
 
 -- The configuration of a value, as a search goes on.
 

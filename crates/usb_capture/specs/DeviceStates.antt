@@ -150,14 +150,16 @@ shows (Takes judge) t = false
 abbrev pub may_wake : Offer → Setup → Bool
 may_wake offer q = q.request_type == 0 && changes_feature q && list_any can_wake offer.sets && not (list_all can_wake offer.sets)
 
-abbrev pub is_control_at : ℕ → EndpointOffer → Bool
-is_control_at address e = e.address == address && e.attributes % 4 == 0
+-- whether a setting is the one that was chosen for its interface, and has the endpoint of this address, of this type: bits 1..0 of
+-- bmAttributes, 0 of a control endpoint, 1 of an isochronous one (9.6.6)
+abbrev pub is_of_type_at : ℕ → ℕ → EndpointOffer → Bool
+is_of_type_at type address e = e.address == address && e.attributes % 4 == type
 
-abbrev pub has_control : List ℕ → ℕ → SettingOffer → Bool
-has_control alternates address t = slice_index alternates t.number == t.alternate && list_any (is_control_at address) t.endpoints
+abbrev pub has_of_type : ℕ → List ℕ → ℕ → SettingOffer → Bool
+has_of_type type alternates address t = slice_index alternates t.number == t.alternate && list_any (is_of_type_at type address) t.endpoints
 
 abbrev pub may_halt : Offer → State → Setup → Bool
-may_halt offer s q = q.request_type == 2 && changes_feature q && list_any (has_control s.alternates q.index) (selected_settings offer s)
+may_halt offer s q = q.request_type == 2 && changes_feature q && list_any (has_of_type 0 s.alternates q.index) (selected_settings offer s)
 
 abbrev pub is_either : Offer → State → Setup → Bool
 is_either offer s q = is_either_to offer s q || may_wake offer q || may_halt offer s q

@@ -134,6 +134,22 @@ impl Conversations {
         (0..count).any(|i| byte_at(self.configuration(asked, i), 7) / 32 % 2 == 1)
     }
 
+    /// Whether each of its configurations has it.
+    #[tactic(auto, using(crate::proofs::StateLemmas::all_of))]
+    pub(crate) fn can_always_wake(&self, asked: Asked) -> bool
+        ensures { result ≡ list_all can_wake (offer_said (held_of self.now.held.items) asked).sets }
+    {
+        let count = self.configuration_count(asked);
+        self.can_all_wake(asked, count)
+    }
+
+    /// Whether each of this many configurations has remote wakeup.
+    fn can_all_wake(&self, asked: Asked, count: u8) -> bool
+        ensures { result ≡ list_all (λ i. slice_index (configuration (held_of self.now.held.items) asked i) 7 / 32 % 2 == 1) (range_with_len 0 count) }
+    {
+        (0..count).all(|i| byte_at(self.configuration(asked, i), 7) / 32 % 2 == 1)
+    }
+
     /// What the device said of the first configuration of this value, and nothing where there is no such.
     pub(crate) fn configuration_with(&self, asked: Asked, value: u8) -> &[u8]
         ensures settings { settings_said (length result.now) result.now ≡ settings_of (find (has_value value) (offer_said (held_of self.now.held.items) asked).sets) }

@@ -4,10 +4,10 @@ pub(crate) mod settings;
 
 ghost use Rattle.std.specs.Prelude.{◌≡◌, fold, length};
 ghost use Rattle.std.specs.List.{list_any};
-ghost use Rattle.usb_device.specs.Freedoms.{has_isochronous, is_other_setting};
+ghost use Rattle.usb_device.specs.Freedoms.{is_other_setting};
 ghost use Rattle.usb_device.specs.Requests.{has_endpoint, interface_addresses, is_alternate, is_of_interface};
 ghost use Rattle.usb_device.specs.States.{without_halt};
-ghost use Rattle.usb_capture.specs.DeviceStates.{are_descriptors, is_all_said, settings_said};
+ghost use Rattle.usb_capture.specs.DeviceStates.{are_descriptors, has_of_type, is_all_said, settings_said};
 ghost use Rattle.usb_capture.specs.SaidSettings.{has_descriptor};
 
 use crate::said_settings::settings::Settings;
@@ -89,12 +89,12 @@ pub(crate) fn has_endpoint(set: &[u8], alternates: &[u8; 256], address: u8) -> b
     false
 }
 
-/// Whether one of the chosen settings has an isochronous endpoint of this address.
-pub(crate) fn has_isochronous(set: &[u8], alternates: &[u8; 256], address: u8) -> bool
-    ensures { result ≡ list_any (has_isochronous alternates.now address) (settings_said (length set.now) set.now) }
+/// Whether one of the chosen settings has an endpoint of this address and this type: 0 is control, 1 isochronous.
+pub(crate) fn has_of_type(set: &[u8], alternates: &[u8; 256], address: u8, kind: u8) -> bool
+    ensures { result ≡ list_any (has_of_type kind alternates.now address) (settings_said (length set.now) set.now) }
 {
     for setting in Settings::of(set) {
-        if setting.has_isochronous(alternates, address) {
+        if setting.has_of_type(alternates, address, kind) {
             return true;
         }
     }

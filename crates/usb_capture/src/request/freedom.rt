@@ -2,18 +2,51 @@
 ghost use Rattle.std.specs.Prelude.{◌≡◌};
 ghost use Rattle.usb_fields.specs.Setup.{recipient_of};
 ghost use Rattle.usb_device.specs.Freedoms.{by_code, is_either_to, is_endpoint, may_halt, may_set, names_isochronous};
+ghost use Rattle.usb_capture.specs.DeviceStates as states;
+ghost use Rattle.usb_capture.specs.DeviceStates.{is_either, may_wake};
 ghost use Rattle.usb_capture.specs.Expected.{offered};
 
 use super::Request;
-use crate::said_settings::{has_alternate, has_isochronous, has_other_setting};
+use crate::compared::changes_feature;
+use crate::said_settings::{has_alternate, has_of_type, has_other_setting};
 use usb_fields::{Class, Recipient, feature, request};
 
 impl<'r> Request<'r> {
     /// Whether a device may do either.
     pub(crate) fn is_either(&self) -> bool
+        ensures { result ≡ is_either (offered self.now) self.now.state.now self.now.setup }
+    {
+        self.is_either_to() || self.may_wake() || self.may_halt_control()
+    }
+
+    fn is_either_to(&self) -> bool
         ensures { result ≡ is_either_to (offered self.now) self.now.state.now self.now.setup }
     {
         self.by_code() && self.setup.length == 0 && self.setup.class() == Class::Standard
+    }
+
+    /// Remote wakeup, where one configuration has it and another doesn't (9.6.3).
+    fn may_wake(&self) -> bool
+        ensures { result ≡ may_wake (offered self.now) self.now.setup }
+    {
+        self.setup.request_type == 0
+            && changes_feature(&self.setup)
+            && self.conversations.can_wake(self.asked)
+            && !self.conversations.can_always_wake(self.asked)
+    }
+
+    /// ENDPOINT_HALT of a control endpoint (9.4.5).
+    fn may_halt_control(&self) -> bool
+        ensures { result ≡ states.may_halt (offered self.now) self.now.state.now self.now.setup }
+    {
+        self.setup.request_type == 2
+            && changes_feature(&self.setup)
+            && has_of_type(
+                self.selected_set(),
+                &self.state.alternates,
+                self.setup.index as u8,
+                0,
+            )
     }
 
     fn by_code(&self) -> bool
@@ -62,6 +95,6 @@ impl<'r> Request<'r> {
         ensures { result ≡ names_isochronous (offered self.now) self.now.state.now self.now.setup.index }
     {
         let index = self.setup.index;
-        index < 256 && has_isochronous(self.selected_set(), &self.state.alternates, index as u8)
+        index < 256 && has_of_type(self.selected_set(), &self.state.alternates, index as u8, 1)
     }
 }

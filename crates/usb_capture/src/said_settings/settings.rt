@@ -1,9 +1,9 @@
 //! The settings of a configuration, read where a device said them.
 ghost use Rattle.std.specs.Prelude.{◌≡◌, ◌∷◌, [], drop, fold, length, map, slice_index, MatchOption};
 ghost use Rattle.std.specs.Iterator.{YieldsFirstBy, item_count};
-ghost use Rattle.usb_device.specs.Freedoms.{has_isochronous};
 ghost use Rattle.usb_device.specs.Requests.{address_of, has_endpoint};
 ghost use Rattle.usb_device.specs.States.{without_halt};
+ghost use Rattle.usb_capture.specs.DeviceStates.{has_of_type};
 ghost use Rattle.usb_capture.specs.SaidSettings.{setting_at, setting_of, settings_in, settings_left};
 
 use crate::said_settings::endpoints::Endpoints;
@@ -86,15 +86,15 @@ impl<'a> Setting<'a> {
         false
     }
 
-    /// Whether it is chosen, and has an isochronous endpoint of this address.
-    pub(crate) fn has_isochronous(&self, alternates: &[u8; 256], address: u8) -> bool
-        ensures { result ≡ has_isochronous alternates.now address (setting_of self.now) }
+    /// Whether it is chosen, and has an endpoint of this address and this type.
+    pub(crate) fn has_of_type(&self, alternates: &[u8; 256], address: u8, kind: u8) -> bool
+        ensures { result ≡ has_of_type kind alternates.now address (setting_of self.now) }
     {
         if alternates[usize::from(self.number)] != self.alternate {
             return false;
         }
         for endpoint in self.endpoints {
-            if endpoint.address == address && endpoint.attributes % 4 == 1 {
+            if endpoint.address == address && endpoint.attributes % 4 == kind {
                 return true;
             }
         }
