@@ -125,4 +125,5 @@ length_right size f t is ended =
 
 pub none_of_other_length : (size : ℕ) (f : DescriptorFile) (ts : List ControlTransfer) → AllByRecursion (IsSound size (described_by f)) ts
     → AllByRecursion (IsEnded f) ts → IsTransferFreeAfter OtherLength [] ts
-none_of_other_length size f ts each ended = free_after OtherLength size f (λ t known is ends knows. length_right size f t is ends) ts each ended
+none_of_other_length size f ts each ended =
+    free_after OtherLength size f (λ earlier t. refl) (λ t known is ends knows. length_right size f t is ends) ts each ended

@@ -41,3 +41,6 @@ pub mod PlaceParts
 pub mod FollowedRuns
 pub mod GivenFiles
 pub mod SaidSets
+pub mod ComparedLemmas
+pub mod MoveLemmas
+pub mod ConversationLemmas

@@ -24,6 +24,7 @@ use Rattle.usb_capture.specs.declared.finding.Finding.{Finding}
 use Rattle.usb_capture.specs.declared.finding.Finding.TheVariants.{RefusesCounted, RefusesGiven, RefusesRequired}
 use Rattle.usb_capture.specs.Findings.{asked_of, beside, holds, is_counted, is_required, is_stall, refuses_descriptor, said}
 use Rattle.usb_capture.specs.Readings.{reads_descriptor}
+use Rattle.usb_capture.specs.TransferFindings.{is_found}
 use Rattle.usb_recorded_runs.specs.Findings.{IsTransferFreeAfter}
 use Rattle.usb_recorded_runs.proofs.AnswerLemmas.{asked_so, described_by, table_gives}
 use Rattle.usb_recorded_runs.proofs.EndedLemmas.{IsEnded}
@@ -81,11 +82,12 @@ all_both P Q (t ∷ ts) first second = ((first.0, second.0), all_both P Q ts fir
 
 -- what is found in no transfer, by those who know the first bytes of descriptors
 pub free_after : (finding : Finding) (size : ℕ) (f : DescriptorFile)
+    → ((earlier : List ControlTransfer) (t : ControlTransfer) → is_found finding earlier t ≡ holds finding (λ asked. said asked earlier) t)
     → ((t : ControlTransfer) (known : Asked → List ℕ) → IsSound size (described_by f) t → IsEnded f t → KnowsFronts f known → holds finding known t ≡ false)
     → (ts : List ControlTransfer) → AllByRecursion (IsSound size (described_by f)) ts → AllByRecursion (IsEnded f) ts → IsTransferFreeAfter finding [] ts
-free_after finding size f free ts each ended =
+free_after finding size f same free ts each ended =
     free_by finding (λ t. IsSound size (described_by f) t × IsEnded f t) (λ t earlier is before.
-    free t (λ asked. said asked earlier) is.0 is.1 (λ asked. said_front size f asked earlier (all_of earlier (λ t is. is.0) before)))
+    same earlier t ∙ free t (λ asked. said asked earlier) is.0 is.1 (λ asked. said_front size f asked earlier (all_of earlier (λ t is. is.0) before)))
     [] ts tt (all_both (IsSound size (described_by f)) (IsEnded f) ts each ended)
 
 pub none_in_front : (front : List ℕ) → IsFront front [] → length front ≡ 0
@@ -111,7 +113,8 @@ given_right f t known ended knows = nothing_given (refuses_descriptor t) (length
 
 pub none_refuses_given : (size : ℕ) (f : DescriptorFile) (ts : List ControlTransfer) → AllByRecursion (IsSound size (described_by f)) ts
     → AllByRecursion (IsEnded f) ts → IsTransferFreeAfter RefusesGiven [] ts
-none_refuses_given size f ts each ended = free_after RefusesGiven size f (λ t known is ends knows. given_right f t known ends knows) ts each ended
+none_refuses_given size f ts each ended =
+    free_after RefusesGiven size f (λ earlier t. refl) (λ t known is ends knows. given_right f t known ends knows) ts each ended
 
 -- A refusal of a descriptor of which nothing was said is none of these, if the device has them all.
 pub unsaid_right : (refuses unsaid has : Bool) → (refuses ≡ true → has ≡ false) → ((refuses && unsaid) && has) ≡ false
@@ -139,7 +142,7 @@ not_required f asked right none = false_from_ne_true (is_required asked) (λ e.
 
 pub none_refuses_required : (size : ℕ) (f : DescriptorFile) (ts : List ControlTransfer) → findings f ≡ [] → AllByRecursion (IsSound size (described_by f)) ts
     → AllByRecursion (IsEnded f) ts → IsTransferFreeAfter RefusesRequired [] ts
-none_refuses_required size f ts right each ended = free_after RefusesRequired size f (λ t known is ends knows.
+none_refuses_required size f ts right each ended = free_after RefusesRequired size f (λ earlier t. refl) (λ t known is ends knows.
     unsaid_right (refuses_descriptor t) (length (known (asked_of t)) == 0) (is_required (asked_of t)) (λ e.
     not_required f (asked_of t) right (refused_lacks f t ends e))) ts each ended
 
@@ -204,6 +207,6 @@ counts_right f right = (or_parts (has_wrong_count f) (has_wrong_kind f) (or_part
 pub none_refuses_counted : (size : ℕ) (f : DescriptorFile) (ts : List ControlTransfer) → has_wrong_sets f ≡ false
     → AllByRecursion (IsSound size (described_by f)) ts
     → AllByRecursion (IsEnded f) ts → IsTransferFreeAfter RefusesCounted [] ts
-none_refuses_counted size f ts right each ended = free_after RefusesCounted size f (λ t known is ends knows.
+none_refuses_counted size f ts right each ended = free_after RefusesCounted size f (λ earlier t. refl) (λ t known is ends knows.
     unsaid_right (refuses_descriptor t) (length (known (asked_of t)) == 0) (is_counted known (asked_of t)) (λ e.
     not_counted f known (counts_right f right) knows (asked_of t) (refused_lacks f t ends e))) ts each ended

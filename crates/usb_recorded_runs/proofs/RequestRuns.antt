@@ -23,18 +23,26 @@ use Rattle.usb_bus.specs.Exchanges.{is_lost_down}
 use Rattle.usb_bus.specs.Log.{count_before}
 use Rattle.usb_bus.specs.Run.{fate_at}
 use Rattle.usb_bus.specs.Wire.{token_kind}
+use Rattle.usb_capture.specs.declared.control_transfer.ControlTransfer.{ControlTransfer}
+use Rattle.usb_capture.specs.declared.finding.Finding.{Finding}
 use Rattle.usb_capture.specs.BusTransfers.{request_by, transfers_in}
 use Rattle.usb_capture.specs.Events.{setup_at}
 use Rattle.usb_capture.specs.Findings.{sets_address}
 use Rattle.usb_capture.specs.Readings.{reads_descriptor}
+use Rattle.usb_capture.specs.TransferFindings.{is_found}
+use Rattle.usb_recorded_runs.specs.Answers.{found_otherwise}
 use Rattle.usb_recorded_runs.specs.Exchanges.{Exchange, data_received, exchange_in, exchanges, packets_of, received, transaction_of, unless_lost}
+use Rattle.usb_recorded_runs.specs.Findings.{IsTransferFreeAfter}
+use Rattle.usb_recorded_runs.proofs.ComparedLemmas.{is_compared_code, uncompared_free}
 use Rattle.usb_recorded_runs.proofs.RequestedLemmas.{Asks, HasRequest, InOrder, IsLong, IsOf, all_requests, plan_of, reset_orders, taken_orders}
 use Rattle.usb_recorded_runs.proofs.RunLemmas.{all_append}
+use Rattle.usb_recorded_runs.proofs.TransferLemmas.{free_by}
 
--- A host asks for at least eight bytes of a descriptor, and gives addresses at address 0.
+-- A host asks for at least eight bytes of a descriptor, gives addresses at address 0, and sends no request whose answers are compared.
 pub record IsAskedAt (address : ℕ) (q : Setup) : Type 0 where
   pub long : reads_descriptor q ≡ true → 8 ≤ q.length
   pub first : sets_address q ≡ true → address ≡ 0
+  pub other : is_compared_code q.request ≡ false
 
 abbrev pub recorded : Setup → Setup
 recorded q = setup_at (setup_bytes q) 0
@@ -48,15 +56,15 @@ PlanAsks Success = Unit {0}
 PlanAsks (GivesUp why) = Unit {0}
 
 plan_asks : (address : ℕ) (place : Place) → IsLong place → PlanAsks (asks address place)
-plan_asks address First long = record { long = λ read. omega arith; first = λ gives. false_true gives }
-plan_asks address (Address first) long = record { long = λ read. false_true read; first = λ gives. refl }
-plan_asks address (Device first) long = record { long = λ read. omega arith; first = λ gives. false_true gives }
-plan_asks address (Header kind f) long = record { long = λ read. omega arith; first = λ gives. false_true gives }
-plan_asks address (Set kind f total) long = record { long = λ read. omega (arith, long); first = λ gives. false_true gives }
-plan_asks address (Qualifier f) long = record { long = λ read. omega arith; first = λ gives. false_true gives }
-plan_asks address (Languages f named) long = record { long = λ read. omega arith; first = λ gives. false_true gives }
-plan_asks address (Text f s named) long = record { long = λ read. omega arith; first = λ gives. false_true gives }
-plan_asks address (Configure f) long = record { long = λ read. false_true read; first = λ gives. false_true gives }
+plan_asks address First long = record { long = λ read. omega arith; first = λ gives. false_true gives; other = refl }
+plan_asks address (Address first) long = record { long = λ read. false_true read; first = λ gives. refl; other = refl }
+plan_asks address (Device first) long = record { long = λ read. omega arith; first = λ gives. false_true gives; other = refl }
+plan_asks address (Header kind f) long = record { long = λ read. omega arith; first = λ gives. false_true gives; other = refl }
+plan_asks address (Set kind f total) long = record { long = λ read. omega (arith, long); first = λ gives. false_true gives; other = refl }
+plan_asks address (Qualifier f) long = record { long = λ read. omega arith; first = λ gives. false_true gives; other = refl }
+plan_asks address (Languages f named) long = record { long = λ read. omega arith; first = λ gives. false_true gives; other = refl }
+plan_asks address (Text f s named) long = record { long = λ read. omega arith; first = λ gives. false_true gives; other = refl }
+plan_asks address (Configure f) long = record { long = λ read. false_true read; first = λ gives. false_true gives; other = refl }
 plan_asks address (Reported f) long = tt
 plan_asks address (Stopped trouble) long = tt
 
@@ -161,3 +169,19 @@ module _ (f : DescriptorFile) (list : List Fate) where
       → AllByRecursion (HasRequest IsAskedAt) (transfers_in (received times 1 (exchanges f list earlier n)))
   run_requests times new earlier n last due run =
       all_requests IsAskedAt (received times 1 (exchanges f list earlier n)) (all_of times 1 (exchanges f list earlier n) (ordered_run new earlier n last due run).asked)
+
+-- ---- what is found in none
+
+-- what is found in no transfer with such a request
+free_of : (some : List Finding)
+    → ((earlier : List ControlTransfer) (t : ControlTransfer) → HasRequest IsAskedAt t → AllByRecursion (λ finding. is_found finding earlier t ≡ false) some)
+    → (ts : List ControlTransfer) → AllByRecursion (HasRequest IsAskedAt) ts → AllByRecursion (λ finding. IsTransferFreeAfter finding [] ts) some
+free_of [] free ts each = tt
+free_of (finding ∷ more) free ts each = (
+  free_by finding (HasRequest IsAskedAt) (λ t earlier is before. (free earlier t is).0) [] ts tt each,
+  free_of more (λ earlier t is. (free earlier t is).1) ts each,
+)
+
+pub none_answers_otherwise : (ts : List ControlTransfer) → AllByRecursion (HasRequest IsAskedAt) ts
+    → AllByRecursion (λ finding. IsTransferFreeAfter finding [] ts) found_otherwise
+none_answers_otherwise ts each = free_of found_otherwise (λ earlier t is. uncompared_free earlier t is.other) ts each

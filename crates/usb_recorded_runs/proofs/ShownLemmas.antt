@@ -41,6 +41,7 @@ use Rattle.usb_capture.specs.declared.finding.Finding.TheVariants.{GivesUncounte
 use Rattle.usb_capture.specs.Findings as findings
 use Rattle.usb_capture.specs.Findings.{all_are_known, asked_of, beside, brings_descriptor, configuration, configuration_count, differ, gives_address, holds, is_answered, is_configuration_value, is_no_value, is_stall, is_same, is_standard_type, is_uncounted, may_change, reads_configuration, reads_status, said, sets_configuration, tells_no_value}
 use Rattle.usb_capture.specs.Readings.{is_done, reads_descriptor}
+use Rattle.usb_capture.specs.TransferFindings.{is_found}
 use Rattle.usb_recorded_runs.specs.Answers.{IsAnswered, IsOfDevice, Shows, descriptor_of, never_found}
 use Rattle.usb_recorded_runs.specs.Findings.{IsTransferFreeAfter}
 use Rattle.usb_recorded_runs.proofs.AnswerLemmas.{any_reported, described_by}
@@ -50,7 +51,7 @@ use Rattle.usb_recorded_runs.proofs.TransferLemmas.{front_over, fronts_agree, no
 -- ---- what is shown
 
 -- A STALL is a refusal,
-stalls_refused : (o : Outcome) (t : ControlTransfer) → Shows o t → is_stall t.ending ≡ true → o ≡ Refused
+pub stalls_refused : (o : Outcome) (t : ControlTransfer) → Shows o t → is_stall t.ending ≡ true → o ≡ Refused
 stalls_refused (Bytes bytes) t shown e = absurd (let w : false ≡ true = sym (ap is_stall shown.0) ∙ e in let v : ⊥ = cc in v)
 stalls_refused (Done next) t shown e = absurd (let w : false ≡ true = sym (ap is_stall shown.0) ∙ e in let v : ⊥ = cc in v)
 stalls_refused Refused t shown e = refl
@@ -106,14 +107,14 @@ four_parts true true true true e = record { first = refl; second = refl; third =
 four_parts a b c d e = absurd (let w : ⊥ = cc in w)
 
 -- tests of bmRequestType, bRequest, wValue, wIndex and wLength of a request
-record RequestParts (type request value index size : Bool) : Type 0 where
-  of_type : type ≡ true
-  of_request : request ≡ true
-  of_value : value ≡ true
-  of_index : index ≡ true
-  of_size : size ≡ true
+pub record RequestParts (type request value index size : Bool) : Type 0 where
+  pub of_type : type ≡ true
+  pub of_request : request ≡ true
+  pub of_value : value ≡ true
+  pub of_index : index ≡ true
+  pub of_size : size ≡ true
 
-request_parts : (type request value index size : Bool) → ((type && request) && value && index && size) ≡ true → RequestParts type request value index size
+pub request_parts : (type request value index size : Bool) → ((type && request) && value && index && size) ≡ true → RequestParts type request value index size
 request_parts true true true true true e = record { of_type = refl; of_request = refl; of_value = refl; of_index = refl; of_size = refl }
 request_parts type request value index size e = absurd (let w : ⊥ = cc in w)
 
@@ -243,10 +244,10 @@ zero_value f value none = ap (λ b. b || list_any (has_value value) (map set_off
 
 module _ (f : DescriptorFile) (s : State) where
   -- a request with these fields
-  abbrev asked_so : ℕ → ℕ → ℕ → ℕ → ℕ → Setup
+  abbrev pub asked_so : ℕ → ℕ → ℕ → ℕ → ℕ → Setup
   asked_so type request value index size = record { request_type = type; request = request; value = value; index = index; length = size }
 
-  asks_so : (q : Setup) (type request index size : ℕ) → (q.request_type == type) ≡ true → (q.request == request) ≡ true → (q.index == index) ≡ true
+  pub asks_so : (q : Setup) (type request index size : ℕ) → (q.request_type == type) ≡ true → (q.request == request) ≡ true → (q.index == index) ≡ true
       → (q.length == size) ≡ true → q ≡ asked_so type request q.value index size
   asks_so q type request index size a b c d =
       let same_type : q.request_type ≡ type = eqb-true q.request_type type a in
@@ -260,7 +261,7 @@ module _ (f : DescriptorFile) (s : State) where
   taken_so false selected true o e d = refl
   taken_so has selected below o e d = absurd (let w : ⊥ = cc in w)
 
-  address_taken : (value : ℕ) → has_address s ≡ false → nat_lt value 128 ≡ true → answer f s (asked_so 0 5 value 0 0) ≡ Done (record s { address = value })
+  pub address_taken : (value : ℕ) → has_address s ≡ false → nat_lt value 128 ≡ true → answer f s (asked_so 0 5 value 0 0) ≡ Done (record s { address = value })
   unfolding answer answer_of
   address_taken value none below = taken_so (has_address s) (not (s.selected == 0)) (nat_lt value 128) (Done (record s { address = value })) none below
 
@@ -693,7 +694,7 @@ no_answer f requests known t table right bytes is =
 -- ---- conversations
 
 -- What such transfers say of a descriptor are its first bytes.
-said_before : (f : DescriptorFile) (asked : Asked) (earlier : List ControlTransfer) → AllByRecursion (IsOfDevice f) earlier
+pub said_before : (f : DescriptorFile) (asked : Asked) (earlier : List ControlTransfer) → AllByRecursion (IsOfDevice f) earlier
     → IsFront (said asked earlier) (descriptor_of f asked)
 said_before f asked [] each = (descriptor_of f asked, refl)
 said_before f asked (t ∷ earlier) each = of (may_change t asked) (findings.gives t && is_same (asked_of t) asked) refl (said_before f asked earlier each.1)
@@ -711,7 +712,7 @@ said_before f asked (t ∷ earlier) each = of (may_change t asked) (findings.giv
 
 -- what is found in none, where this holds of each, and of those before it
 free_by : (finding : Finding) (P : ControlTransfer → Type 0)
-    → ((t : ControlTransfer) (earlier : List ControlTransfer) → P t → AllByRecursion P earlier → holds finding (λ asked. said asked earlier) t ≡ false)
+    → ((t : ControlTransfer) (earlier : List ControlTransfer) → P t → AllByRecursion P earlier → is_found finding earlier t ≡ false)
     → (earlier ts : List ControlTransfer) → AllByRecursion P earlier → AllByRecursion P ts → IsTransferFreeAfter finding earlier ts
 free_by finding P free earlier [] before each = tt
 free_by finding P free earlier (t ∷ ts) before each = (free t earlier each.0 before, free_by finding P free (t ∷ earlier) ts (each.0, before) each.1)
@@ -727,7 +728,7 @@ module _ (f : DescriptorFile) (table : IsTable (answer f)) (right : has_wrong_se
   -- each of these findings, where each transfer has none of them
   each_free : (some : List Finding)
       → ((t : ControlTransfer) (earlier : List ControlTransfer) → IsOfDevice f t → AllByRecursion (IsOfDevice f) earlier
-      → AllByRecursion (λ finding. holds finding (λ asked. said asked earlier) t ≡ false) some)
+      → AllByRecursion (λ finding. is_found finding earlier t ≡ false) some)
       → (ts : List ControlTransfer) → AllByRecursion (IsOfDevice f) ts → AllByRecursion (λ finding. IsTransferFreeAfter finding [] ts) some
   each_free [] free ts each = tt
   each_free (finding ∷ more) free ts each = (

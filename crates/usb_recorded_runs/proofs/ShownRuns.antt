@@ -23,6 +23,7 @@ use Rattle.usb_capture.specs.declared.finding.Finding.TheVariants.{GivesUncounte
 use Rattle.usb_capture.specs.BusTransfers.{transfers_in}
 use Rattle.usb_capture.specs.Findings.{asked_of, brings_descriptor, differ, gives, holds, is_standard_type, is_uncounted, reads_configuration, said}
 use Rattle.usb_capture.specs.Readings.{is_done, reads_descriptor}
+use Rattle.usb_capture.specs.TransferFindings.{is_found}
 use Rattle.usb_recorded_runs.specs.Answers.{IsOfDevice, Shows, never_found}
 use Rattle.usb_recorded_runs.specs.Exchanges.{exchanges, received}
 use Rattle.usb_recorded_runs.specs.Findings.{IsTransferFreeAfter}
@@ -129,7 +130,7 @@ module _ (law : NoDeviceAnswersSo) (f : DescriptorFile) (speed : Speed) (accepte
   abbrev Free : List Finding → Type 0
   Free findings =
       (t : ControlTransfer) (earlier : List ControlTransfer) → IsShown f t → AllByRecursion (IsSound size (described_by f)) earlier
-      → AllByRecursion (λ finding. holds finding (λ asked. said asked earlier) t ≡ false) findings
+      → AllByRecursion (λ finding. is_found finding earlier t ≡ false) findings
 
   free_after : (finding : Finding) (more : List Finding) → Free (finding ∷ more) → (earlier ts : List ControlTransfer)
       → AllByRecursion (IsSound size (described_by f)) earlier → AllByRecursion (IsSound size (described_by f)) ts → AllByRecursion (IsShown f) ts

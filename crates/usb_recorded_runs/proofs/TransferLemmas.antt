@@ -26,6 +26,7 @@ use Rattle.usb_capture.specs.declared.finding.Finding.{Finding}
 use Rattle.usb_capture.specs.declared.finding.Finding.TheVariants.{MoreThanAsked, OtherBytes, OtherType, RefusesStatus}
 use Rattle.usb_capture.specs.Findings.{asked_of, brings_descriptor, differ, gives, has_other_type, holds, is_answered, is_same, is_stall, is_standard_type, may_change, reads_status, said}
 use Rattle.usb_capture.specs.Readings.{is_done, reads_descriptor}
+use Rattle.usb_capture.specs.TransferFindings.{is_found}
 use Rattle.usb_recorded_runs.specs.Findings.{IsTransferFreeAfter}
 use Rattle.usb_recorded_runs.proofs.AnswerLemmas.{described_by}
 use Rattle.usb_recorded_runs.proofs.SizeLemmas.{IsFront, IsSound}
@@ -41,7 +42,7 @@ no_status true true device other = absurd (let e : true ≡ false = other refl i
 
 -- what is found in none, where this holds of each, and of those before it
 pub free_by : (finding : Finding) (P : ControlTransfer → Type 0)
-    → ((t : ControlTransfer) (earlier : List ControlTransfer) → P t → AllByRecursion P earlier → holds finding (λ asked. said asked earlier) t ≡ false)
+    → ((t : ControlTransfer) (earlier : List ControlTransfer) → P t → AllByRecursion P earlier → is_found finding earlier t ≡ false)
     → (earlier ts : List ControlTransfer) → AllByRecursion P earlier → AllByRecursion P ts → IsTransferFreeAfter finding earlier ts
 free_by finding P free earlier [] before each = tt
 free_by finding P free earlier (t ∷ ts) before each = (free t earlier each.0 before, free_by finding P free (t ∷ earlier) ts (each.0, before) each.1)

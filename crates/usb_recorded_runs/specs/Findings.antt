@@ -11,9 +11,9 @@ use Rattle.usb_capture.specs.declared.ending.Ending.TheVariants.{Done, Stall}
 use Rattle.usb_capture.specs.declared.finding.Finding.{Finding}
 use Rattle.usb_capture.specs.declared.packet_finding.PacketFinding.{PacketFinding}
 use Rattle.usb_capture.specs.declared.transaction.Transaction.{Transaction}
-use Rattle.usb_capture.specs.Findings.{holds, said}
 use Rattle.usb_capture.specs.PacketFindings.{is_found}
 use Rattle.usb_capture.specs.Readings.{reads_descriptor}
+use Rattle.usb_capture.specs.TransferFindings as transfer_findings
 use Rattle.usb_recorded_runs.specs.Exchanges.{Exchange}
 
 -- this is found in none of these transactions, each of which comes after those before it
@@ -28,7 +28,7 @@ LosesHandshake x = (x.fate ≡ LostUp) ⊎ ((x.fate ≡ LostAck) ⊎ (x.sent.add
 -- this is found in none of these transfers, each of which comes after those before it, of which the last is the first in the list
 abbrev pub IsTransferFreeAfter : Finding → List ControlTransfer → List ControlTransfer → Type 0
 IsTransferFreeAfter finding earlier [] = Unit {0}
-IsTransferFreeAfter finding earlier (t ∷ ts) = (holds finding (λ asked. said asked earlier) t ≡ false) × IsTransferFreeAfter finding (t ∷ earlier) ts
+IsTransferFreeAfter finding earlier (t ∷ ts) = (transfer_findings.is_found finding earlier t ≡ false) × IsTransferFreeAfter finding (t ∷ earlier) ts
 
 -- the descriptor that a request is for, of a device with these: by its type and index in wValue and a string's language in wIndex, or
 -- none (9.4.3)

@@ -37,7 +37,7 @@ use Rattle.usb_capture.specs.PacketFindings.{damage_in, is_found}
 use Rattle.usb_capture.specs.PacketSizes.{is_long, size_at}
 use Rattle.usb_capture.specs.Reading.{IsRead}
 use Rattle.usb_capture.specs.Recordings.{transactions_in}
-use Rattle.usb_recorded_runs.specs.Answers.{IsAnswered, IsOfDevice, never_found}
+use Rattle.usb_recorded_runs.specs.Answers.{IsAnswered, IsConversation, IsOfDevice, found_otherwise, never_found}
 use Rattle.usb_recorded_runs.specs.Captures.{AreOfFrames, Moment, capture_of, frames, times}
 use Rattle.usb_recorded_runs.specs.Exchanges.{exchanges, received, packets_in, transaction_of}
 use Rattle.usb_recorded_runs.specs.Files.{GivesDump, GivesFile, IsOfDescription, at_address}
@@ -224,6 +224,13 @@ NoConversationContradicts =
     (f : DescriptorFile) (speed : Speed) (transfers : List ControlTransfer) → Accepted f speed → AreBytes (file_bytes f) →
     AllByRecursion (IsOfDevice f) transfers → AllByRecursion (λ finding. IsTransferFreeAfter finding [] transfers) never_found
 
+-- In a whole conversation on a bus that loses nothing no answer differs from that of a device with the descriptors that were said, in the
+-- state to which the transfers before have led.
+abbrev pub NoConversationAnswersOtherwise : Type 0
+NoConversationAnswersOtherwise =
+    (f : DescriptorFile) (speed : Speed) (bus : ℕ) (transfers : List ControlTransfer) → Accepted f speed → AreBytes (file_bytes f) →
+    IsConversation f bus zero transfers → AllByRecursion (λ finding. IsTransferFreeAfter finding [] transfers) found_otherwise
+
 -- Each control transfer of a recorded enumeration shows the device's answer to its request, in a state to which some requests since a
 -- bus reset lead, unless its end wasn't seen.
 abbrev pub TransfersShowAnswers : Type 0
@@ -238,6 +245,14 @@ NoAnswerContradicts =
     (f : DescriptorFile) (fates : List Fate) (limits : LimitView) (speed : Speed) (choice : Choice) (earlier : List Pair) (n : ℕ) (last : Pair)
     (times : ℕ → Option ℕ) → Accepted f speed → AreBytes (file_bytes f) → IsRun f fates (chosen_pair limits speed choice) earlier n last →
     AllByRecursion (λ finding. IsTransferFreeAfter finding [] (transfers_in (received times 1 (exchanges f fates earlier n)))) never_found
+
+-- Nor is one of the findings that compare an answer with that of a device with the descriptors that were said: a host that enumerates
+-- asks for descriptors, an address and a configuration alone.
+abbrev pub NoEnumerationAnswersOtherwise : Type 0
+NoEnumerationAnswersOtherwise =
+    (f : DescriptorFile) (fates : List Fate) (limits : LimitView) (speed : Speed) (choice : Choice) (earlier : List Pair) (n : ℕ) (last : Pair)
+    (times : ℕ → Option ℕ) → IsRun f fates (chosen_pair limits speed choice) earlier n last →
+    AllByRecursion (λ finding. IsTransferFreeAfter finding [] (transfers_in (received times 1 (exchanges f fates earlier n)))) found_otherwise
 
 -- A file that is made of what is kept of a device is that of its description, and so is a dump, of a device with accepted
 -- descriptors, whose numbers are within their widths.

@@ -1,5 +1,5 @@
 //! The functions of these laws do nothing: their contracts are the laws.
-ghost use Rattle.usb_recorded_runs.specs.Laws.{CapturedRunsAreRead, DescriptorsHaveLengths, DescriptorsHaveTypes, EnumerationsAreRuns, FilesAreDescriptions, HandshakesAreLost, NoAnswerContradicts, NoConversationContradicts, NoCountedDescriptorIsRefused, NoDescriptorChanges, NoDeviceAnswersSo, NoGivenDescriptorIsRefused, NoLongPacketIsFound, NoNamedStringIsRefused, NoPacketIsDamaged, NoPacketIsLong, NoRequiredDescriptorIsRefused, NoShortPacketLacks, NoStatusGoesWrong, NoToggleIsWrong, NoTransferHasMore, RecordedRunsAreRead, RunsOfBytesAreRuns, SetupsAreTaken, SuccessesGiveDumps, SuccessesGiveFiles, TransfersEndRight, TransfersShowAnswers};
+ghost use Rattle.usb_recorded_runs.specs.Laws.{CapturedRunsAreRead, DescriptorsHaveLengths, DescriptorsHaveTypes, EnumerationsAreRuns, FilesAreDescriptions, HandshakesAreLost, NoAnswerContradicts, NoConversationAnswersOtherwise, NoConversationContradicts, NoCountedDescriptorIsRefused, NoDescriptorChanges, NoDeviceAnswersSo, NoEnumerationAnswersOtherwise, NoGivenDescriptorIsRefused, NoLongPacketIsFound, NoNamedStringIsRefused, NoPacketIsDamaged, NoPacketIsLong, NoRequiredDescriptorIsRefused, NoShortPacketLacks, NoStatusGoesWrong, NoToggleIsWrong, NoTransferHasMore, RecordedRunsAreRead, RunsOfBytesAreRuns, SetupsAreTaken, SuccessesGiveDumps, SuccessesGiveFiles, TransfersEndRight, TransfersShowAnswers};
 
 use usb_bus::laws::{a_device_keeps_its_table, an_enumeration_ends_well};
 
@@ -164,6 +164,14 @@ pub fn no_conversation_contradicts()
     a_device_keeps_its_table();
 }
 
+/// Four more are in no conversation with a device on a bus that loses nothing, also where it is reset meanwhile: `OtherValue`,
+/// `OtherStatus`, `OtherFeature` and `OtherSetting`. What is known of its state by its transfers is its state.
+pub fn no_conversation_answers_otherwise()
+    ensures { NoConversationAnswersOtherwise }
+{
+    a_device_keeps_its_table();
+}
+
 /// Each transfer of a recorded enumeration whose end is seen shows the device's answer: with STALL a request that the device refuses in its
 /// state, and no bytes; as done one that it carries out, without data; and else all bytes of its answer.
 pub fn each_transfer_shows_an_answer()
@@ -179,6 +187,11 @@ pub fn no_answer_contradicts()
     a_device_keeps_its_table();
     no_device_answers_so();
 }
+
+/// Nor are `OtherValue`, `OtherStatus`, `OtherFeature` and `OtherSetting`, whose requests an enumerating host doesn't send.
+pub fn no_enumeration_answers_otherwise()
+    ensures { NoEnumerationAnswersOtherwise }
+{}
 
 /// Where the enumeration has succeeded there is such a file, with all that the description has.
 pub fn an_enumeration_gives_its_file()
