@@ -1,8 +1,7 @@
 -- Answers to requests, as the code holds them.
-use Rattle.std.specs.Prelude.{ℕ, List, [], ◌∷◌}
+use Rattle.std.specs.Prelude.{[], ◌∷◌}
 use Rattle.usb_device.specs.Offers.{Offer}
-use Rattle.usb_device.specs.Requests.{Outcome, Bytes, Done, Refused, answer_to}
-use Rattle.usb_capture.specs.declared.asked.Asked.{Asked}
+use Rattle.usb_device.specs.Requests.{Outcome, Bytes, Done, Refused}
 use Rattle.usb_capture.specs.declared.expected.Expected.{Expected}
 use Rattle.usb_capture.specs.declared.expected.Expected.TheVariants as expected
 use Rattle.usb_capture.specs.declared.request.Request.{Request}

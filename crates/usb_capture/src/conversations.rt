@@ -1,5 +1,5 @@
 //! What devices said of themselves, and what their next answers show.
-ghost use Rattle.std.specs.Prelude.{◌≡◌, ◌+◌, ◌∷◌, [], List, IfOk, OnOk, filter, find};
+ghost use Rattle.std.specs.Prelude.{◌≡◌, ◌≤◌, ◌+◌, ◌∷◌, [], List, IfOk, OnErr, OnOk, filter, find, vec_capacity, vec_len};
 ghost use Rattle.std.specs.List.{list_any, range_with_len};
 ghost use Rattle.std.specs.Option.{option_copied};
 ghost use Rattle.usb_capture.specs.declared.control_transfer.ControlTransfer.{ControlTransfer};
@@ -214,15 +214,17 @@ impl Conversations {
     fn take_answer(&mut self, transfer: &ControlTransfer) -> Result<(), AllocError>
         ensures held { OnOk result (self.new.held.items ≡ held_after transfer.now self.old.held.items) }
         ensures states { OnOk result (self.new.states ≡ self.old.states) }
+        ensures err { OnErr result (self.new.held.items ≡ self.old.held.items) }
     {
         if !adds(transfer) {
             self.forget_changed(transfer);
             return Ok(());
         }
         let said = self.said_now(transfer)?;
+        self.held.reserve(1)?;
         self.forget_changed(transfer);
         self.forget(said.asked);
-        self.held.push(said)?;
+        self.held.push_reserved(said);
         Ok(())
     }
 
@@ -242,6 +244,8 @@ impl Conversations {
     /// Forgets what may have changed by a transfer.
     fn forget_changed(&mut self, transfer: &ControlTransfer)
         ensures held { self.new.held.items ≡ still_held transfer.now self.old.held.items }
+        ensures bound { vec_len self.new.held ≤ vec_len self.old.held }
+        ensures capacity { vec_capacity self.new.held ≡ vec_capacity self.old.held }
         ensures states { self.new.states ≡ self.old.states }
     {
         self.held.retain(|one| !may_change(transfer, one.asked));
@@ -250,6 +254,8 @@ impl Conversations {
     /// Forgets a descriptor.
     fn forget(&mut self, asked: Asked)
         ensures held { self.new.held.items ≡ without asked self.old.held.items }
+        ensures bound { vec_len self.new.held ≤ vec_len self.old.held }
+        ensures capacity { vec_capacity self.new.held ≡ vec_capacity self.old.held }
         ensures states { self.new.states ≡ self.old.states }
     {
         self.held.retain(|one| !one.asked.is_same(asked));

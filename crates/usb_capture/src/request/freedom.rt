@@ -25,6 +25,7 @@ impl<'r> Request<'r> {
         self.by_code() && self.setup.length == 0 && self.setup.class() == Class::Standard
     }
 
+<<<<<<< ours
     /// Remote wakeup, where one configuration has it and another doesn't (9.6.3).
     fn may_wake(&self) -> bool
         ensures { result ≡ may_wake (offered self.now) self.now.setup }
@@ -49,6 +50,9 @@ impl<'r> Request<'r> {
             )
     }
 
+=======
+    /// Whether that is so of a request of this code.
+>>>>>>> theirs
     fn by_code(&self) -> bool
         ensures { result ≡ by_code (offered self.now) self.now.state.now self.now.setup }
     {
@@ -85,12 +89,14 @@ impl<'r> Request<'r> {
                 || (self.is_configured() && self.names_isochronous()))
     }
 
+    /// Whether the recipient is an endpoint.
     fn is_to_endpoint(&self) -> bool
         ensures { result ≡ is_endpoint (recipient_of self.now.setup.request_type) }
     {
         matches!(self.setup.recipient(), Recipient::Endpoint)
     }
 
+    /// Whether wIndex is an isochronous endpoint of a setting that is chosen in the selected configuration.
     fn names_isochronous(&self) -> bool
         ensures { result ≡ names_isochronous (offered self.now) self.now.state.now self.now.setup.index }
     {
