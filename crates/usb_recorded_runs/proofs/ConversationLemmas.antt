@@ -6,7 +6,7 @@ use Rattle.std.proofs.lemmas.Bool.{and_from, and_parts, and_right, eq-eqb, eqb-t
 use Rattle.usb_fields.specs.declared.setup.Setup.{Setup}
 use Rattle.usb_file_data.specs.declared.file.DescriptorFile.{DescriptorFile}
 use Rattle.usb_device.specs.declared.state.State.{State}
-use Rattle.usb_device.specs.Freedoms.{is_either_to, is_standard}
+use Rattle.usb_device.specs.Freedoms.{is_standard}
 use Rattle.usb_device.specs.Offers.{offer_of}
 use Rattle.usb_device.specs.Requests.{Outcome, Bytes, Done, Refused, Takes, answer, answer_to}
 use Rattle.usb_device.specs.States as states
@@ -19,7 +19,7 @@ use Rattle.usb_capture.specs.declared.asked.Asked.{Asked}
 use Rattle.usb_capture.specs.declared.control_transfer.ControlTransfer.{ControlTransfer}
 use Rattle.usb_capture.specs.declared.finding.Finding.{Finding}
 use Rattle.usb_capture.specs.declared.finding.Finding.TheVariants.{OtherFeature, OtherSetting, OtherStatus, OtherValue}
-use Rattle.usb_capture.specs.DeviceStates.{answers_otherwise, are_all_said, are_like, asks_for_status, changes_feature, changes_state, differs_by, differs_in, is_compared, is_like, is_of_setting, offer_said, shows, state_at, state_by, state_known, takes_address, with_change}
+use Rattle.usb_capture.specs.DeviceStates.{answers_otherwise, are_all_said, are_like, asks_for_status, changes_feature, changes_state, differs_by, differs_in, is_compared, is_either, is_like, is_of_setting, offer_said, shows, state_at, state_by, state_known, takes_address, with_change}
 use Rattle.usb_capture.specs.Findings.{asked_of, gives_address, is_stall, may_change, reads_configuration, resets_port, said, sets_address, sets_descriptor}
 use Rattle.usb_capture.specs.Readings.{is_done}
 use Rattle.usb_capture.specs.TransferFindings.{is_found}
@@ -339,7 +339,7 @@ module _ (f : DescriptorFile) (table : IsTable (answer f)) (sets : OffersSaid f)
           → (all && differs_by (offer_said known (asked_of t)) s t) ≡ false
       differs e false all = refl
       differs e true all =
-          and_right ((is_done t.ending || is_stall t.ending) && not (is_either_to (offer_said known (asked_of t)) s t.setup))
+          and_right ((is_done t.ending || is_stall t.ending) && not (is_either (offer_said known (asked_of t)) s t.setup))
           (not (shows (answer_to (offer_said known (asked_of t)) s t.setup) t))
           (ap (λ o. not (shows o t)) (offered t.setup (reads_none t.setup e) all) ∙ ap not (shown e))
 

@@ -19,13 +19,13 @@ impl<'r> Request<'r> {
         self.is_either_to() || self.may_wake() || self.may_halt_control()
     }
 
+    /// Whether a device under test may.
     fn is_either_to(&self) -> bool
         ensures { result ≡ is_either_to (offered self.now) self.now.state.now self.now.setup }
     {
         self.by_code() && self.setup.length == 0 && self.setup.class() == Class::Standard
     }
 
-<<<<<<< ours
     /// Remote wakeup, where one configuration has it and another doesn't (9.6.3).
     fn may_wake(&self) -> bool
         ensures { result ≡ may_wake (offered self.now) self.now.setup }
@@ -50,9 +50,7 @@ impl<'r> Request<'r> {
             )
     }
 
-=======
     /// Whether that is so of a request of this code.
->>>>>>> theirs
     fn by_code(&self) -> bool
         ensures { result ≡ by_code (offered self.now) self.now.state.now self.now.setup }
     {
