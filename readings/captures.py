@@ -191,9 +191,9 @@ def monitored(order, letter, device, setup, status, data, length=None):
     return head + (setup or bytes(8)) + bytes(16) + data
 
 
-def of_windows(stage, device, back, status, data):
+def of_windows(stage, device, back, status, data, number=0x1000):
     """USBPcap's header of a control transfer, 28 bytes, of bus 2."""
-    return struct.pack("<HQIHBHHBBIB", 28, 0x1000 + device, status, 8, back, 2, device, 0x80, 2, len(data), stage) + data
+    return struct.pack("<HQIHBHHBBIB", 28, number + device, status, 8, back, 2, device, 0x80, 2, len(data), stage) + data
 
 
 def links():

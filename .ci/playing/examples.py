@@ -127,7 +127,7 @@ def file_in(data, recording, device):
 
 
 def capture(name):
-    """A recording, by `explain` too, with each option, and cut: a short one at each byte."""
+    """A recording, by `explain` too, with each option, and cut: a short one at each byte. Of a cut text the file of its first device is made."""
     data = bytes_of(name)
     recording = recorded.Recording(data)
     status = recorded.status_of(recording)
@@ -136,11 +136,14 @@ def capture(name):
     yield Run(["capture", "--data"], data, status, bytes_of(name, ".bytes"))
     yield told_in(data, ["--brief"], with_data=False, brief=True)
     yield told_in(data, ["--from", "0.001", "--to", "93.5"], with_data=False, times=(10**6, 935 * 10**8))
-    for device in [*filter(None, recording.findings()), (9, 9)]:
+    devices = [*filter(None, recording.findings()), (9, 9)]
+    for device in devices:
         yield told_in(data, ["--device", "{}.{}".format(*device)], with_data=False, device=device)
         yield file_in(data, recording, device)
     for length in range(0, len(data), 1 if len(data) < 500 else len(data) // 40):
         yield told_in(data[:length], [], with_data=False)
+        if name.endswith(".text"):
+            yield file_in(data[:length], recorded.Recording(data[:length]), devices[0])
 
 
 KINDS = {"set": set_, "file": file, "dump": dump, "listing": listing, "commented": listing, "broken": listing, "output": output, "capture": capture}
