@@ -205,10 +205,27 @@ def frames_of(data):
     return "text", frames_of_text(data)
 
 
+# A line of usbmon's text: time, type, bus, device, endpoint, a status or a letter and the five words of a setup packet, and the rest.
+LINE = re.compile(rb"[0-9a-f]{4,16} (\d+) [SCE] ([ZICB])[io]:(\d+):(\d+):(\d+) (?:-?\d\S*|(?:s|[^-\ds ])((?: \S+){5})) ([^\n]*)\n")
+
+
 def begins(data):
     """Whether bytes begin as a recording does: with the first four of a format, or a line of usbmon's text."""
-    line = re.match(rb"[0-9a-f]{4,16} \d+ [SCE] [ZICB][io]:\d+:\d+:\d+ [^\n]+\n", data[:512])
-    return data[:4] in (*PCAP, PCAPNG) or line is not None
+    line = LINE.match(data[:512])
+    return data[:4] in (*PCAP, PCAPNG) or (line is not None and fits(*line.groups()))
+
+
+def fits(time, kind, bus, device, endpoint, setup, rest):
+    """Whether the parts of a line have room in struct usbmon_packet, and its data are there."""
+    words, most = (setup or b"").split(), (2**8, 2**8, 2**16, 2**16, 2**16)
+    if int(time) >= 2**32 or int(bus) >= 2**16 or int(device) >= 2**8 or int(endpoint) >= 2**4:
+        return False
+    if not all(re.fullmatch(b"[0-9a-f]+", it) and int(it, 16) < room for it, room in zip(words, most)):
+        return False
+    data = re.match(rb"(\d+)(?: (=) ?(.*)| \S|$)", rest)
+    if kind == b"Z" or data is None or not data[2]:
+        return kind == b"Z" or data is not None
+    return all(re.match(b"[0-9a-f]{2}", data[3][9 * (at // 4) + 2 * (at % 4) :]) for at in range(min(int(data[1]), 32)))
 
 
 def event_of(link, order, data):
