@@ -1,20 +1,15 @@
 //! Files whose bytes are typed from the format's document, each in two pieces, cut at every byte.
-mod device_file;
-mod findings;
 mod pcapng;
-mod readings;
 mod text;
-mod transactions;
-mod transfers;
 
 use std::alloc::Global;
 use usb_capture::{
-    ByteOrder, CaptureFault, CaptureReader, Event, EventFault, EventKind, Frame, MOST_BYTES,
-    PacketFault, packet_of,
+    BusTransactions, ByteOrder, CaptureFault, CaptureReader, Event, EventFault, EventKind, Frame,
+    MOST_BYTES, PacketFault, RecordedPacket, packet_of,
 };
 use usb_fields::{Sequence, Setup, after, prefix};
 use usb_set::TransferType;
-use usb_wire::{Damage, Handshake, Packet};
+use usb_wire::{AddressFields, Packet, TokenKind};
 
 /// Two records of link type 220: one of three bytes, and an earlier one, of which the file has no byte.
 const LITTLE: &[u8] = &[
@@ -31,7 +26,7 @@ const BIG: &[u8] = &[
 ];
 
 /// Feeds a piece until it is used up. The frames that are whole now go to the end.
-pub(crate) fn feed_all(
+fn feed_all(
     reader: &mut CaptureReader,
     piece: &[u8],
     frames: &mut Vec<Frame>,
@@ -99,39 +94,6 @@ fn reads_two_records_in_either_order(rt: HostRuntime) {
 }
 
 #[test]
-fn tells_what_a_cut_file_has(rt: HostRuntime) {
-    // Where each part ends, and how many frames are whole there.
-    let ends = [(24, 0), (43, 1), (59, 2)];
-    let mut start = 0;
-    let mut whole = 0;
-    for (end, frames_there) in ends {
-        for length in start..end {
-            let read = read_cut(rt.alloc(), prefix(LITTLE, length), 5);
-            let (frames, pending) = read.expect(&rt, "a capture");
-            assert_eq!(rt; frames.len(), whole);
-            assert_eq!(rt; pending, (length - start) as u64);
-        }
-        start = end;
-        whole = frames_there;
-    }
-}
-
-#[test]
-fn refuses_what_is_no_capture(rt: HostRuntime) {
-    let files: [&[u8]; 3] = [
-        &[0xd4, 0xc3, 0xb2, 0xa2],
-        &[0x0a, 0x0d, 0x0d, 0x0b, 0x1c, 0, 0, 0],
-        &[18, 1, 0, 2, 0],
-    ];
-    for bytes in files {
-        for cut in 0..=bytes.len() {
-            let read = read_cut(rt.alloc(), bytes, cut);
-            assert!(rt; matches!(&read, Err(CaptureFault::Magic)));
-        }
-    }
-}
-
-#[test]
 fn passes_over_the_end_of_a_long_record(rt: HostRuntime) {
     let alloc = rt.alloc();
     let mut reader = CaptureReader::new(alloc);
@@ -180,7 +142,7 @@ const GET_DESCRIPTOR: Setup = Setup {
 };
 
 /// A frame with these bytes.
-pub(crate) fn frame_with(
+fn frame_with(
     alloc: Global,
     link: u16,
     order: ByteOrder,
@@ -235,48 +197,45 @@ fn reads_a_setup_stage_of_usbpcap(rt: HostRuntime) {
 }
 
 #[test]
-fn refuses_frames_cut_in_their_header(rt: HostRuntime) {
-    let frames = [
-        (220, 64, SUBMISSION),
-        (189, 48, COMPLETION),
-        (249, 28, SETUP_STAGE),
-    ];
-    for (link, header, bytes) in frames {
-        for length in 0..header {
-            let short = frame_with(rt.alloc(), link, ByteOrder::Little, prefix(bytes, length));
-            let frame = short.expect(&rt, "memory");
-            assert!(rt; matches!(Event::of_frame(&frame), Err(EventFault::Short)));
-        }
-    }
-    let other = frame_with(rt.alloc(), 1, ByteOrder::Little, SUBMISSION).expect(&rt, "memory");
+fn says_why_a_frame_tells_nothing(rt: HostRuntime) {
+    let (alloc, order) = (rt.alloc(), ByteOrder::Little);
+    let short = frame_with(alloc, 220, order, prefix(SUBMISSION, 63)).expect(&rt, "memory");
+    assert!(rt; matches!(Event::of_frame(&short), Err(EventFault::Short)));
+    assert!(rt; matches!(packet_of(&short), Err(PacketFault::Link)));
+    let other = frame_with(alloc, 1, order, SUBMISSION).expect(&rt, "memory");
     assert!(rt; matches!(Event::of_frame(&other), Err(EventFault::Link)));
+    let mut cut = frame_with(alloc, 288, order, &[0xd2]).expect(&rt, "memory");
+    cut.original = 1;
+    assert!(rt; matches!(packet_of(&cut), Err(PacketFault::Cut)));
 }
 
-/// Whether a frame is an ACK.
-fn is_ack(frame: &Frame) -> bool {
-    matches!(packet_of(frame), Ok(Packet::Handshake(Handshake::Ack)))
-}
-
-/// Why a frame is no packet, if it is none.
-fn packet_fault_of(frame: &Frame) -> Option<PacketFault> {
-    match packet_of(frame) {
-        Ok(_) => None,
-        Err(fault) => Some(fault),
-    }
+/// A token to an endpoint of device 5.
+fn token(kind: TokenKind, endpoint: u8) -> Packet<'static> {
+    let address = 5;
+    Packet::Token(kind, AddressFields { address, endpoint })
 }
 
 #[test]
-fn reads_packets_of_the_bus(rt: HostRuntime) {
-    let order = ByteOrder::Little;
-    for link in [288, 293, 294, 295] {
-        let whole = frame_with(rt.alloc(), link, order, &[0xd2]).expect(&rt, "memory");
-        assert!(rt; is_ack(&whole));
-        let damaged = frame_with(rt.alloc(), link, order, &[0xd3]).expect(&rt, "memory");
-        assert!(rt; packet_fault_of(&damaged) == Some(PacketFault::Damaged(Damage::Pid)));
-        let mut cut = frame_with(rt.alloc(), link, order, &[0xd2]).expect(&rt, "memory");
-        cut.original = 1;
-        assert!(rt; packet_fault_of(&cut) == Some(PacketFault::Cut));
+fn counts_tokens_to_other_endpoints(rt: HostRuntime) {
+    let packets = [
+        token(TokenKind::In, 1),
+        Packet::Split(0),
+        token(TokenKind::Out, 0),
+        token(TokenKind::In, 0),
+    ];
+    let mut bus = BusTransactions::new(rt.alloc());
+    let mut number = 0;
+    for packet in packets {
+        let recorded = RecordedPacket {
+            number,
+            time: Some(number),
+            packet: Ok(packet),
+        };
+        assert!(rt; bus.take(&recorded).expect(&rt, "memory").is_none());
+        number = number.saturating_add(1);
     }
-    let other = frame_with(rt.alloc(), 220, order, &[0xd2]).expect(&rt, "memory");
-    assert!(rt; packet_fault_of(&other) == Some(PacketFault::Link));
+    assert_eq!(rt; bus.others(), 1);
+    let last = bus.finish().expect(&rt, "a transaction");
+    assert!(rt; (last.number, last.time, last.to.address, last.to.endpoint) == (3, Some(3), 5, 0));
+    assert!(rt; last.data.is_none() && last.handshake.is_none());
 }

@@ -1,7 +1,6 @@
 //! Files of pcapng whose bytes are typed from the format's document, fed in two pieces, cut at every byte.
-use crate::captures::{feed_all, read_cut};
-use usb_capture::{CaptureFault, CaptureReader, Clock, Frame};
-use usb_fields::{after, prefix};
+use crate::captures::read_cut;
+use usb_capture::{Clock, Frame};
 
 /// A little-endian section: two interfaces, the second of them with `if_tsresol` 2^-10 and `if_tsoffset` -1; a packet of
 /// each type, and a block of an unknown one. Then a big-endian section with an interface and a packet.
@@ -23,20 +22,6 @@ const SECTIONS: &[u8] = &[
     0, 0, 0, 1, 0, 0, 0, 20, 1, 32, 0, 0, 0, 0, 0, 0, 0, 0, 0, 20, //
     0, 0, 0, 6, 0, 0, 0, 36, 0, 0, 0, 0, 0, 0, 0, 0, 0, 0, 0, 5, 0, 0, 0, 1, 0, 0, 0, 1, //
     0xd2, 0, 0, 0, 0, 0, 0, 36,
-];
-
-/// Where the blocks of the file end, and how many frames there are then.
-const ENDS: [(usize, usize); 10] = [
-    (28, 0),
-    (48, 0),
-    (96, 0),
-    (132, 1),
-    (144, 1),
-    (164, 2),
-    (196, 3),
-    (224, 3),
-    (244, 3),
-    (280, 4),
 ];
 
 /// Whether a frame has this time, this link type, these lengths and these bytes.
@@ -68,59 +53,6 @@ fn reads_two_sections(rt: HostRuntime) {
         let (frames, pending) = read.expect(&rt, "a capture");
         assert_eq!(rt; pending, 0);
         assert!(rt; are_those(&frames));
-    }
-}
-
-#[test]
-fn tells_which_blocks_a_cut_file_has(rt: HostRuntime) {
-    let mut start = 0;
-    let mut whole = 0;
-    for (end, frames_there) in ENDS {
-        for length in start..end {
-            let read = read_cut(rt.alloc(), prefix(SECTIONS, length), 13);
-            let (frames, pending) = read.expect(&rt, "a capture");
-            assert_eq!(rt; frames.len(), whole);
-            assert_eq!(rt; pending, (length - start) as u64);
-        }
-        start = end;
-        whole = frames_there;
-    }
-}
-
-/// The fault of the sections with another byte at a place, and where its block begins.
-fn fault_with(rt: &HostRuntime, at: usize, byte: u8) -> (Option<CaptureFault>, u64) {
-    let mut reader = CaptureReader::new(rt.alloc());
-    let mut frames = Vec::new(rt.alloc());
-    let first = feed_all(&mut reader, prefix(SECTIONS, at), &mut frames);
-    let second = feed_all(&mut reader, &[byte], &mut frames);
-    let third = feed_all(
-        &mut reader,
-        after(SECTIONS, at.saturating_add(1)),
-        &mut frames,
-    );
-    (first.and(second).and(third).err(), reader.place())
-}
-
-#[test]
-fn names_the_first_fault_and_its_place(rt: HostRuntime) {
-    let faults = [
-        (0, 0x0b, CaptureFault::Magic, 0),
-        (11, 0x1b, CaptureFault::Order, 0),
-        (4, 29, CaptureFault::Length, 0),
-        (4, 8, CaptureFault::Length, 0),
-        (4, 32, CaptureFault::Trailer, 0),
-        (24, 27, CaptureFault::Trailer, 0),
-        (12, 2, CaptureFault::Version, 0),
-        (66, 2, CaptureFault::Options, 48),
-        (74, 4, CaptureFault::Options, 48),
-        (84, 5, CaptureFault::Options, 48),
-        (104, 2, CaptureFault::Interface, 96),
-        (116, 5, CaptureFault::Data, 96),
-        (172, 2, CaptureFault::Interface, 164),
-        (276, 1, CaptureFault::Trailer, 244),
-    ];
-    for (at, byte, fault, place) in faults {
-        assert!(rt; fault_with(&rt, at, byte) == (Some(fault), place));
     }
 }
 

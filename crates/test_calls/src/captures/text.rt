@@ -1,7 +1,7 @@
 //! Text of usbmon: the examples of the kernel's document, fed in two pieces, cut at every byte.
-use crate::captures::{feed_all, read_cut};
-use usb_capture::{CaptureFault, CaptureReader, Event, EventKind, Frame};
-use usb_fields::{Setup, prefix};
+use crate::captures::read_cut;
+use usb_capture::{Event, EventKind, Frame};
+use usb_fields::Setup;
 use usb_set::TransferType;
 
 /// A port's status is read, and a command of 31 bytes is sent.
@@ -91,15 +91,6 @@ fn reads_lines(rt: HostRuntime) {
 }
 
 #[test]
-fn tells_that_a_line_is_cut(rt: HostRuntime) {
-    for length in 1..60 {
-        let read = read_cut(rt.alloc(), prefix(LINES, length), 1);
-        let (frames, pending) = read.expect(&rt, "a capture");
-        assert_eq!(rt; (frames.len(), pending), (0, length as u64));
-    }
-}
-
-#[test]
 fn tells_that_data_are_cut(rt: HostRuntime) {
     let line: &[u8] =
         b"ffff88003a0b1c00 7 C Ii:2:127:15 0:8 64 = 00010203 04050607 08090a0b 0c0d0e0f 10111213 14151617 18191a1b 1c1d1e1f\n";
@@ -113,48 +104,4 @@ fn tells_that_data_are_cut(rt: HostRuntime) {
         assert!(rt; event.transfer == TransferType::Interrupt);
         assert!(rt; event.data.len() == 32 && event.data.last() == Some(&0x1f));
     }
-}
-
-#[test]
-fn passes_over_isochronous_data(rt: HostRuntime) {
-    let lines: &[u8] = b"ffff88003a0b1c00 7 S Zi:1:003:1 -115:1:0 2 -18:0:192 -18:192:192 384 <
-ffff88003a0b1c00 9 C Zi:1:003:1 0:1:5:0 2 0:0:192 0:192:192 384 = 00000000
-";
-    let (frames, pending) = read_cut(rt.alloc(), lines, 9).expect(&rt, "a capture");
-    assert_eq!(rt; (frames.len(), pending), (2, 0));
-}
-
-/// The fault of this text, and where its line begins.
-fn fault_of(rt: &HostRuntime, text: &[u8]) -> (Option<CaptureFault>, u64) {
-    let mut reader = CaptureReader::new(rt.alloc());
-    let mut frames = Vec::new(rt.alloc());
-    let read = feed_all(&mut reader, text, &mut frames);
-    (read.err(), reader.place())
-}
-
-#[test]
-fn refuses_other_lines(rt: HostRuntime) {
-    let lines: [&[u8]; 14] = [
-        b"d5ea89a0\n",
-        b"d5ea89a0 4294967296 S Ci:1:001:0 s a3 00 0000 0003 0004 4 <\n",
-        b"d5ea89a0  7 S Ci:1:001:0 s a3 00 0000 0003 0004 4 <\n",
-        b"d5ea89a0 7 X Ci:1:001:0 s a3 00 0000 0003 0004 4 <\n",
-        b"d5ea89a0 7 S Ci:001:00 s a3 00 0000 0003 0004 4 <\n",
-        b"d5ea89a0 7 S Ca:1:001:0 s a3 00 0000 0003 0004 4 <\n",
-        b"d5ea89a0 7 S Ci:1:256:0 s a3 00 0000 0003 0004 4 <\n",
-        b"d5ea89a0 7 S Ci:1:001:16 s a3 00 0000 0003 0004 4 <\n",
-        b"d5ea89a0 7 S Ci:1:001:0 s 1a3 00 0000 0003 0004 4 <\n",
-        b"d5ea89a0 7 S Ci:1:001:0 s A3 00 0000 0003 0004 4 <\n",
-        b"d5ea89a0 7 C Ci:1:001:0 - 4 = 01050000\n",
-        b"d5ea89a0 7 C Ci:1:001:0 0 = 01050000\n",
-        b"d5ea89a0 7 C Ci:1:001:0 0 5 = 01050000\n",
-        b"d5ea89a0 7 C Ci:1:001:0 0 4 = 0105 0000\n",
-    ];
-    for line in lines {
-        assert!(rt; fault_of(&rt, line) == (Some(CaptureFault::Line), 0));
-    }
-    assert!(rt; fault_of(&rt, &[b'0'; 512]) == (Some(CaptureFault::Line), 0));
-    assert!(rt; fault_of(&rt, &[b'0'; 511]) == (None, 0));
-    let later: &[u8] = b"1a2b 7 C Ci:1:001:0 0 0\nd5ea89a0\n";
-    assert!(rt; fault_of(&rt, later) == (Some(CaptureFault::Line), 24));
 }
