@@ -86,9 +86,10 @@ def other_values():
     return [
         tells(7, descriptor(2, 2, 9), third), tells(7, WHOLE, TWO), tells(7, descriptor(2, 0, 6), "090219000101"), done(7, configure(3)),
         tells(7, descriptor(2, 1, 5), "0902190001"), tells(7, VALUE, "03"), tells(7, descriptor(2, 1, 6), "090219000102"), done(7, configure(3), "C11"),
-        done(7, configure(0)), done(7, configure(0x103)), done(7, request(0, 9, 3, 1)), done(7, configure(2)), tells(7, VALUE, "02"), tells(7, VALUE, "00"),
-        tells(7, descriptor(2, 2, 33), third + "00" * 23, count=33), tells(7, descriptor(2, 2, 9), third, "C13"), tells(7, request(0x80, 6, 0x202, 1, 9), third),
-        tells(7, descriptor(2, 1, 9), "090219000102008032"), tells(8, VALUE, "03"), tells(7, VALUE, "03", "C12"),
+        done(7, configure(0)), done(7, configure(0x103)), done(7, request(0, 9, 3, 1)), done(7, configure(2)), tells(7, VALUE, "02"),
+        tells(7, VALUE, "00"), tells(7, descriptor(2, 2, 33), third + "00" * 23, count=33), tells(7, descriptor(2, 2, 9), third, "C13"),
+        tells(7, request(0x80, 6, 0x202, 1, 9), third), tells(7, descriptor(2, 1, 9), "090219000102008032"), tells(8, VALUE, "03"),
+        tells(7, VALUE, "03", "C12"),
     ]
 
 
@@ -124,7 +125,7 @@ def other_settings():
 
 # A device that names string 2, its configuration, its language list and that string; and the configuration of another device at its address.
 NAMES_2 = NAMED[:28] + "00020001"
-SET = "090212000101008032 0904000000ff000000"
+SET = "0902120001010080320904000000ff000000"
 LANGUAGES, STRING = "04030904", "04034200"
 
 
@@ -147,10 +148,10 @@ def changing_device():
     ]
 
 
-OTHER = "120100020000004084044057000200000001" + "090212000101008033 0904000000ff000000"
+OTHER = "120100020000004084044057000200000001" + "0902120001010080330904000000ff000000"
 DUMP = NAMES_2 + SET
-# What `--file 1.5` makes of whole_readings, and of changing_device after so many lines.
-OF_READINGS = DUMP + LANGUAGES + STRING
+# What `--file 1.5` makes of whole_readings, what is told of the other device there, and what is made of changing_device after so many lines.
+OF_READINGS, OF_OTHER = DUMP + LANGUAGES + STRING, "device 1.6   no device descriptor came, configuration of 9 bytes"
 OF_LINES = ["device descriptor"] * 2 + ["configuration 0"] * 2 + [DUMP] * 6 + [OF_READINGS] * 2 + ["configuration 0"] * 2 + [OTHER] * 2 + ["device descriptor"]
 
 
@@ -220,7 +221,7 @@ def links_of_packets():
 IN, OUT, SETS = (token(name, 5) for name in ("In", "Out", "Setup"))
 NYET, SPLIT, PING = packets.written("Nyet", []), packets.written("Split", [0]), token("Ping", 5)
 MOUSE = bytes.fromhex("120100020000000827060100000001020301")
-DAMAGED = packets.changed(sent("Data0", bytes(8)), [9])
+CUT, DAMAGED = b"", packets.changed(sent("Data0", bytes(8)), [9])
 
 
 def data0(data=b""):
@@ -233,12 +234,14 @@ def data1(data=b""):
 
 # In the following a row has the packets of a transaction, and what is to be found in it: at its token, or at a damaged packet.
 def ends_of_transactions():
-    """A transaction is over where another packet comes. PRE, and a frame of another link type (None), belong to none; a token after SPLIT, or to
-    another endpoint, begins none. The last one isn't over."""
+    """A transaction is over where another packet comes, also one without its bytes. PRE, and a frame of another link type (None), belong to
+    none; a token after SPLIT, or to another endpoint, begins none. The last one isn't over."""
     return [
-        ([ACK], ""), ([SETS, data0(SETUP), ACK], ""), ([IN, NAK], ""), ([IN, data1(b"\1\2"), FRAME], "NoHandshake"), ([token("In", 5, 1), data0(b"\3"), ACK], ""),
+        ([ACK], ""), ([SETS, data0(SETUP), ACK], ""), ([IN, NAK], ""), ([IN, data1(b"\1\2"), FRAME], "NoHandshake"),
+        ([token("In", 5, 1), data0(b"\3"), ACK], ""),
         ([SPLIT, OUT, data1(b"\4"), NAK], ""), ([OUT, DAMAGED, ACK], "NoHandshake Crc16"), ([PING, data1(b"\5"), PRE], "NoHandshake"),
-        ([OUT, PRE, data1(), None, STALL], ""), ([SPLIT, OUT, data1(b"\4"), FRAME], ""), ([token("In", 5, 1), data0(b"\3"), FRAME], ""), ([IN], ""),
+        ([OUT, PRE, data1(), None, STALL], ""), ([SPLIT, OUT, data1(b"\4"), FRAME], ""), ([token("In", 5, 1), data0(b"\3"), FRAME], ""),
+        ([IN, CUT, ACK], "NoHandshake"), ([IN], ""),
     ], ["0.000220 STALL 0102 C5"]
 
 
@@ -280,8 +283,8 @@ def forbidden():
         # SET_ADDRESS: at address 5 is another device, whose size isn't known.
         ([setup, data0(bytes.fromhex(address(5))), ACK], ""), ([token("In", 0), data1(), ACK], ""), (request_, ""), ([IN, data1(MOUSE[:9]), ACK], ""),
     ], [
-        "0.000000 no end", f"0.000330 18 {MOUSE.hex()}", f"0.000360 no end {MOUSE[:9].hex()}", f"0.000530 16 {MOUSE[:16].hex()} C2", f"0.000650 8 {first.hex()}",
-        "0.000710 done", f"0.000740 no end {MOUSE[:9].hex()}",
+        "0.000000 no end", f"0.000330 18 {MOUSE.hex()}", f"0.000360 no end {MOUSE[:9].hex()}", f"0.000530 16 {MOUSE[:16].hex()} C2",
+        f"0.000650 8 {first.hex()}", "0.000710 done", f"0.000740 no end {MOUSE[:9].hex()}",
     ]
 
 
@@ -291,8 +294,8 @@ def wrong_ways():
     string, at_0, to_0 = [SETS, data0(bytes.fromhex(STRING_2)), ACK], token("In", 0), token("Setup", 0)
     return [
         # SET_CONFIGURATION: a status stage to the device that it refuses, one with the other toggle, and one that it takes.
-        ([SETS, data0(bytes.fromhex(configure(1))), ACK], ""), ([OUT, data1(), NAK], ""), ([OUT, data0(), ACK], "Toggle"), ([OUT, data1(), ACK], "StatusDirection"),
-        ([IN, data1(), ACK], ""),
+        ([SETS, data0(bytes.fromhex(configure(1))), ACK], ""), ([OUT, data1(), NAK], ""), ([OUT, data0(), ACK], "Toggle"),
+        ([OUT, data1(), ACK], "StatusDirection"), ([IN, data1(), ACK], ""),
         # SET_LINE_CODING: all bytes come again, since their ACK was lost, and once more. Then comes one more packet.
         ([SETS, data0(bytes.fromhex("2120000000000300")), ACK], ""), ([OUT, data1(b"\1\2\3"), FRAME], "NoHandshake"), ([OUT, data1(b"\1\2\3"), ACK], ""),
         ([OUT, data1(b"\1\2\3"), ACK], "Toggle"), ([OUT, data0(), ACK], "StatusDirection"), ([IN, data1(), ACK], ""),
@@ -317,8 +320,8 @@ def of_transactions(rows):
         at = len(bodies) + 1
         found += [f"{at + (group.index(DAMAGED) if name == 'Crc16' else 0)} {name}" for name in names.split()]
         bodies += group
-    frames = [enhanced("<", int(it is None), 10 * place, len(it or ACK), it or ACK) for place, it in enumerate(bodies)]
-    return section("<") + interface("<", 288) + interface("<", 220) + b"".join(frames), found
+    frames = [(int(it is None), 10 * place, ACK if it is None else it) for place, it in enumerate(bodies)]
+    return b"".join([section("<"), interface("<", 288), interface("<", 220), *(enhanced("<", *it, max(len(body), 1), body) for *it, body in frames)]), found
 
 
 # Where each part of a file ends, from its beginning, and how many frames there are then.
@@ -372,6 +375,7 @@ def of_frames(name, data, told, last="", found=()):
 
 
 def of_packets(name, rows, told):
+    """A recording of transactions, if the second reading finds in it what they have."""
     data, found = of_transactions(rows)
     recording = recorded.Recording(data)
     hold(name, packets_of(recording), found)
@@ -391,6 +395,7 @@ def hold_ends(name, data):
 
 
 def file_of(data):
+    """The file of device 5, or what lacks of it."""
     made = recorded.file_of(recorded.Recording(data).over, (1, 5))
     return made if isinstance(made, str) else made.hex()
 
@@ -402,10 +407,9 @@ def main():
     files["document.text"] = DOCUMENT
     for name in ENDS:
         hold_ends(name, files.get(name) or captures.FILES[name][0])
-    hold("whole-readings", file_of(files["whole-readings.text"]), OF_READINGS.replace(" ", ""))
-    hold("whole-readings", [it for it in recorded.said(files["whole-readings.text"]) if it.startswith("device 1.6")], ["device 1.6   no device descriptor came, configuration of 9 bytes"])
-    lines = files["changing-device.text"].splitlines(keepends=True)
-    hold("changing-device", [file_of(b"".join(lines[:count])) for count in range(len(lines) + 1)], [it.replace(" ", "") if it[0] in "01" else it for it in OF_LINES])
+    readings, device = files["whole-readings.text"], files["changing-device.text"].splitlines(keepends=True)
+    hold("whole-readings", [file_of(readings), [it for it in recorded.said(readings) if it.startswith("device 1.6")]], [OF_READINGS, [OF_OTHER]])
+    hold("changing-device", [file_of(b"".join(device[:count])) for count in range(len(device) + 1)], OF_LINES)
     for name, data in files.items():
         with open(os.path.join(FOLDER, name), "wb") as out:
             out.write(data)
