@@ -191,7 +191,7 @@ def cut_value():
     for device, setup, status, data, count, _ in rows:
         frames += [monitored("<", "S", device, bytes.fromhex(setup), -115, b"", count), monitored("<", "C", device, None, status, data)]
     records = [(9, place, len(it) + (place + 1 == len(frames)), it) for place, it in enumerate(frames)]
-    return captures.pcap("<", 0xA1B2C3D4, 220, records), [f"18 {TWO}", "6 090219000101", "6 090219000102", "1 03 C12", "1, cut 03"]
+    return captures.pcap("<", 0xA1B2C3D4, 220, records), [f"1.7 18 {TWO}", "1.7 6 090219000101", "1.7 6 090219000102", "1.7 1 03 C12", "1.7 1, cut 03"]
 
 
 def stages():
@@ -201,12 +201,12 @@ def stages():
         of_windows(3, 5, 1, 0, bytes.fromhex("1201"), 0x2000), of_windows(0, 5, 0, 0, SETUP), of_windows(2, 5, 1, 0xC0000004, b""),
     ]
     # The descriptor has 18 bytes, so that neither is all of it; and it is there.
-    return captures.captured("<", 249, frames)[0], ["4 12010002 C2", "2 1201 C2", "STALL C4"]
+    return captures.captured("<", 249, frames)[0], ["2.5 4 12010002 C2", "2.5 2 1201 C2", "2.5 STALL C4"]
 
 
-def short_headers(link, header, frame):
+def short_headers(link, header, frame, device="1.5"):
     """A frame that is cut at each byte of its header, which tells nothing, and a whole one."""
-    return captures.captured("<", link, [*(frame[:length] for length in range(header)), frame])[0], ["no end"], f"no transfer: {header} frames"
+    return captures.captured("<", link, [*(frame[:length] for length in range(header)), frame])[0], [f"{device} no end"], f"no transfer: {header} frames"
 
 
 def links_of_packets():
@@ -215,7 +215,8 @@ def links_of_packets():
     described = section("<") + b"".join(interface("<", link) for link in (288, 293, 294, 295, 220))
     bodies = [(number, body) for number in range(4) for body in (token("Setup", 5 + number), sent("Data0", SETUP), ACK, b"\xd3", ACK)]
     frames = [enhanced("<", number, place, len(it) + (place % 5 == 4), it) for place, (number, it) in enumerate([*bodies, (4, ACK)])]
-    return described + b"".join(frames), ["no end"] * 4, "no transfer: 9 frames", [f"{frame} Pid" for frame in (4, 9, 14, 19)]
+    told = [f"0.{device} no end" for device in (5, 6, 7, 8)]
+    return described + b"".join(frames), told, "no transfer: 9 frames", [f"{frame} Pid" for frame in (4, 9, 14, 19)]
 
 
 IN, OUT, SETS = (token(name, 5) for name in ("In", "Out", "Setup"))
@@ -242,7 +243,7 @@ def ends_of_transactions():
         ([SPLIT, OUT, data1(b"\4"), NAK], ""), ([OUT, DAMAGED, ACK], "NoHandshake Crc16"), ([PING, data1(b"\5"), PRE], "NoHandshake"),
         ([OUT, PRE, data1(), None, STALL], ""), ([SPLIT, OUT, data1(b"\4"), FRAME], ""), ([token("In", 5, 1), data0(b"\3"), FRAME], ""),
         ([IN, CUT, ACK], "NoHandshake"), ([IN], ""),
-    ], ["0.000220 STALL 0102 C5"]
+    ], ["0.000220 0.5 STALL 0102 C5"]
 
 
 def toggles():
@@ -251,7 +252,7 @@ def toggles():
     return [
         ([SETS, data0(SETUP), ACK], ""), ([IN, data0(b"\xaa"), ACK], "Toggle"), ([IN, data1(first), ACK], ""), ([IN, data1(first), ACK], "Toggle"),
         ([IN, data0(second)], "NoHandshake"), ([IN, data0(second), ACK], ""), ([IN, data1(last), ACK], ""), ([OUT, data1(), ACK], ""),
-    ], [f"0.000200 18 {MOUSE.hex()}"]
+    ], [f"0.000200 0.5 18 {MOUSE.hex()}"]
 
 
 def statuses():
@@ -262,7 +263,7 @@ def statuses():
         ([SETS, data0(bytes.fromhex(configure(1))), ACK], ""), ([IN, NAK], ""), ([IN, data1(), ACK], ""), ([SETS, data0(coding), ACK], ""),
         ([OUT, data1(b"\1\2"), NAK], ""), ([OUT, data1(b"\1\2"), ACK], ""), ([OUT, data0(b"\3"), NYET], ""), ([IN, data1(), ACK], ""),
         (request_, ""), (request_, ""), ([IN, STALL], ""), (request_, ""),
-    ], ["0.000050 done", "0.000200 3 010203", "0.000230 no end", "0.000290 STALL C5", "0.000310 no end"]
+    ], ["0.000050 0.5 done", "0.000200 0.5 3 010203", "0.000230 0.5 no end", "0.000290 0.5 STALL C5", "0.000310 0.5 no end"]
 
 
 def forbidden():
@@ -283,8 +284,8 @@ def forbidden():
         # SET_ADDRESS: at address 5 is another device, whose size isn't known.
         ([setup, data0(bytes.fromhex(address(5))), ACK], ""), ([token("In", 0), data1(), ACK], ""), (request_, ""), ([IN, data1(MOUSE[:9]), ACK], ""),
     ], [
-        "0.000000 no end", f"0.000330 18 {MOUSE.hex()}", f"0.000360 no end {MOUSE[:9].hex()}", f"0.000530 16 {MOUSE[:16].hex()} C2",
-        f"0.000650 8 {first.hex()}", "0.000710 done", f"0.000740 no end {MOUSE[:9].hex()}",
+        "0.000000 0.5 no end", f"0.000330 0.5 18 {MOUSE.hex()}", f"0.000360 0.5 no end {MOUSE[:9].hex()}", f"0.000530 0.5 16 {MOUSE[:16].hex()} C2",
+        f"0.000650 0.5 8 {first.hex()}", "0.000710 0.0 done", f"0.000740 0.5 no end {MOUSE[:9].hex()}",
     ]
 
 
@@ -308,13 +309,13 @@ def wrong_ways():
         # At address 0 no size is known.
         ([to_0, data0(bytes.fromhex(descriptor(1, length=64))), ACK], ""), ([at_0, data1(MOUSE[:2]), ACK], ""), ([at_0, data0(MOUSE[2:4]), ACK], ""),
     ], [
-        "0.000120 done", "0.000300 3 010203", f"0.000510 18 {MOUSE.hex()}", f"0.000660 10 {MOUSE[:10].hex()} C1", f"0.000780 STALL {first.hex()}",
-        "0.000800 no end 12010002",
+        "0.000120 0.5 done", "0.000300 0.5 3 010203", f"0.000510 0.5 18 {MOUSE.hex()}", f"0.000660 0.5 10 {MOUSE[:10].hex()} C1",
+        f"0.000780 0.5 STALL {first.hex()}", "0.000800 0.0 no end 12010002",
     ]
 
 
 def of_transactions(rows):
-    """The recording, what is told of its transfers, and what is to be found in it: the number of a frame, and a name."""
+    """The recording, and what is to be found in it: the number of a frame, and a name."""
     bodies, found = [], []
     for group, names in rows:
         at = len(bodies) + 1
@@ -347,17 +348,17 @@ FRAMES = {
     "cut-value.pcap": cut_value, "stages.pcap": stages, "links-of-packets.pcapng": links_of_packets,
     "headers-189.pcap": lambda: short_headers(189, 48, monitored("<", "S", 5, SETUP, -115, b"", 18)[:48]),
     "headers-220.pcap": lambda: short_headers(220, 64, monitored("<", "S", 5, SETUP, -115, b"", 18)),
-    "headers-249.pcap": lambda: short_headers(249, 28, of_windows(0, 5, 0, 0, SETUP)),
+    "headers-249.pcap": lambda: short_headers(249, 28, of_windows(0, 5, 0, 0, SETUP), "2.5"),
 }
 NAMES = {words: name for name, words in {**recorded.TRANSACTIONS, **recorded.DAMAGES}.items()}
 
 
 def transfers_of(recording, with_time=False):
-    """What is told of each transfer: its time, how it ended, its data, and what is found in it."""
+    """What is told of each transfer: its time, its device, how it ended, its data, and what is found in it."""
     for it in [*recording.order, *recording.open.values(), *recording.bus.open.values()]:
         if "words" not in it:
             line = next(recorded.lines_of(it, recording.times[0], False))
-            yield " ".join(filter(None, [line[:11].strip() * with_time, line[61:], it["data"].hex(), *it.get("found", [])]))
+            yield " ".join(filter(None, [line[:11].strip() * with_time, line[11:17].strip(), line[61:], it["data"].hex(), *it.get("found", [])]))
 
 
 def packets_of(recording):
