@@ -241,9 +241,9 @@ def ends_of_transactions():
         ([ACK], ""), ([SETS, data0(SETUP), ACK], ""), ([IN, NAK], ""), ([IN, data1(b"\1\2"), FRAME], "NoHandshake"),
         ([token("In", 5, 1), data0(b"\3"), ACK], ""),
         ([SPLIT, OUT, data1(b"\4"), NAK], ""), ([OUT, DAMAGED, ACK], "NoHandshake Crc16"), ([PING, data1(b"\5"), PRE], "NoHandshake"),
-        ([OUT, PRE, data1(), None, STALL], ""), ([SPLIT, OUT, data1(b"\4"), FRAME], ""), ([token("In", 5, 1), data0(b"\3"), FRAME], ""),
-        ([IN, CUT, ACK], "NoHandshake"), ([IN], ""),
-    ], ["0.000220 0.5 STALL 0102 C5"]
+        ([OUT, PRE, data1(), None, NAK], ""), ([OUT, data1(), STALL], ""), ([SPLIT, OUT, data1(b"\4"), FRAME], ""),
+        ([token("In", 5, 1), data0(b"\3"), FRAME], ""), ([IN, CUT, ACK], "NoHandshake"), ([IN], ""),
+    ], ["0.000270 0.5 STALL 0102 C5"]
 
 
 def toggles():
