@@ -80,6 +80,9 @@ OF_CALLS = re.compile(
 # What is smaller in some of the places where it is called.
 OF_FEW = re.compile(r'define internal [^@]*@"usb_device::(?:beside::is_open|sets::Settings::has_alternate)"\(.* (#\d+) \{\n')
 
+# On ARM what a device runs shares no code with what others run: a device alone would have to keep that, too.
+OF_DEVICES_ALONE = re.compile(r'define [^@]*@(?:"usb_device::|nzg_(?:device|transaction))')
+
 # How many functions each of these lists names in a module with a device's calls: one that lost its name is told by it.
 NAMED = {"OF_DEVICES": (OF_DEVICES, 20), "OF_CALLS": (OF_CALLS, 10), "OF_FEW": (OF_FEW, 2)}
 
@@ -233,6 +236,7 @@ class Lowering:
 
     def __init__(self, machine, guard=False, size=""):
         self.machine, self.guard, self.size = MACHINES[machine], guard, SIZES[size]
+        self.is_small_arm = machine.startswith("thumb") and self.size == SIZES["s"]
         self.names, self.gives_its_place, self.own = 0, False, set()
 
     def fresh(self):
@@ -374,7 +378,12 @@ class Lowering:
     # --- functions -------------------------------------------------------------------------------------------------------
 
     def definition(self, line):
-        """The first line of a function. An export is called as C calls it on this processor. On x86-64 the place of a struct comes
+        """The first line of a function. On ARM nothing is taken out of what a device runs."""
+        head = self.head(line)
+        return f'{head[:-2]}"nooutline" {{\n' if self.is_small_arm and OF_DEVICES_ALONE.match(head) else head
+
+    def head(self, line):
+        """The same, before that. An export is called as C calls it on this processor. On x86-64 the place of a struct comes
         back, and the bits over a byte that comes back are anybody's: elsewhere neither."""
         self.gives_its_place = False
         if REFUSED.search(re.sub(r'@"[^"]*"', "", line)):
