@@ -45,7 +45,7 @@ BOUNDS = {
     "remarks": (41_000, 50_000, 64_000),
     "texts": (206_000, 214_000, 260_000),
     "packets": (3_300, 3_650, 4_400),
-    "recordings": (54_000, 68_500, 81_000),
+    "recordings": (50_500, 61_000, 71_000),
     "all but recordings": (256_000, 275_000, 337_000),
 }
 # Of a device: all that a program keeps but the room that it lends, and each frame of the calls.
